@@ -1,0 +1,3 @@
+pub mod Earth
+pub mod StatusCode
+pub mod TagValue
