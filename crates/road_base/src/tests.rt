@@ -1,0 +1,105 @@
+//! What no clause says: that the calls succeed, and that the clauses say what was meant.
+
+use crate::{Ids, Kind, Member, Members, Node, Object, Point, Relation, Status, Tags, Text, Way};
+
+fn text(rt: &HostRuntime, characters: &str) -> Result<Text, std::alloc::AllocError> {
+    Text::copy_of(rt.alloc(), characters)
+}
+
+#[test]
+fn points_reach_as_far_as_the_earth(rt: HostRuntime) {
+    for (lon, lat, there) in [
+        (0, 0, true),
+        (180_000_000, 90_000_000, true),
+        (-180_000_000, -90_000_000, true),
+        (180_000_001, 0, false),
+        (-180_000_001, 0, false),
+        (0, 90_000_001, false),
+        (0, -90_000_001, false),
+    ] {
+        assert_eq!(rt; Point::of(lon, lat).is_some(), there, "at {lon} {lat}");
+    }
+    let point = Point::of(-1_000_001, 52_516_275).expect(&rt, "in range");
+    assert_eq!(rt; point.lon, -1_000_001);
+    assert_eq!(rt; point.lat, 52_516_275);
+}
+
+#[test]
+fn the_first_of_two_equal_keys_counts(rt: HostRuntime) -> Result<(), std::alloc::AllocError> {
+    let mut pairs = Vec::new(rt.alloc());
+    for (key, value) in [
+        ("name", "Main Street"),
+        ("highway", "residential"),
+        ("name", "B 96"),
+    ] {
+        pairs.push((text(&rt, key)?, text(&rt, value)?))?;
+    }
+    let tags = Tags::of(pairs);
+    assert_eq!(rt; tags.get("name"), Some("Main Street"));
+    assert_eq!(rt; tags.get("highway"), Some("residential"));
+    assert_eq!(rt; tags.get("Name"), None);
+    assert_eq!(rt; tags.get(""), None);
+    assert_eq!(rt; tags.as_slice().len(), 3);
+    assert_eq!(rt; tags.into_vec().len(), 3);
+    Ok(())
+}
+
+#[test]
+fn an_object_holds_what_it_was_made_of(rt: HostRuntime) -> Result<(), std::alloc::AllocError> {
+    let role = text(&rt, "via")?;
+    assert_eq!(rt; role.as_bytes(), b"via".as_slice());
+    let members = Members::of(vec![in rt.alloc();
+        Member {
+            kind: Kind::Node,
+            id: 5,
+            role
+        },
+    ]?);
+    assert_eq!(rt; members.as_slice().len(), 1);
+    let nodes = Ids::of(vec![in rt.alloc(); 7_i64, -8]?);
+    assert_eq!(rt; nodes.as_slice(), [7, -8].as_slice());
+    let objects = [
+        Object::Node(Node {
+            id: 5,
+            point: Point::of(1, 2),
+            tags: Tags::of(Vec::new(rt.alloc())),
+        }),
+        Object::Way(Way {
+            id: 10,
+            tags: Tags::of(Vec::new(rt.alloc())),
+            nodes,
+        }),
+        Object::Relation(Relation {
+            id: 1,
+            tags: Tags::of(Vec::new(rt.alloc())),
+            members,
+        }),
+    ];
+    for object in objects {
+        match object {
+            Object::Node(node) => assert_eq!(rt; node.point, Point::of(1, 2)),
+            Object::Way(way) => assert_eq!(rt; way.nodes.into_vec().len(), 2),
+            Object::Relation(relation) => {
+                for member in relation.members.into_vec() {
+                    assert_eq!(rt; member.kind, Kind::Node);
+                    assert_eq!(rt; Text::of(member.role.into_string()).as_str(), "via");
+                }
+            }
+        }
+    }
+    Ok(())
+}
+
+#[test]
+fn each_status_has_its_number(rt: HostRuntime) {
+    let all = [
+        Status::Ok,
+        Status::Outside,
+        Status::Words,
+        Status::Refused,
+        Status::Memory,
+    ];
+    for (number, status) in all.iter().enumerate() {
+        assert_eq!(rt; usize::from(status.exit_code()), number);
+    }
+}
