@@ -1,0 +1,6 @@
+pub mod Spaces
+pub mod Paths
+pub mod Queued
+pub mod Labelled
+pub mod Progress
+pub mod UnderWay

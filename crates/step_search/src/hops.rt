@@ -1,0 +1,58 @@
+//! The steps that a search goes by.
+
+ghost use Rattle.std.specs.Prelude.{◌≡◌, ℕ, ◌<◌, IfSome, Some};
+ghost use Rattle.std.specs.Bool.{OnTrue, OnFalse};
+ghost use Rattle.std.specs.List.{Contains};
+ghost use Rattle.step_search.specs.Spaces.{Space};
+
+/// A hop out of a vertex: to `head`, at `cost`, which has the cost of the head in it.
+#[derive(Clone, Copy, Drop)]
+pub struct Hop<C> {
+    pub head: u32,
+    pub cost: C,
+}
+
+/// The steps out of each vertex of a space.
+///
+/// There are two kinds: arcs, which have names of the caller's, and the places of a row, which are counted
+/// from 0. A space may have one kind alone.
+pub trait Steps<C> {
+    ghost space: { Self → Space C };
+
+    ghost ready: { Self → Type 0 };
+
+    /// Whether a path may begin at `v`.
+    fn may_begin(&self, v: u32) -> bool
+        requires ready { ready self.now }
+        requires vertex { v < (space self.now).vertices }
+        ensures yes { OnTrue result ((space self.now).May v) }
+        ensures no { OnFalse result (¬ (space self.now).May v) };
+
+    /// The names of the arcs out of `v`.
+    fn arcs(&self, v: u32) -> &[u32]
+        requires ready { ready self.now }
+        requires vertex { v < (space self.now).vertices }
+        ensures named { (i : ℕ) → Contains result.now i → (space self.now).Name v i }
+        ensures all { (i w : ℕ) (s : C) → (space self.now).Arc v i w s → Contains result.now i };
+
+    /// The hop out of `v` by its arc `i`, or none where that way is closed.
+    fn by_arc(&self, v: u32, i: u32) -> Option<Hop<C>>
+        requires ready { ready self.now }
+        requires vertex { v < (space self.now).vertices }
+        requires named { (space self.now).Name v i }
+        ensures some { IfSome result (λ h. (space self.now).Arc v i h.head h.cost) }
+        ensures all { (w : ℕ) (s : C) → (space self.now).Arc v i w s → result ≡ Some (record { head = w; cost = s }) };
+
+    /// How many places the row out of `v` has.
+    fn row(&self, v: u32) -> u32
+        requires ready { ready self.now }
+        requires vertex { v < (space self.now).vertices }
+        ensures { result ≡ (space self.now).row v };
+
+    /// The hop out of `v` by place `j` of its row, or none where that way is closed.
+    fn by_row(&self, v: u32, j: u32) -> Option<Hop<C>>
+        requires ready { ready self.now }
+        requires vertex { v < (space self.now).vertices }
+        ensures some { IfSome result (λ h. (space self.now).Row v j h.head h.cost) }
+        ensures all { (w : ℕ) (s : C) → (space self.now).Row v j w s → result ≡ Some (record { head = w; cost = s }) };
+}

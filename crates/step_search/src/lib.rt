@@ -1,0 +1,17 @@
+//! Dijkstra's search, proved once, over any steps: what leads out of a vertex is asked of a trait, `Steps`,
+//! so that plain graphs, the inside of a cell and an overlay share one search.
+//!
+//! A search goes from several starts, each with a cost of its own, and answers for each target a path of the
+//! least cost, and none exactly where there is none. It ends at a target as soon as the target is settled.
+//! Its work and its memory follow what it touches: nothing is made for each vertex of the space.
+//!
+//! `least` answers a list of targets at once. The parts of `Search` serve who wants to go target by target.
+#![tactic(auto)]
+
+mod dijkstra;
+mod hops;
+mod labels;
+mod queue;
+
+pub use dijkstra::{Reached, Search, least};
+pub use hops::{Hop, Steps};
