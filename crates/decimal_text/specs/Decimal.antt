@@ -1,0 +1,56 @@
+-- Decimals and their value in whole millionths. A decimal is an optional `-`, one or more digits, and
+-- optionally a point and one or more digits (OPL coordinates; the rounding is this project's rule).
+use Rattle.std.specs.Prelude.{◌≡◌, true, ℕ, ℤ, ◌+◌, Bool, ◌&&◌, ◌||◌, ◌==◌, List, ◌++◌, take, min, codes, slice_index, nat_le, is_none, position, Option, Some, None, if◌then◌else◌}
+use Rattle.std.specs.Char.{is_ascii_digit}
+use Rattle.std.specs.List.{before_first, after_first, list_all}
+use Rattle.std.specs.Str.Parse.{digits_value}
+use Rattle.decimal_text.specs.Numeral.{is_numeral, without_minus, signed_as}
+
+abbrev pub is_point : ℕ → Bool
+is_point b = b == 46
+
+-- what stands before the point, or all where there is no point
+abbrev pub before_point : List ℕ → List ℕ
+before_point text = before_first is_point text
+
+-- what stands after the point, nothing where there is no point
+abbrev pub after_point : List ℕ → List ℕ
+after_point text = after_first is_point text
+
+-- a numeral, or two numerals with a point between
+abbrev pub is_unsigned_decimal : List ℕ → Bool
+is_unsigned_decimal text =
+    is_numeral (before_point text) && (is_none (position is_point text) || is_numeral (after_point text))
+
+-- the digits of a value in millionths: those before the point and six after it, absent ones being 0
+abbrev pub kept_digits : List ℕ → List ℕ → List ℕ
+kept_digits whole fraction = whole ++ take 6 (fraction ++ codes "000000")
+
+-- one more millionth where the seventh digit after the point is 5 or more
+abbrev pub rounding : List ℕ → ℕ
+rounding fraction = if nat_le 53 (slice_index fraction 6) then 1 else 0
+
+-- how many millionths the digits before and after a point make; digits behind the seventh count for nothing
+abbrev pub millionths : List ℕ → List ℕ → ℕ
+millionths whole fraction = digits_value 10 (kept_digits whole fraction) + rounding fraction
+
+-- decimals of more than so many millionths either way are told as this many
+abbrev pub farthest : ℕ
+farthest = 1000000000000
+
+-- how far from zero a decimal without its sign is told, in whole millionths
+abbrev pub magnitude_of : List ℕ → ℕ
+magnitude_of text = min (millionths (before_point text) (after_point text)) farthest
+
+-- the decimal in whole millionths; None where the text is no decimal
+unfoldable pub microdegrees_of : List ℕ → Option ℤ
+microdegrees_of text =
+    if is_unsigned_decimal (without_minus text) then Some (signed_as text (magnitude_of (without_minus text))) else None
+
+-- the parts of a decimal without its sign: digits before and after its point
+pub record ArePartsOf (text whole fraction : List ℕ) : Type 0 where
+  pub decimal : is_unsigned_decimal text ≡ true
+  pub before : whole ≡ before_point text
+  pub after : fraction ≡ after_point text
+  pub whole_digits : list_all (λ b. is_ascii_digit b) whole ≡ true
+  pub fraction_digits : list_all (λ b. is_ascii_digit b) fraction ≡ true

@@ -1,0 +1,90 @@
+//! Decimals in whole millionths.
+
+ghost use Rattle.std.specs.Prelude.{◌≡◌, ◌++◌, take, codes, min, true, false, MatchOption, position};
+ghost use Rattle.std.specs.Char.{is_ascii_digit};
+ghost use Rattle.std.specs.List.{list_all};
+ghost use Rattle.decimal_text.specs.Decimal.{farthest, microdegrees_of, millionths, rounding, is_point, is_unsigned_decimal, ArePartsOf};
+
+use crate::numerals::{append_digits, is_numeral, past_minus, signed};
+
+/// The farthest value either way that is told: 1,000,000 degrees, far outside of the Earth's 180, so that
+/// a test for a range on Earth comes out as it would for the number itself.
+pub const FARTHEST: i64 = 1_000_000_000_000;
+
+const FARTHEST_MAGNITUDE: u64 = 1_000_000_000_000;
+
+// The six digits that are kept after the point, where none is written.
+const ABSENT_DIGITS: [u8; 6] = *b"000000";
+
+/// A decimal number of degrees in whole microdegrees: an optional `-`, one or more digits (leading zeros
+/// are allowed), and optionally a point and one or more digits. None exactly where the bytes are
+/// something else.
+///
+/// Six digits after the point are kept; a seventh of 5 or more adds one away from zero, and further ones
+/// are dropped. What is more than [`FARTHEST`] away from zero is told as that.
+#[tactic(auto, unfolding(crate::specs::Decimal::microdegrees_of))]
+pub fn microdegrees(bytes: &[u8]) -> Option<i64>
+    ensures { result ≡ microdegrees_of bytes.now }
+{
+    match parts(past_minus(bytes)) {
+        Some((whole, fraction)) => Some(signed(bytes, rounded(whole, fraction))),
+        None => None,
+    }
+}
+
+// The digits before and after the point of a decimal without a sign, or None where the bytes are none.
+fn parts(bytes: &[u8]) -> Option<(&[u8], &[u8])>
+    ensures { MatchOption result (is_unsigned_decimal bytes.now ≡ false) (λ found. ArePartsOf bytes.now found.0.now found.1.now) }
+{
+    match point_in(bytes) {
+        None => {
+            if is_numeral(bytes) {
+                Some((bytes, &[]))
+            } else {
+                None
+            }
+        }
+        Some(point) => {
+            let whole = &bytes[..point];
+            let fraction = &bytes[point + 1..];
+            if is_numeral(whole) && is_numeral(fraction) {
+                Some((whole, fraction))
+            } else {
+                None
+            }
+        }
+    }
+}
+
+// Where the first point stands.
+fn point_in(bytes: &[u8]) -> Option<usize>
+    ensures { result ≡ position is_point bytes.now }
+{
+    bytes.iter().position(|b| *b == b'.')
+}
+
+// The value of these digits before and after a point in whole millionths, rounded by the seventh digit
+// after the point, but the farthest where it is above that.
+fn rounded(whole: &[u8], fraction: &[u8]) -> u64
+    requires whole_digits { list_all (λ b. is_ascii_digit b) whole.now ≡ true }
+    requires fraction_digits { list_all (λ b. is_ascii_digit b) fraction.now ≡ true }
+    ensures { result ≡ min (millionths whole.now fraction.now) farthest }
+{
+    let (_, absent) = ABSENT_DIGITS.split_at(fraction.len().min(6));
+    let (present, _) = fraction.split_at(fraction.len().min(6));
+    let degrees = append_digits(0, whole, FARTHEST_MAGNITUDE);
+    let with_present = append_digits(degrees, present, FARTHEST_MAGNITUDE);
+    let kept = append_digits(with_present, absent, FARTHEST_MAGNITUDE);
+    (kept + seventh_rounding(fraction)).min(FARTHEST_MAGNITUDE)
+}
+
+// What the seventh digit after the point adds.
+fn seventh_rounding(fraction: &[u8]) -> u64
+    ensures { result ≡ rounding fraction.now }
+{
+    if fraction.len() > 6 && fraction[6] >= b'5' {
+        1
+    } else {
+        0
+    }
+}

@@ -1,0 +1,59 @@
+//! Digits and a minus sign.
+
+ghost use Rattle.std.specs.Prelude.{◌≡◌, ℕ, ◌+◌, ◌*◌, ◌≤◌, ◌<◌, ◌^◌, min, drop, length, true, IsTrue};
+ghost use Rattle.std.specs.Char.{is_ascii_digit};
+ghost use Rattle.std.specs.List.{list_all};
+ghost use Rattle.std.specs.Str.Parse.{digits_value_after, starts_with_minus};
+ghost use Rattle.decimal_text.specs.Numeral.{is_numeral, without_minus, signed_as};
+
+// Whether a text begins with a minus sign.
+pub(crate) fn has_minus(text: &[u8]) -> bool
+    ensures { result ≡ starts_with_minus text.now }
+{
+    matches!(text.first(), Some(b'-'))
+}
+
+// The text without its minus sign, if it has one.
+pub(crate) fn past_minus(text: &[u8]) -> &[u8]
+    ensures { result.now ≡ without_minus text.now }
+{
+    if has_minus(text) { &text[1..] } else { text }
+}
+
+// Whether these are one or more digits and nothing else.
+pub(crate) fn is_numeral(bytes: &[u8]) -> bool
+    ensures { result ≡ is_numeral bytes.now }
+{
+    !bytes.is_empty() && are_digits(bytes)
+}
+
+// Whether each of these bytes is a digit.
+fn are_digits(bytes: &[u8]) -> bool
+    ensures { result ≡ list_all (λ b. is_ascii_digit b) bytes.now }
+{
+    bytes.iter().all(|b| b.is_ascii_digit())
+}
+
+// The number that is written by the digits of `number` with these digits behind them, but `limit` where
+// it is above that.
+pub(crate) fn append_digits(number: u64, digits: &[u8], limit: u64) -> u64
+    requires are_digits { list_all (λ b. is_ascii_digit b) digits.now ≡ true }
+    requires within { number ≤ limit }
+    ensures { result ≡ min (digits_value_after 10 number digits.now) limit }
+{
+    let mut number = number;
+    for digit in digits {
+        let more = u64::from(*digit - b'0');
+        number = number.saturating_mul(10).saturating_add(more).min(limit);
+    }
+    number
+}
+
+// The number of this magnitude with the sign of the text.
+pub(crate) fn signed(text: &[u8], magnitude: u64) -> i64
+    requires { magnitude < 2 ^ 63 }
+    ensures { result ≡ signed_as text.now magnitude }
+{
+    let number = magnitude as i64;
+    if has_minus(text) { -number } else { number }
+}
