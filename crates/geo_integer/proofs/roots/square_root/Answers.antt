@@ -1,0 +1,6 @@
+use Rattle.geo_integer.proofs.RootLemmas.{IsRoot-same, IsRoot-root_of}
+use Rattle.geo_integer.proofs.roots.square_root.Goals as goal
+
+pub returns-clause-root : goal.returns-clause-root
+returns-clause-root c =
+    IsRoot-same c.args.n _ _ (c.isqrt.ensures.square_le, c.isqrt.ensures.next_square_gt) (IsRoot-root_of c.args.n)
