@@ -1,0 +1,13 @@
+-- What one more `put` makes of what was put so far.
+use Rattle.std.proofs.Common.{ℕ, List, ◌++◌, Option, take, drop, ◌∙◌, ap, sym, append_assoc}
+use Rattle.std.proofs.lemmas.List.{take-append-drop}
+use Rattle.std.specs.Io.KnownBytes.{Appends}
+use Rattle.road_io.specs.Told.{PutSoFar, appends_then}
+
+-- so many bytes of the rest were put as well
+pub put_more : (old mid new : Option (List ℕ)) (bytes rest : List ℕ) (count : ℕ) → PutSoFar old mid bytes rest → Appends mid new (take count rest) → PutSoFar old new bytes (drop count rest)
+put_more old mid new bytes rest count so_far put = record {
+  part = so_far.part ++ take count rest;
+  whole = so_far.whole ∙ ap (λ (xs : List ℕ). so_far.part ++ xs) (sym (take-append-drop count rest)) ∙ sym (append_assoc so_far.part (take count rest) (drop count rest));
+  put = appends_then old mid new so_far.part (take count rest) so_far.put put;
+}

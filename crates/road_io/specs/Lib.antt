@@ -1,0 +1,9 @@
+pub mod DoorOpening
+pub mod Doorway
+pub mod FailedNames
+pub mod Faults
+pub mod FileNamed
+pub mod MemoryStates
+pub mod NoDoors
+pub mod Sides
+pub mod Told

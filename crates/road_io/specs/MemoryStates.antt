@@ -1,0 +1,69 @@
+-- What contracts see of the forms in memory.
+use Rattle.std.specs.Prelude.{◌≡◌, ℕ, ◌+◌, ◌-◌, ◌^◌, ◌<◌, ◌⊎◌, min, List, [], length, Contains, Some}
+use Rattle.road_io.specs.Sides.{Opening}
+
+-- bytes that are given in pieces: all of them, and those that are left
+pub record ReaderState : Type 0 where
+  pub all : List ℕ
+  pub left : List ℕ
+
+-- a source: its bytes, the numbers of the calls that fail, the calls so far, the faults, the bytes taken
+pub record SourceState : Type 0 where
+  pub all : List ℕ
+  pub left : List ℕ
+  pub failing : List ℕ
+  pub calls : ℕ
+  pub faults : ℕ
+  pub taken : ℕ
+
+-- a source that has not been called
+abbrev pub new_source : List ℕ → List ℕ → SourceState
+new_source bytes failing = record { all = bytes; left = bytes; failing = failing; calls = 0; faults = 0; taken = 0 }
+
+-- a sink: the bytes put, the room for more, the numbers of the calls that fail, the calls so far, the
+-- faults
+pub record SinkState : Type 0 where
+  pub written : List ℕ
+  pub room : ℕ
+  pub failing : List ℕ
+  pub calls : ℕ
+  pub faults : ℕ
+
+-- a sink that has not been called
+abbrev pub new_sink : ℕ → List ℕ → SinkState
+new_sink room failing = record { written = []; room = room; failing = failing; calls = 0; faults = 0 }
+
+-- a connection: both of its halves
+pub record ConnState : Type 0 where
+  pub source : SourceState
+  pub sink : SinkState
+
+-- it was given with all of its source's bytes, and with no fault
+abbrev pub conn_opening : ConnState → Opening
+conn_opening conn = record { input = Some conn.source.all; source_faults = 0; sink_faults = 0 }
+
+-- files: each name with its bytes, the numbers of the reads that fail, the reads so far, the names of
+-- the failed ones, the faults
+pub record FilesState : Type 0 where
+  pub files : List (List ℕ × List ℕ)
+  pub failing : List ℕ
+  pub calls : ℕ
+  pub failed_names : List (List ℕ)
+  pub faults : ℕ
+
+-- files that have not been read
+abbrev pub new_files : List (List ℕ × List ℕ) → List ℕ → FilesState
+new_files files failing = record { files = files; failing = failing; calls = 0; failed_names = []; faults = 0 }
+
+-- a source without failures: the bytes that are left, and how many were taken
+pub record SteadySourceState : Type 0 where
+  pub left : List ℕ
+  pub taken : ℕ
+
+-- the number of the next call; calls count from 1, and the count stands still at 18446744073709551615
+abbrev pub next_call : ℕ → ℕ
+next_call calls = min (calls + 1) (2 ^ 64 - 1)
+
+-- a put fails where its number is named, or where there are bytes and no room for any
+abbrev pub PutFails : SinkState → List ℕ → Type 0
+PutFails sink bytes = Contains sink.failing (next_call sink.calls) ⊎ ((sink.room ≡ 0) × (0 < length bytes))

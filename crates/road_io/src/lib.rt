@@ -1,0 +1,34 @@
+//! The outside of the program as traits: byte sources and sinks, files, connections and the doors
+//! that they come through, with the forms of each that live in memory. Every object counts its faults,
+//! so a failure that is reported always has its cause in the contract, and tells what it holds where
+//! that is known. Nothing here opens a file or a socket.
+#![tactic(auto)]
+
+mod byte_sinks;
+mod byte_sources;
+mod connections;
+mod doorways;
+mod failures;
+mod file_access;
+mod gateways;
+mod memory_connections;
+mod memory_files;
+mod memory_sinks;
+mod memory_sources;
+mod no_doors;
+mod pieces;
+mod steady_forms;
+
+pub use byte_sinks::{Sink, put_all};
+pub use byte_sources::Source;
+pub use connections::Conn;
+pub use doorways::{Closer, Door, DoorSet, Doors, Opened};
+pub use failures::{DoorsFault, Failed, FileFault};
+pub use file_access::Files;
+pub use gateways::{Gate, OpenGate};
+pub use memory_connections::MemConn;
+pub use memory_files::MemFiles;
+pub use memory_sinks::MemSink;
+pub use memory_sources::MemSource;
+pub use no_doors::{NoCloser, NoDoor, NoDoors};
+pub use steady_forms::{SteadyFiles, SteadySink, SteadySource};

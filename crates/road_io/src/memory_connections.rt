@@ -1,0 +1,88 @@
+//! A connection in memory.
+
+ghost use Rattle.std.specs.Prelude.{◌≡◌};
+
+use crate::byte_sinks::Sink;
+use crate::byte_sources::Source;
+use crate::connections::Conn;
+use crate::failures::Failed;
+use crate::memory_sinks::MemSink;
+use crate::memory_sources::MemSource;
+use std::marker::Model;
+
+/// A connection in memory: a source and a sink. It was given with all of the source's bytes, and with no
+/// fault.
+#[derive(Drop, Debug)]
+pub struct MemConn {
+    source: MemSource,
+    sink: MemSink,
+}
+
+impl Model for MemConn {
+    ghost use Rattle.road_io.specs.MemoryStates.{ConnState};
+
+    ghost Value = { ConnState };
+
+    ghost view = { λ c. record { source = c.source; sink = c.sink } };
+}
+
+impl MemConn {
+    /// The connection of these two halves.
+    pub fn of(source: MemSource, sink: MemSink) -> MemConn
+        ensures { result ≡ record { source = source; sink = sink } }
+    {
+        MemConn { source, sink }
+    }
+
+    /// The output so far.
+    pub fn output(&self) -> &[u8]
+        ensures { result.now ≡ self.now.sink.written }
+    {
+        self.sink.as_bytes()
+    }
+}
+
+impl Source for MemConn {
+    ghost use Rattle.std.specs.Prelude.{Some};
+    ghost use Rattle.road_io.specs.Sides.{sink_side};
+    ghost use Rattle.road_io.specs.MemoryStates.{conn_opening};
+
+    ghost left = { λ c. Some c.source.left };
+
+    ghost faults = { λ c. c.source.faults };
+
+    ghost taken = { λ c. c.source.taken };
+
+    ghost beside = { λ c. sink_side (Some c.sink.written) c.sink.faults (conn_opening c) };
+
+    fn take(&mut self, into: &mut [u8]) -> Result<usize, Failed> {
+        self.source.take(into)
+    }
+}
+
+impl Sink for MemConn {
+    ghost use Rattle.std.specs.Prelude.{Some};
+    ghost use Rattle.road_io.specs.Sides.{source_side};
+    ghost use Rattle.road_io.specs.MemoryStates.{conn_opening};
+
+    ghost written = { λ c. Some c.sink.written };
+
+    ghost faults = { λ c. c.sink.faults };
+
+    ghost beside = { λ c. source_side (Some c.source.left) c.source.faults c.source.taken (conn_opening c) };
+
+    fn put(&mut self, bytes: &[u8]) -> Result<usize, Failed> {
+        self.sink.put(bytes)
+    }
+}
+
+impl Conn for MemConn {
+    ghost use Rattle.std.specs.Prelude.{refl};
+    ghost use Rattle.road_io.specs.MemoryStates.{conn_opening};
+
+    ghost opening = { conn_opening };
+
+    ghost take_keeps = { λ c. refl };
+
+    ghost put_keeps = { λ c. refl };
+}

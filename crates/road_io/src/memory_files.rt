@@ -1,0 +1,87 @@
+//! Files in memory.
+
+ghost use Rattle.std.specs.Prelude.{◌≡◌, ◌≤◌, ◌⊎◌, Contains, IsErrOf, IsNone, IfOk, IfSome, option_copied};
+ghost use Rattle.road_io.specs.Faults.{HasFileCause};
+ghost use Rattle.road_io.specs.FailedNames.{TellsFailed};
+ghost use Rattle.road_io.specs.FileNamed.{file_of, named_files};
+ghost use Rattle.road_io.specs.MemoryStates.{new_files, next_call};
+
+use crate::failures::FileFault;
+use crate::file_access::Files;
+use road_base::Text;
+use std::alloc::Global;
+use std::marker::Model;
+
+/// Files in memory. A name that none has fails, and so does a read that is told to.
+#[derive(Drop, Debug)]
+pub struct MemFiles {
+    files: Vec<(Text, Vec<u8>)>,
+    failing: Vec<u64>,
+    calls: u64,
+    failed_names: Vec<Text>,
+    faults: u64,
+}
+
+impl Model for MemFiles {
+    ghost use Rattle.road_io.specs.FileNamed.{named_files};
+    ghost use Rattle.road_io.specs.MemoryStates.{FilesState};
+
+    ghost Value = { FilesState };
+
+    ghost view = { λ f. record { files = named_files f.files.items; failing = f.failing.items; calls = f.calls; failed_names = f.failed_names.items; faults = f.faults } };
+}
+
+impl MemFiles {
+    /// Files of these names, of which the first of a name counts. The calls of `read` whose numbers are
+    /// in `failing`, counted from 1, fail.
+    pub fn of(alloc: Global, files: Vec<(Text, Vec<u8>)>, failing: Vec<u64>) -> MemFiles
+        ensures { result ≡ new_files (named_files files.items) failing.items }
+    {
+        MemFiles {
+            files,
+            failing,
+            calls: 0,
+            failed_names: Vec::new(alloc),
+            faults: 0,
+        }
+    }
+}
+
+impl Files for MemFiles {
+    ghost use Rattle.std.specs.Prelude.{Some};
+
+    ghost content = { λ f name. file_of f.files name };
+
+    ghost failed_names = { λ f. Some f.failed_names };
+
+    ghost faults = { λ f. f.faults };
+
+    fn read(&mut self, alloc: Global, name: &str) -> Result<Vec<u8>, FileFault> {
+        self.calls = self.calls.saturating_add(1);
+        if !self.failing.contains(&self.calls)
+            && let Some(bytes) = file_in(&self.files, name)
+        {
+            return Vec::from_slice(alloc, bytes).map_err(|_| FileFault::Memory);
+        }
+        let Ok(told) = Text::copy_of(alloc, name) else {
+            return Err(FileFault::Memory);
+        };
+        if self.failed_names.push(told).is_err() {
+            return Err(FileFault::Memory);
+        }
+        self.faults = self.faults.saturating_add(1);
+        Err(FileFault::Failed)
+    }
+}
+
+/// The bytes of the first of these files with this name.
+pub fn file_in<'a>(files: &'a [(Text, Vec<u8>)], name: &str) -> Option<&'a [u8]>
+    ensures { option_copied result ≡ file_of (named_files files.now) name.now }
+{
+    for file in files {
+        if file.0.as_str() == name {
+            return Some(file.1.as_slice());
+        }
+    }
+    None
+}
