@@ -1,0 +1,167 @@
+ghost use Rattle.std.specs.Prelude.{◌≤◌};
+
+use crate::parts::{Front, Head, Span};
+use crate::{BUSY, BUSY_CLOSE, HEAD_BAD, busy_reply, head, head_bad_reply, response};
+use std::alloc::{AllocError, Global};
+
+/// The `close` and `announced` of a whole head, as `close announced`, or the other answers' names.
+fn told(bytes: &[u8]) -> &'static str {
+    match head(bytes) {
+        Front::Whole { head, .. } => flags(&head),
+        Front::More => "more",
+        Front::Bad => "bad",
+    }
+}
+
+fn flags(head: &Head) -> &'static str {
+    match (head.close, head.announced) {
+        (false, false) => "keep",
+        (true, false) => "close",
+        (false, true) => "keep, body",
+        (true, true) => "close, body",
+    }
+}
+
+#[test]
+fn each_kind_of_head_is_told_apart(rt: HostRuntime) {
+    let cases: [(&[u8], &str); 33] = [
+        (
+            b"GET /nearest/v1/car/0,0 HTTP/1.1\r\nHost: a\r\n\r\n",
+            "keep",
+        ),
+        (b"GET / HTTP/1.1\r\n\r\n", "keep"),
+        (b"GET / HTTP/1.1\n\n", "keep"),
+        (b"\r\nGET / HTTP/1.1\r\n\r\n", "keep"),
+        (b"POST / HTTP/1.1\r\n\r\n", "keep"),
+        (b"GET / HTTP/1.1\r\nConnection: close\r\n\r\n", "close"),
+        (b"GET / HTTP/1.1\r\ncONNECTION:CLOSE\r\n\r\n", "close"),
+        (
+            b"GET / HTTP/1.1\r\nConnection: upgrade \t,\tclose , x\r\n\r\n",
+            "close",
+        ),
+        (
+            b"GET / HTTP/1.1\r\nConnection: x\r\nConnection: close\r\n\r\n",
+            "close",
+        ),
+        (b"GET / HTTP/1.1\r\nConnection: closed\r\n\r\n", "keep"),
+        (b"GET / HTTP/1.1\r\nConnection: close x\r\n\r\n", "keep"),
+        (b"GET / HTTP/1.1\r\nX-Connection: close\r\n\r\n", "keep"),
+        (b"GET / HTTP/1.0\r\n\r\n", "close"),
+        (b"GET / HTTP/1.0\r\nConnection: Keep-Alive\r\n\r\n", "keep"),
+        (
+            b"GET / HTTP/1.0\r\nConnection: keep-alive, close\r\n\r\n",
+            "close",
+        ),
+        (b"GET / HTTP/1.1\r\nConnection: keep-alive\r\n\r\n", "keep"),
+        (b"GET / HTTP/1.1\r\nContent-Length: 1\r\n\r\n", "keep, body"),
+        (b"GET / HTTP/1.1\r\ncontent-length: 00\r\n\r\n", "keep"),
+        (b"GET / HTTP/1.1\r\nContent-Length:\r\n\r\n", "keep"),
+        (
+            b"GET / HTTP/1.1\r\nContent-Length: 0\r\nContent-Length: 10\r\n\r\n",
+            "keep, body",
+        ),
+        (
+            b"GET / HTTP/1.1\r\nContent-Length: 0, 0\r\n\r\n",
+            "keep, body",
+        ),
+        (
+            b"GET / HTTP/1.1\r\nTransfer-Encoding: chunked\r\n\r\n",
+            "keep, body",
+        ),
+        (
+            b"GET / HTTP/1.0\r\ntransfer-encoding:\r\n\r\n",
+            "close, body",
+        ),
+        (b"", "more"),
+        (b"GET /nea", "more"),
+        (b"GET / HTTP/1.1\r\nHost: a\r\n", "more"),
+        (b"GET / HTTP/1.1\r\n\r", "more"),
+        (b"GET / HTTP/2.0\r\n\r\n", "bad"),
+        (b"GET / HTTP/1.1\r\nHost a\r\n\r\n", "bad"),
+        (b"GET / HTTP/1.1\r\n: a\r\n\r\n", "bad"),
+        (b"GET /\x7f HTTP/1.1\r\n\r\n", "bad"),
+        (b"GET / HTTP/1.1\rHost: a\r\n\r\n", "bad"),
+        (b" GET / HTTP/1.1\r\n\r\n", "bad"),
+    ];
+    for (bytes, want) in cases {
+        assert_eq!(rt; told(bytes), want, "{bytes:?}");
+    }
+}
+
+#[test]
+fn spans_cover_the_method_and_the_target(rt: HostRuntime) {
+    let bytes: &[u8] = b"\nPOST /control/v1/stop HTTP/1.0\r\n\r\nrest";
+    let want = Head {
+        method: Span { from: 1, to: 5 },
+        target: Span { from: 6, to: 22 },
+        minor: 0,
+        close: true,
+        announced: false,
+    };
+    assert_eq!(rt;
+        head(bytes),
+        Front::Whole {
+            head: want,
+            size: 35
+        }
+    );
+    assert_eq!(rt; want.target.of(bytes), b"/control/v1/stop".as_slice());
+}
+
+/// A head of so many bytes: a target of slashes, and the rest.
+fn head_of_size(alloc: Global, size: usize) -> Result<Vec<u8>, AllocError>
+    requires { 18 ≤ size }
+{
+    let mut bytes = Vec::new(alloc);
+    bytes.extend_from_slice(b"GET ")?;
+    for _ in 0..size - 17 {
+        bytes.push(b'/')?;
+    }
+    bytes.extend_from_slice(b" HTTP/1.1\r\n\r\n")?;
+    Ok(bytes)
+}
+
+/// A head of so many fields.
+fn head_of_fields(alloc: Global, fields: usize) -> Result<Vec<u8>, AllocError> {
+    let mut bytes = Vec::new(alloc);
+    bytes.extend_from_slice(b"GET / HTTP/1.1\r\n")?;
+    for _ in 0..fields {
+        bytes.extend_from_slice(b"a: b\r\n")?;
+    }
+    bytes.extend_from_slice(b"\r\n")?;
+    Ok(bytes)
+}
+
+#[test]
+fn a_head_has_8192_bytes_and_64_fields_at_most(rt: HostRuntime) -> Result<(), AllocError> {
+    for (size, want) in [(8191, "keep"), (8192, "keep"), (8193, "more")] {
+        let bytes = head_of_size(rt.alloc(), size)?;
+        assert_eq!(rt; bytes.len(), size);
+        assert_eq!(rt; told(&bytes), want, "{size} bytes");
+    }
+    for (fields, want) in [(63, "keep"), (64, "keep"), (65, "more")] {
+        let bytes = head_of_fields(rt.alloc(), fields)?;
+        assert_eq!(rt; told(&bytes), want, "{fields} fields");
+    }
+    Ok(())
+}
+
+#[test]
+fn a_response_has_its_length_and_its_connection(rt: HostRuntime) -> Result<(), AllocError> {
+    let open = response(rt.alloc(), 200, b"{\"code\":\"Ok\"}", false)?;
+    assert_eq!(rt;
+        open.as_slice(),
+        b"HTTP/1.1 200 OK\r\nContent-Type: application/json; charset=utf-8\r\nContent-Length: 13\r\nConnection: keep-alive\r\n\r\n{\"code\":\"Ok\"}".as_slice()
+    );
+    let closed = response(rt.alloc(), 400, b"", true)?;
+    assert_eq!(rt;
+        closed.as_slice(),
+        b"HTTP/1.1 400 Bad Request\r\nContent-Type: application/json; charset=utf-8\r\nContent-Length: 0\r\nConnection: close\r\n\r\n".as_slice()
+    );
+    let busy = response(rt.alloc(), 503, b"{\"code\":\"Busy\"}", true)?;
+    assert_eq!(rt; busy.as_slice(), BUSY_CLOSE);
+    assert_eq!(rt; busy_reply(true), BUSY_CLOSE);
+    assert_eq!(rt; busy_reply(false), BUSY);
+    assert_eq!(rt; head_bad_reply(), HEAD_BAD);
+    Ok(())
+}
