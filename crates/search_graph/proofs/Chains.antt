@@ -1,8 +1,8 @@
 -- Chains of steps, and how what they pay moves with what was paid before.
-use Rattle.std.proofs.Common.{◌≡◌, ℕ, ◌+◌, List, [], ◌∷◌, ◌++◌, refl, sym, ◌∙◌, ap, subst}
+use Rattle.std.proofs.Common.{◌≡◌, ℕ, List, [], ◌∷◌, ◌++◌, refl, sym, ◌∙◌, ap, subst}
 use Rattle.search_graph.specs.Costs.{CostOps, CostLaws, NoDearer}
 use Rattle.search_graph.specs.Walks.{Chain, Paying}
-use Rattle.search_graph.proofs.Order.{le_refl, le_trans, plus_grows, zero_plus}
+use Rattle.search_graph.proofs.Order.{le_refl, le_trans, plus_grows}
 
 module _ {C : Type 0} (S : ℕ → ℕ → C → C → Type 0) where
   -- one chain behind another

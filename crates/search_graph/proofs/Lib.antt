@@ -1,2 +1,8 @@
 pub mod Order
 pub mod Chains
+pub mod ShortChains
+pub mod Gets
+mod Chaining
+mod Filling
+mod OutArcs
+mod Weighing

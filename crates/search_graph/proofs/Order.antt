@@ -1,9 +1,9 @@
 -- What follows from the laws of costs: the order, and how sums keep it.
-use Rattle.std.proofs.Common.{◌≡◌, ℕ, Bool, true, false, refl, sym, ◌∙◌, ap, subst}
+use Rattle.std.proofs.Common.{◌≡◌, true, false, refl, ◌∙◌, ap, subst}
 use Rattle.std.specs.declared.cmp.Ordering.{Ordering}
 use Rattle.std.specs.declared.cmp.Ordering.TheVariants.{Less, Equal, Greater}
-use Rattle.std.specs.Ordering.{is_gt, is_lt, is_eq, ordering_reverse}
-use Rattle.std.proofs.lemmas.Cmp.{upto, tied_itself, tied_back}
+use Rattle.std.specs.Ordering.{is_gt, is_lt, ordering_reverse}
+use Rattle.std.proofs.lemmas.Cmp.{upto, tied_itself}
 use Rattle.search_graph.specs.Costs.{CostOps, CostLaws, NoDearer}
 
 gt_from_flipped : (r s : Ordering) → r ≡ ordering_reverse s → is_lt s ≡ false → is_gt r ≡ false
@@ -58,3 +58,7 @@ module _ {C : Type 0} {ops : CostOps C} (laws : CostLaws ops) where
   -- what is added makes nothing cheaper
   pub plus_grows : (a b : C) → ops.valid a → ops.valid b → NoDearer ops a (ops.plus a b)
   plus_grows a b va vb = subst (λ x. NoDearer ops x (ops.plus a b)) (laws.neutral a va) (plus_le_left ops.zero b a laws.zero_valid vb va (laws.zero_least b vb))
+
+  -- and nothing cheaper that it is added to
+  pub plus_grows_left : (a b : C) → ops.valid a → ops.valid b → NoDearer ops b (ops.plus a b)
+  plus_grows_left a b va vb = rw (laws.comm a b va vb) (plus_grows b a vb va)

@@ -1,3 +1,4 @@
+pub mod Chained
 pub mod Costs
 pub mod Digraph
 pub mod Durations

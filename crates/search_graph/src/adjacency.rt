@@ -5,6 +5,7 @@ ghost use Rattle.std.specs.List.{slice_get, Contains};
 ghost use Rattle.search_graph.specs.Digraph.{IsArc, Leaves};
 ghost use Rattle.search_graph.specs.Faults.{AllInRange, IsGraphFault};
 
+use crate::indexing::{first_bad, index_arcs};
 use std::alloc::{AllocError, Global};
 use std::marker::Model;
 
@@ -63,10 +64,17 @@ impl Graph {
         ensures in_range { OnOk result (AllInRange vertices arcs.now) }
         ensures err { IfErr result (IsGraphFault vertices arcs.now) }
     {
-        let _ = alloc;
-        let _ = vertices;
-        let _ = arcs;
-        Err(GraphFault::Memory)
+        if let Some(i) = first_bad(vertices, arcs) {
+            return Err(GraphFault::BadArc(i as u32));
+        }
+        let index = index_arcs(alloc, vertices, arcs)?;
+        let arcs = arcs.to_vec(alloc)?;
+        Ok(Graph {
+            vertices,
+            arcs,
+            first: index.first,
+            order: index.order,
+        })
     }
 
     /// How many vertices there are.
@@ -90,5 +98,14 @@ impl Graph {
         ensures in_range { (result.0 < self.now.vertices) × (result.1 < self.now.vertices) }
     {
         self.arcs[i as usize]
+    }
+
+    /// The numbers of the arcs that leave `v`, each once, in ascending order.
+    pub fn out(&self, v: u32) -> &[u32]
+        requires { v < self.now.vertices }
+        ensures leaves { (i : ℕ) → Contains result.now i ↔ Leaves self.now i v }
+        ensures ascending { (k l i j : ℕ) → k < l → slice_get result.now k ≡ Some i → slice_get result.now l ≡ Some j → i < j }
+    {
+        &self.order[self.first[v as usize] as usize..self.first[v as usize + 1] as usize]
     }
 }

@@ -13,9 +13,10 @@
 mod adjacency;
 mod costs;
 mod ends;
+mod indexing;
 mod weighting;
 
 pub use adjacency::{Graph, GraphFault};
 pub use costs::{Cost, DurLen};
 pub use ends::{Start, Target};
-pub use weighting::Weights;
+pub use weighting::{Weights, small_weights};

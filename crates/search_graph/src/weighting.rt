@@ -53,3 +53,17 @@ impl<C: Cost> Weights<C> {
         self.arc[i as usize]
     }
 }
+
+/// The weights of a graph of at most 2^27 vertices where each cost is within one unit. Such weights are
+/// always a weighting.
+pub fn small_weights<C: Cost>(graph: &Graph, vertex: Vec<Option<C>>, arc: Vec<C>) -> Weights<C>
+    requires few { graph.now.vertices ≤ 2 ^ 27 }
+    requires vertices { length vertex.items ≡ graph.now.vertices }
+    requires arcs { length arc.items ≡ length graph.now.arcs }
+    requires vertex_unit { All (λ o. ForSome o (λ x. C.ops.units x 1)) vertex.items }
+    requires arc_unit { All (λ a. C.ops.units a 1) arc.items }
+    ensures value { result ≡ record { vertex = vertex.items; arc = arc.items } }
+    ensures weighting { IsWeighting C.ops graph.now result }
+{
+    Weights::of(graph, vertex, arc)
+}
