@@ -1,5 +1,5 @@
 -- What follows from the laws of costs: the order, and how sums keep it.
-use Rattle.std.proofs.Common.{◌≡◌, true, false, refl, ◌∙◌, ap, subst}
+use Rattle.std.proofs.Common.{◌≡◌, true, false, refl, ◌∙◌, ap, subst, ◌⊎◌, inl, inr}
 use Rattle.std.specs.declared.cmp.Ordering.{Ordering}
 use Rattle.std.specs.declared.cmp.Ordering.TheVariants.{Less, Equal, Greater}
 use Rattle.std.specs.Ordering.{is_gt, is_lt, ordering_reverse}
@@ -10,6 +10,11 @@ gt_from_flipped : (r s : Ordering) → r ≡ ordering_reverse s → is_lt s ≡ 
 gt_from_flipped r Less e h = cc
 gt_from_flipped r Equal e h = ap is_gt e
 gt_from_flipped r Greater e h = ap is_gt e
+
+less_or_not : (r : Ordering) → (r ≡ Less) ⊎ (is_lt r ≡ false)
+less_or_not Less = inl refl
+less_or_not Equal = inr refl
+less_or_not Greater = inr refl
 
 -- an answer that isn't greater is less or equal
 by_not_gt : {G : Type 0} (r : Ordering) → is_gt r ≡ false → (r ≡ Less → G) → (r ≡ Equal → G) → G
@@ -62,3 +67,14 @@ module _ {C : Type 0} {ops : CostOps C} (laws : CostLaws ops) where
   -- and nothing cheaper that it is added to
   pub plus_grows_left : (a b : C) → ops.valid a → ops.valid b → NoDearer ops b (ops.plus a b)
   plus_grows_left a b va vb = rw (laws.comm a b va vb) (plus_grows b a vb va)
+
+  -- b costs less, or a is no dearer
+  pub less_or_le : (a b : C) → (ops.cmp b a ≡ Less) ⊎ NoDearer ops a b
+  less_or_le a b = elim (less_or_not (ops.cmp b a)) [ inl e ↦ inl e | inr h ↦ inr (le_from_not_less b a h) ]
+
+  -- what is no dearer with c is no dearer without
+  pub plus_le_back : (a b c : C) → ops.valid a → ops.valid b → ops.valid c → NoDearer ops (ops.plus a c) (ops.plus b c) → NoDearer ops a b
+  plus_le_back a b c va vb vc h = elim (less_or_le a b) [
+    | inl e ↦ absurd (not_both (ops.plus a c) (ops.plus b c) h (laws.keeps_order b a c vb va vc e))
+    | inr le ↦ le
+  ]

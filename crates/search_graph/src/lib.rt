@@ -14,6 +14,8 @@ mod adjacency;
 mod costs;
 mod ends;
 mod indexing;
+#[cfg(test)]
+mod tests;
 mod weighting;
 
 pub use adjacency::{Graph, GraphFault};
