@@ -1,11 +1,10 @@
 -- A list of events taken one at a time: each event leaves an opening entry for the rest.
-use Rattle.std.proofs.Common.{◌≡◌, ℕ, ◌+◌, ◌-◌, ◌<◌, ◌≤◌, ◌^◌, List, [], ◌∷◌, ◌++◌, length, take, refl, sym, ap, ◌∙◌, subst, arith, ⊎_elim, inl, inr, ltb, add-one, zero, suc}
+use Rattle.std.proofs.Common.{◌≡◌, ℕ, ◌+◌, ◌-◌, ◌<◌, ◌≤◌, List, [], ◌∷◌, ◌++◌, length, take, refl, sym, ◌∙◌, subst, arith, ⊎_elim, ltb, add-one, zero, suc}
 use Rattle.std.proofs.lemmas.Bool.{cases_lt}
 use Rattle.std.proofs.lemmas.Bool.Decides.{nat_tests}
 use Rattle.board_core.specs.declared.event.Event.{Event}
 use Rattle.board_core.specs.declared.event.Event.TheVariants.{Publish, Enter, Learn, Tell}
 use Rattle.board_core.specs.declared.event.Outcome.{Outcome}
-use Rattle.board_core.specs.declared.event.Outcome.TheVariants.{Published, Spent, Entered, Learned, NotTold, Told, NoSeat}
 use Rattle.board_core.specs.State.{Entry, entry, State}
 use Rattle.board_core.specs.History.{tags_of, numbered, list_at, last_of, outcome, outcomes, outcomes_from}
 use Rattle.board_core.specs.Transcript.{Takes}

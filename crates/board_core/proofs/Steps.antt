@@ -3,13 +3,13 @@ use Rattle.std.proofs.Common.{◌≡◌, ℕ, ◌+◌, ◌<◌, ◌≤◌, Bool,
 use Rattle.std.proofs.lemmas.List.{append_assoc, append-nil, take_more, take_all}
 use Rattle.std.specs.List.{zip}
 use Rattle.board_core.specs.declared.event.Event.{Event}
-use Rattle.board_core.specs.declared.event.Event.TheVariants.{Publish, Enter, Learn, Tell}
+use Rattle.board_core.specs.declared.event.Event.TheVariants.{Enter, Learn}
 use Rattle.board_core.specs.declared.event.Outcome.{Outcome}
-use Rattle.board_core.specs.declared.event.Outcome.TheVariants.{Published, Spent, Entered, Learned, NotTold, Told, NoSeat}
+use Rattle.board_core.specs.declared.event.Outcome.TheVariants.{Entered, Learned}
 use Rattle.board_core.specs.State.{Entry, State, IsKept}
-use Rattle.board_core.specs.History.{list_at, last_of, outcome, outcomes}
+use Rattle.board_core.specs.History.{list_at, last_of, outcomes}
 use Rattle.board_core.specs.Transcript.{heard, greatest, IsAfter, Takes}
-use Rattle.board_core.proofs.Joining.{last_joined, outcomes_first, next}
+use Rattle.board_core.proofs.Joining.{last_joined, next}
 use Rattle.board_core.proofs.Trails.{length-outcomes}
 
 cond-append : (b : Bool) (n : ℕ) (ns later : List ℕ) → cond b (n ∷ (ns ++ later)) (ns ++ later) ≡ cond b (n ∷ ns) ns ++ later

@@ -1,5 +1,5 @@
 -- What holds of each event beside its outcome, one after another, and what follows for the whole list.
-use Rattle.std.proofs.Common.{◌≡◌, ℕ, ◌+◌, ◌-◌, ◌<◌, ◌≤◌, Bool, true, false, cond, eqb, ltb, List, [], ◌∷◌, ◌++◌, length, take, All, refl, sym, ap, ◌∙◌, subst, arith, ⊎_elim, inl, inr, zero, suc, slice_index}
+use Rattle.std.proofs.Common.{◌≡◌, ℕ, ◌+◌, ◌-◌, ◌<◌, ◌≤◌, Bool, true, false, cond, eqb, ltb, List, [], ◌∷◌, ◌++◌, length, take, All, refl, sym, ap, ◌∙◌, subst, arith, ⊎_elim, zero, suc, slice_index}
 use Rattle.std.proofs.lemmas.Bool.{cases_lt}
 use Rattle.std.proofs.lemmas.Bool.Decides.{nat_tests}
 use Rattle.std.proofs.lemmas.List.Elements.{All-cons}
@@ -10,7 +10,7 @@ use Rattle.board_core.specs.declared.event.Outcome.{Outcome}
 use Rattle.board_core.specs.declared.event.Outcome.TheVariants.{Published, Spent, Entered, Learned, NotTold, Told, NoSeat}
 use Rattle.board_core.specs.State.{Entry, entry, State, state, IsKept}
 use Rattle.board_core.specs.History.{list_at, last_of, outcome, outcomes, outcomes_from}
-use Rattle.board_core.specs.Transcript.{published, heard, greatest, IsHistory}
+use Rattle.board_core.specs.Transcript.{published, heard, IsHistory}
 use Rattle.board_core.proofs.Joining.{next, next_same, next_published, next_full, list_is, rest_at, rest_more, rest_full, leads, outcomes_first}
 
 -- the event, where o is the last entry before it and p the last one after it

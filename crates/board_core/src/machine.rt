@@ -64,7 +64,8 @@ impl Machine {
         self.known[seat as usize]
     }
 
-    /// Takes one event. It needs no memory.
+    /// Takes one event. It needs no memory, and what comes to nothing (`Spent`,
+    /// `NotTold`, `NoSeat`) leaves the board as it was.
     pub fn step(&mut self, event: Event) -> Outcome
         ensures outcome { result ≡ outcome self.old (list_at self.old.last []) event }
         ensures after { IsAfter self.old (event ∷ []) self.new }
@@ -82,6 +83,11 @@ impl Machine {
     }
 
     /// Takes the events in order, and gives the outcome of each.
+    ///
+    /// An `Entered` carries the last entry that was published before it, and its number
+    /// is at least all that this seat was entered with or has learned. Numbers rise by
+    /// one from the opening entry's. The room for the outcomes is taken first, so want
+    /// of memory leaves the board as it was.
     pub fn run(&mut self, alloc: Global, events: &[Event]) -> Result<Vec<Outcome>, MachineError>
         ensures outcomes { IfOk result (λ answers. answers.items ≡ outcomes self.old events.now) }
         ensures history { IfOk result (λ answers. IsHistory self.old (zip events.now answers.items) (list_at self.old.last events.now)) }
@@ -91,6 +97,7 @@ impl Machine {
         // What follows is what would have followed in one list of events.
         ensures joins { (later : List Event) → OnOk result (outcomes self.old (events.now ++ later) ≡ outcomes self.old events.now ++ outcomes self.new later) }
     {
+        // Every board keeps this from the start, and what follows rests on it.
         let _kept = &self.number;
         let mut answers = Vec::with_capacity(alloc, events.len())?;
         for event in events {

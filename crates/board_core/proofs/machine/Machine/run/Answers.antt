@@ -1,8 +1,8 @@
-use Rattle.std.proofs.Common.{◌≡◌, List, [], ◌∷◌, ◌++◌, length, take, ap, sym, ◌∙◌, subst, arith, rules}
+use Rattle.std.proofs.Common.{◌≡◌, List, [], ◌∷◌, ◌++◌, ap, ◌∙◌, subst, arith}
 use Rattle.std.proofs.lemmas.Grind.{common_steps}
-use Rattle.std.proofs.lemmas.List.{append-nil, take_all}
+use Rattle.std.proofs.lemmas.List.{take_all}
 use Rattle.board_core.specs.declared.event.Event.{Event}
-use Rattle.board_core.specs.State.{State, IsKept}
+use Rattle.board_core.specs.State.{IsKept}
 use Rattle.board_core.specs.History.{outcomes}
 use Rattle.board_core.proofs.Steps.{joins_more, board_more, all_joined}
 use Rattle.board_core.proofs.Trails.{history}
