@@ -1,5 +1,6 @@
 -- What contracts see of the forms in memory.
-use Rattle.std.specs.Prelude.{◌≡◌, ℕ, ◌+◌, ◌-◌, ◌^◌, ◌<◌, ◌⊎◌, min, List, [], length, Contains, Some}
+use Rattle.std.specs.Prelude.{◌≡◌, ℕ, ◌+◌, ◌-◌, ◌^◌, ◌<◌, ◌⊎◌, min, List, [], length, Contains, Some, IsNone}
+use Rattle.road_io.specs.FileNamed.{file_of}
 use Rattle.road_io.specs.Sides.{Opening}
 
 -- bytes that are given in pieces: all of them, and those that are left
@@ -67,3 +68,7 @@ next_call calls = min (calls + 1) (2 ^ 64 - 1)
 -- a put fails where its number is named, or where there are bytes and no room for any
 abbrev pub PutFails : SinkState → List ℕ → Type 0
 PutFails sink bytes = Contains sink.failing (next_call sink.calls) ⊎ ((sink.room ≡ 0) × (0 < length bytes))
+
+-- a read fails where its number is named, or where no file has the name
+abbrev pub ReadFails : FilesState → List ℕ → Type 0
+ReadFails files name = Contains files.failing (next_call files.calls) ⊎ IsNone (file_of files.files name)

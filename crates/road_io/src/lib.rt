@@ -32,3 +32,6 @@ pub use memory_sinks::MemSink;
 pub use memory_sources::MemSource;
 pub use no_doors::{NoCloser, NoDoor, NoDoors};
 pub use steady_forms::{SteadyFiles, SteadySink, SteadySource};
+
+#[cfg(test)]
+mod tests;

@@ -1,10 +1,10 @@
 //! Files in memory.
 
-ghost use Rattle.std.specs.Prelude.{◌≡◌, ◌≤◌, ◌⊎◌, Contains, IsErrOf, IsNone, IfOk, IfSome, option_copied};
+ghost use Rattle.std.specs.Prelude.{◌≡◌, ◌↔◌, ◌⊎◌, Contains, IsNone, IsErr, IsErrOf, IfOk, IfSome, option_copied};
 ghost use Rattle.road_io.specs.Faults.{HasFileCause};
 ghost use Rattle.road_io.specs.FailedNames.{TellsFailed};
 ghost use Rattle.road_io.specs.FileNamed.{file_of, named_files};
-ghost use Rattle.road_io.specs.MemoryStates.{new_files, next_call};
+ghost use Rattle.road_io.specs.MemoryStates.{new_files, next_call, ReadFails};
 
 use crate::failures::FileFault;
 use crate::file_access::Files;
@@ -56,21 +56,47 @@ impl Files for MemFiles {
 
     ghost faults = { λ f. f.faults };
 
-    fn read(&mut self, alloc: Global, name: &str) -> Result<Vec<u8>, FileFault> {
+    fn read(&mut self, alloc: Global, name: &str) -> Result<Vec<u8>, FileFault>
+        ensures kept { file_of self.new.files ≡ file_of self.old.files }
+        ensures bytes { IfOk result (λ v. IfSome (file_of self.old.files name.now) (λ bytes. v.items ≡ bytes)) }
+        ensures told { TellsFailed (Some self.old.failed_names) (Some self.new.failed_names) result name.now }
+        ensures cause { HasFileCause self.old.faults self.new.faults result }
+        ensures failed { IsErrOf result FileFault.Failed → ReadFails self.old name.now }
+        ensures read { ReadFails self.old name.now → IsErr result }
+        ensures calls { self.new.calls ≡ next_call self.old.calls }
+        ensures failing { self.new.failing ≡ self.old.failing }
+    {
         self.calls = self.calls.saturating_add(1);
-        if !self.failing.contains(&self.calls)
-            && let Some(bytes) = file_in(&self.files, name)
-        {
-            return Vec::from_slice(alloc, bytes).map_err(|_| FileFault::Memory);
+        match readable(&self.files, &self.failing, self.calls, name) {
+            Some(bytes) => Vec::from_slice(alloc, bytes).map_err(|_| FileFault::Memory),
+            None => {
+                let Ok(told) = Text::copy_of(alloc, name) else {
+                    return Err(FileFault::Memory);
+                };
+                if self.failed_names.push(told).is_err() {
+                    return Err(FileFault::Memory);
+                }
+                self.faults = self.faults.saturating_add(1);
+                Err(FileFault::Failed)
+            }
         }
-        let Ok(told) = Text::copy_of(alloc, name) else {
-            return Err(FileFault::Memory);
-        };
-        if self.failed_names.push(told).is_err() {
-            return Err(FileFault::Memory);
-        }
-        self.faults = self.faults.saturating_add(1);
-        Err(FileFault::Failed)
+    }
+}
+
+// The bytes of the file of this name, unless the call of this number is to fail or there is none.
+fn readable<'a>(
+    files: &'a [(Text, Vec<u8>)],
+    failing: &[u64],
+    call: u64,
+    name: &str,
+) -> Option<&'a [u8]>
+    ensures none { IsNone result ↔ (Contains failing.now call ⊎ IsNone (file_of (named_files files.now) name.now)) }
+    ensures some { IfSome result (λ bytes. file_of (named_files files.now) name.now ≡ Some bytes.now) }
+{
+    if failing.contains(&call) {
+        None
+    } else {
+        file_in(files, name)
     }
 }
 

@@ -65,14 +65,26 @@ pub struct SteadySink {
     count: u64,
 }
 
+impl Model for SteadySink {
+    ghost use Rattle.std.specs.Prelude.{ℕ};
+
+    ghost Value = { ℕ };
+
+    ghost view = { λ s. s.count };
+}
+
 impl SteadySink {
     /// A sink that nothing was put into.
-    pub fn new() -> SteadySink {
+    pub fn new() -> SteadySink
+        ensures { result ≡ 0 }
+    {
         SteadySink { count: 0 }
     }
 
     /// How many bytes were put; at 18446744073709551615 the count stands still.
-    pub fn count(&self) -> u64 {
+    pub fn count(&self) -> u64
+        ensures { result ≡ self.now }
+    {
         self.count
     }
 }
