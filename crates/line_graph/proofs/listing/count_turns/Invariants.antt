@@ -1,0 +1,11 @@
+use Rattle.std.proofs.Common.{◌≡◌, ◌≤◌, ◌*◌, ◌^◌, length}
+use Rattle.std.specs.List.{flat_map, range_with_len}
+use Rattle.line_graph.specs.Turns.{turns_from}
+use Rattle.line_graph.proofs.listing.count_turns.Given as goal
+
+-- the turns from the roads so far are counted
+abbrev pub invariant-loop-d : goal.invariant-loop-d
+invariant-loop-d l = record {
+  counted : l.count ≡ length (flat_map (turns_from l.roads.arcs l.permitted) (range_with_len 0 l.d));
+  few : l.count ≤ l.d * 2 ^ 32;
+}
