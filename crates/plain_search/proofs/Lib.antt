@@ -1,0 +1,2 @@
+mod Arcs
+mod Targets

@@ -1,0 +1,14 @@
+-- The vertex's cost is a part of the path's, and what is left is what a walk pays before its target.
+use Rattle.std.proofs.Common.{◌≡◌, ℕ, subst, sym}
+use Rattle.search_graph.specs.Walks.{IsLeastWalk}
+use Rattle.plain_search.proofs.Targets.{path_parts, rest_units, IsLeastWalk-from_path}
+use Rattle.plain_search.proofs.finish.cost_with.Goals as goal
+
+pub minus-requires : goal.minus-requires
+minus-requires g c = path_parts g.met.C.Cost.laws _ _ _ c.args.target c.requires.weights c.requires.starts c.requires.target.1 _ _ c.requires.path c.in-Some.cost c.in-Some.ensures
+
+pub plus-requires : goal.plus-requires
+plus-requires g c = rest_units g.met.C.Cost.laws _ _ _ c.args.target c.requires.weights c.requires.starts c.requires.target.1 _ _ c.requires.path c.in-Some.cost c.in-Some.ensures c.minus.result c.minus.ensures.valid c.minus.ensures.rest
+
+pub returns-in-Some : goal.returns-in-Some
+returns-in-Some g c = rw c.plus.ensures (IsLeastWalk-from_path g.met.C.Cost.laws _ _ _ c.args.target c.requires.weights c.requires.starts c.requires.target.1 _ _ c.requires.path c.in-Some.cost c.in-Some.ensures c.minus.result c.minus.ensures.valid c.minus.ensures.rest)
