@@ -1,0 +1,3 @@
+pub mod Entries
+pub mod Speeds
+pub mod Trees

@@ -1,0 +1,25 @@
+-- The first bad entry of the map is the first bad member.
+use Rattle.std.proofs.Common.{◌≡◌, [], Some, None, not, false, find, option_map, string_bytes, sym, ap, ◌∙◌, rules}
+use Rattle.std.specs.Map.Iter.{deref_pair}
+use Rattle.std.proofs.lemmas.Map.Iter.{rest_all, rest_more}
+use Rattle.toml.specs.View.{view}
+use Rattle.way_profile.specs.Settings.{is_speed}
+use Rattle.way_profile.proofs.Entries.{Entry, bad_speed-entries, first_is_bad}
+use Rattle.way_profile.proofs.settings_checks.bad_speed.Goals as goal
+
+pub returns-then-not-is_number_between : goal.returns-then-not-is_number_between
+returns-then-not-is_number_between c =
+    let bad : is_speed (view c.in-Some.value.now) ≡ false = search rules in
+    let more = rest_more deref_pair _ _ _ _ c.in-Some.is c.next.ensures.steps in
+    let found : find (λ (e : Entry). not (is_speed (view e.1))) c.args.speeds.now.entries ≡ Some (c.in-Some.key.now, c.in-Some.value.now) =
+    sym c.loop-key.invariant ∙ ap (find (λ (e : Entry). not (is_speed (view e.1)))) more ∙ first_is_bad _ _ bad
+    in
+    ap Some c.as_str.ensures.value ∙ ap (option_map (λ (e : Entry). string_bytes e.0)) (sym found) ∙ bad_speed-entries c.args.speeds.now.entries
+
+pub returns : goal.returns
+returns c =
+    let none : c.loop-key.key-iterator ≡ [] = rest_all deref_pair _ _ _ c.in-None.is c.next.ensures.steps in
+    let found : find (λ (e : Entry). not (is_speed (view e.1))) c.args.speeds.now.entries ≡ None =
+    sym c.loop-key.invariant ∙ ap (find (λ (e : Entry). not (is_speed (view e.1)))) none
+    in
+    ap (option_map (λ (e : Entry). string_bytes e.0)) (sym found) ∙ bad_speed-entries c.args.speeds.now.entries

@@ -1,0 +1,4 @@
+pub mod Settings
+pub mod Vehicle
+pub mod WayRule
+pub mod WayTags

@@ -1,0 +1,41 @@
+-- What the tags of a way say of its directions, and the speed of a kind of way (OpenStreetMap's
+-- `highway`, `oneway` and `junction`; which values count is this project's rule).
+use Rattle.std.specs.Prelude.{ℕ, Bool, false, not, ◌&&◌, ◌||◌, List, [], ◌∷◌, codes, Option, Some, None, bytes_eq, if◌then◌else◌}
+use Rattle.std.specs.List.{list_any}
+use Rattle.std.specs.Option.{option_map_or, option_and_then}
+use Rattle.road_base.specs.TagValue.{value_of}
+
+-- the speed of a value of `highway`, None where the vehicle may not use such a way
+abbrev pub speed_of : List (List ℕ × ℕ) → List ℕ → Option ℕ
+speed_of [] highway = None
+speed_of (e ∷ more) highway = if bytes_eq e.0 highway then Some e.1 else speed_of more highway
+
+-- the value at the key is one of these words
+abbrev pub says : List (List ℕ × List ℕ) → List ℕ → List (List ℕ) → Bool
+says tags key words = option_map_or (λ value. list_any (λ word. bytes_eq value word) words) (value_of tags key) false
+
+-- `oneway` says that the way is used against its own direction only
+abbrev pub is_backward_only : List (List ℕ × List ℕ) → Bool
+is_backward_only tags = says tags (codes "oneway") (codes "-1" ∷ codes "reverse" ∷ [])
+
+-- `oneway` says that the way is used in its own direction only
+abbrev pub is_oneway : List (List ℕ × List ℕ) → Bool
+is_oneway tags = says tags (codes "oneway") (codes "yes" ∷ codes "true" ∷ codes "1" ∷ [])
+
+-- `oneway` says that the way is used in the other direction only, or in both
+abbrev pub has_other_oneway : List (List ℕ × List ℕ) → Bool
+has_other_oneway tags = says tags (codes "oneway") (codes "-1" ∷ codes "reverse" ∷ codes "no" ∷ [])
+
+-- a roundabout or a motorway
+abbrev pub is_forward_by_kind : List (List ℕ × List ℕ) → Bool
+is_forward_by_kind tags =
+    says tags (codes "junction") (codes "roundabout" ∷ []) || says tags (codes "highway") (codes "motorway" ∷ [])
+
+-- the way is used in its own direction only: `oneway` says so, or says nothing that is known and the
+-- kind of the way does
+abbrev pub is_forward_only : List (List ℕ × List ℕ) → Bool
+is_forward_only tags = is_oneway tags || (not (has_other_oneway tags) && is_forward_by_kind tags)
+
+-- the speed on a way with these tags, None where the vehicle may not use it
+abbrev pub speed_on : List (List ℕ × ℕ) → List (List ℕ × List ℕ) → Option ℕ
+speed_on speeds tags = option_and_then (λ highway. speed_of speeds highway) (value_of tags (codes "highway"))

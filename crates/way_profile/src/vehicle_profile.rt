@@ -1,0 +1,163 @@
+//! The profile of a vehicle.
+
+ghost use Rattle.std.specs.Prelude.{◌≡◌, ◌≤◌, ◌||◌, None, IfOk, IfSome, IsTrue};
+ghost use Rattle.toml.specs.View.{table_view};
+ghost use Rattle.way_profile.specs.Settings.{IsReadAs, IsFound, profile_or_fault, profile_of, bad_value};
+ghost use Rattle.way_profile.specs.Vehicle.{IsInRange, IsSpeed};
+ghost use Rattle.way_profile.specs.WayRule.{way_use};
+ghost use Rattle.way_profile.specs.WayTags.{speed_on};
+
+use crate::settings_checks::{bad_value, missing_key, unknown_key};
+use crate::settings_faults::SettingsFault;
+use crate::settings_tree::tree;
+use crate::settings_values::{speeds_at, text_at, u_turn_penalty_at};
+use crate::way_uses::{WayUse, is_backward_only, is_forward_only, speed_of};
+use road_base::{Tags, Text};
+use std::alloc::{AllocError, Global};
+use std::marker::Model;
+use toml::Table;
+
+/// What a settings file says of one vehicle. Contracts see its name, its vehicle word, its speeds by
+/// value of `highway` in thousandths of km/h, and its penalty for a turn back in deciseconds.
+#[derive(Debug, Drop)]
+pub struct Profile {
+    name: Text,
+    vehicle: Text,
+    speeds: Vec<(Text, u32)>,
+    u_turn_penalty: u32,
+}
+
+impl Model for Profile {
+    ghost use Rattle.way_profile.specs.Vehicle.{ProfileView};
+
+    ghost Value = { ProfileView };
+
+    ghost use Rattle.way_profile.specs.Vehicle.{IsInRange};
+
+    ghost view = { λ p. record { name = p.name; vehicle = p.vehicle; speeds = p.speeds.items; u_turn_penalty = p.u_turn_penalty } };
+
+    ghost invariant = { λ p. IsInRange (record { name = p.name; vehicle = p.vehicle; speeds = p.speeds.items; u_turn_penalty = p.u_turn_penalty }) };
+}
+
+impl Profile {
+    /// Reads a settings file, which is TOML (toml.io). Each setting stands once: `version`, if it is
+    /// there, is 1; `name` and `vehicle` are texts that are not empty; `speeds` is a table from values of
+    /// `highway` to whole km/h from 1 to 1000; `u_turn_penalty` is 0 to 1000000 deciseconds, and 0 where
+    /// it is absent. Each fault comes exactly where [`SettingsFault`] says, but for want of memory, which
+    /// may come at any time.
+    #[tactic(auto, unfolding(crate::specs::Settings::settings_of))]
+    pub fn read(alloc: Global, bytes: &[u8]) -> Result<Profile, SettingsFault>
+        ensures { IsReadAs bytes.now result }
+    {
+        let table = tree(alloc, bytes)?;
+        Profile::of(alloc, &table)
+    }
+
+    // The profile of a table of settings, or its first fault.
+    #[tactic(auto, unfolding(crate::specs::Settings::profile_or_fault))]
+    fn of(alloc: Global, table: &Table) -> Result<Profile, SettingsFault>
+        ensures { IsFound (profile_or_fault (table_view table.now)) result }
+    {
+        if let Some(key) = unknown_key(table) {
+            return Err(SettingsFault::UnknownKey(Text::copy_of(alloc, key)?));
+        }
+        if let Some(key) = missing_key(table) {
+            return Err(SettingsFault::Missing(Text::copy_of(alloc, key)?));
+        }
+        if let Some(key) = bad_value(alloc, table)? {
+            return Err(SettingsFault::BadValue(key));
+        }
+        Ok(Profile::of_values(alloc, table)?)
+    }
+
+    // The profile of a table of settings with good values.
+    fn of_values(alloc: Global, table: &Table) -> Result<Profile, AllocError>
+        requires { bad_value (table_view table.now) ≡ None }
+        ensures { IfOk result (λ profile. profile ≡ profile_of (table_view table.now)) }
+    {
+        Ok(Profile {
+            name: Text::copy_of(alloc, text_at(table, "name"))?,
+            vehicle: Text::copy_of(alloc, text_at(table, "vehicle"))?,
+            speeds: speeds_at(alloc, table)?,
+            u_turn_penalty: u_turn_penalty_at(table),
+        })
+    }
+
+    /// How the vehicle may use a way with these tags. A way is routable where its `highway` has a speed.
+    /// `oneway` `yes`, `true` or `1` permits its own direction only, `-1` or `reverse` the other one only,
+    /// `no` both; where it has another value or none, roundabouts and motorways permit their own
+    /// direction only, and other ways both.
+    #[tactic(auto, unfolding(crate::specs::WayRule::way_use))]
+    pub fn way(&self, tags: &Tags) -> WayUse
+        ensures value { result ≡ way_use self.now tags.now }
+        ensures speed { IsTrue (result.forward || result.backward) → IsSpeed result.speed }
+    {
+        match self.speed_on(tags) {
+            Some(speed) => WayUse {
+                forward: !is_backward_only(tags),
+                backward: !is_forward_only(tags),
+                speed,
+            },
+            None => WayUse {
+                forward: false,
+                backward: false,
+                speed: 0,
+            },
+        }
+    }
+
+    // The speed on a way with these tags, None where the vehicle may not use it.
+    fn speed_on(&self, tags: &Tags) -> Option<u32>
+        ensures value { result ≡ speed_on self.now.speeds tags.now }
+        ensures range { IfSome result IsSpeed }
+    {
+        match tags.get("highway") {
+            Some(highway) => speed_of(&self.speeds, highway),
+            None => None,
+        }
+    }
+
+    /// The word by which turn restrictions except this vehicle, as `motorcar`.
+    pub fn vehicle(&self) -> &str
+        ensures { result.now ≡ self.now.vehicle }
+    {
+        self.vehicle.as_str()
+    }
+
+    /// The name of the profile.
+    pub fn name(&self) -> &str
+        ensures { result.now ≡ self.now.name }
+    {
+        self.name.as_str()
+    }
+
+    /// The penalty in deciseconds of a turn back onto the same segment.
+    pub fn u_turn(&self) -> u32
+        ensures value { result ≡ self.now.u_turn_penalty }
+        ensures range { result ≤ 1000000 }
+    {
+        self.u_turn_penalty
+    }
+
+    /// Another profile that says the same.
+    pub fn try_clone(&self, alloc: Global) -> Result<Profile, AllocError>
+        ensures { IfOk result (λ copy. copy ≡ self.now) }
+    {
+        Ok(Profile {
+            name: Text::copy_of(alloc, self.name.as_str())?,
+            vehicle: Text::copy_of(alloc, self.vehicle.as_str())?,
+            speeds: copy_of_speeds(alloc, &self.speeds)?,
+            u_turn_penalty: self.u_turn_penalty,
+        })
+    }
+}
+
+fn copy_of_speeds(alloc: Global, speeds: &[(Text, u32)]) -> Result<Vec<(Text, u32)>, AllocError>
+    ensures { IfOk result (λ copy. copy.items ≡ speeds.now) }
+{
+    let mut copy = Vec::new(alloc);
+    for (highway, speed) in speeds {
+        copy.push((Text::copy_of(alloc, highway.as_str())?, *speed))?;
+    }
+    Ok(copy)
+}

@@ -1,0 +1,81 @@
+//! How a vehicle may use a way.
+
+ghost use Rattle.std.specs.Prelude.{◌≡◌, ◌∷◌, []};
+ghost use Rattle.way_profile.specs.WayTags.{speed_of, says, is_backward_only, is_forward_only, is_oneway, has_other_oneway, is_forward_by_kind};
+
+use road_base::{Tags, Text};
+
+/// The directions of a way that a vehicle may use, and its speed there in thousandths of km/h. Where the
+/// way is not routable for the vehicle both directions are false, and the speed is 0.
+#[derive(Clone, Copy, Debug, PartialEq, Eq)]
+pub struct WayUse {
+    /// Along the way's own direction.
+    pub forward: bool,
+    /// Against it.
+    pub backward: bool,
+    pub speed: u32,
+}
+
+// The speed of a value of `highway`.
+pub(crate) fn speed_of(speeds: &[(Text, u32)], highway: &str) -> Option<u32>
+    ensures { result ≡ speed_of speeds.now highway.now }
+{
+    for entry in speeds {
+        if entry.0.as_str() == highway {
+            return Some(entry.1);
+        }
+    }
+    None
+}
+
+// Whether a way is used against its own direction only.
+pub(crate) fn is_backward_only(tags: &Tags) -> bool
+    ensures { result ≡ is_backward_only tags.now }
+{
+    match tags.get("oneway") {
+        Some(value) => value == "-1" || value == "reverse",
+        None => false,
+    }
+}
+
+// Whether a way is used in its own direction only.
+pub(crate) fn is_forward_only(tags: &Tags) -> bool
+    ensures { result ≡ is_forward_only tags.now }
+{
+    is_oneway(tags) || (!has_other_oneway(tags) && is_forward_by_kind(tags))
+}
+
+fn is_oneway(tags: &Tags) -> bool
+    ensures { result ≡ is_oneway tags.now }
+{
+    match tags.get("oneway") {
+        Some(value) => value == "yes" || value == "true" || value == "1",
+        None => false,
+    }
+}
+
+// Whether `oneway` says that a way isn't used in its own direction only.
+fn has_other_oneway(tags: &Tags) -> bool
+    ensures { result ≡ has_other_oneway tags.now }
+{
+    match tags.get("oneway") {
+        Some(value) => value == "-1" || value == "reverse" || value == "no",
+        None => false,
+    }
+}
+
+// Whether ways of this kind are used in their own direction only where `oneway` says nothing.
+fn is_forward_by_kind(tags: &Tags) -> bool
+    ensures { result ≡ is_forward_by_kind tags.now }
+{
+    has_value(tags, "junction", "roundabout") || has_value(tags, "highway", "motorway")
+}
+
+fn has_value(tags: &Tags, key: &str, word: &str) -> bool
+    ensures { result ≡ says tags.now key.now (word.now ∷ []) }
+{
+    match tags.get(key) {
+        Some(value) => value == word,
+        None => false,
+    }
+}
