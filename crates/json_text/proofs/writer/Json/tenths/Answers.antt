@@ -1,0 +1,6 @@
+use Rattle.std.proofs.Common.{refl}
+use Rattle.json_text.specs.Values.{tenths}
+use Rattle.json_text.proofs.writer.Json.tenths.Goals as goal
+
+pub value-requires-clause-text : goal.value-requires-clause-text
+value-requires-clause-text c = (tenths c.args.n, rw (c.as_bytes.ensures.value, c.format.ensures.text) refl)

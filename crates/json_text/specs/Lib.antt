@@ -1,0 +1,5 @@
+pub mod Numbers
+pub mod Values
+pub mod Drafts
+pub mod Parts
+pub mod Inside
