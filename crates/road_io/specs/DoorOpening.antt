@@ -1,5 +1,5 @@
 -- What is told of the opening of doors, and of their coming back.
-use Rattle.std.specs.Prelude.{◌≡◌, ℕ, ◌+◌, ◌-◌, ◌<◌, ◌≤◌, ◌⊎◌, false, List, [], ◌∷◌, ◌++◌, length, All, Any, Option, None, Some, Result, Ok, Err, option_map, ⊤}
+use Rattle.std.specs.Prelude.{◌≡◌, ℕ, ◌+◌, ◌-◌, ◌<◌, ◌≤◌, ◌⊎◌, false, List, [], ◌∷◌, ◌++◌, length, All, sum_by, Option, None, Some, Result, Ok, Err, option_map, ⊤}
 use Rattle.road_io.specs.declared.failures.DoorsFault.{DoorsFault}
 use Rattle.road_io.specs.declared.failures.DoorsFault.TheVariants.{Failed, Memory}
 use Rattle.road_io.specs.Faults.{Rose}
@@ -60,14 +60,14 @@ OpenGives old (Err Failed) new words views =
     × (new ≡ record old { failed = option_map (λ all. all ++ words ∷ []) old.failed; faults = new.faults })
 OpenGives old (Err Memory) new words views = new ≡ old
 
--- a door that has counted a fault since it was opened
-abbrev pub HasFault : DoorView → Type 0
-HasFault door = 0 < door.faults
+-- how many faults these doors have counted since they were opened
+abbrev pub faults_of : DoorViews → ℕ
+faults_of doors = sum_by (λ door. door.faults) doors.queries + doors.control.faults
 
 -- what `back` leaves: the doors with what they tell, so many fewer out, and a count that rose exactly
--- where one of the doors has a fault
+-- where one of the doors has counted a fault
 pub record BackGives (old : DoorsView) (doors : DoorViews) (new : DoorsView) : Type 0 where
   pub later : old.faults ≤ new.faults
-  pub rose : Any HasFault doors.queries ⊎ HasFault doors.control → Rose old.faults new.faults
-  pub kept : All (λ door. door.faults ≡ 0) doors.queries → doors.control.faults ≡ 0 → new.faults ≡ old.faults
+  pub rose : 0 < faults_of doors → Rose old.faults new.faults
+  pub kept : faults_of doors ≡ 0 → new.faults ≡ old.faults
   pub rest : new ≡ record old { out = old.out - (length doors.queries + 1); back = option_map (λ all. all ++ doors ∷ []) old.back; faults = new.faults }

@@ -3,6 +3,7 @@ pub mod Doorway
 pub mod FailedNames
 pub mod Faults
 pub mod FileNamed
+pub mod MemoryDoor
 pub mod MemoryStates
 pub mod NoDoors
 pub mod Sides

@@ -1,7 +1,8 @@
 -- What contracts see of the forms in memory.
-use Rattle.std.specs.Prelude.{◌≡◌, ℕ, ◌+◌, ◌-◌, ◌^◌, ◌<◌, ◌⊎◌, min, List, [], length, Contains, Some, IsNone}
+use Rattle.std.specs.Prelude.{◌≡◌, ℕ, ◌+◌, ◌-◌, ◌^◌, ◌<◌, ◌⊎◌, min, List, [], length, Contains, Some, IsNone, false}
 use Rattle.road_io.specs.FileNamed.{file_of}
-use Rattle.road_io.specs.Sides.{Opening}
+use Rattle.road_io.specs.Sides.{Opening, Transcript, transcript}
+use Rattle.road_io.specs.Doorway.{DoorView}
 
 -- bytes that are given in pieces: all of them, and those that are left
 pub record ReaderState : Type 0 where
@@ -72,3 +73,19 @@ PutFails sink bytes = Contains sink.failing (next_call sink.calls) ⊎ ((sink.ro
 -- a read fails where its number is named, or where no file has the name
 abbrev pub ReadFails : FilesState → List ℕ → Type 0
 ReadFails files name = Contains files.failing (next_call files.calls) ⊎ IsNone (file_of files.files name)
+
+-- a connection that was not used
+pub record IsUnused (conn : ConnState) : Type 0 where
+  pub input : conn.source.left ≡ conn.source.all
+  pub source : conn.source.faults ≡ 0
+  pub output : conn.sink.written ≡ []
+  pub sink : conn.sink.faults ≡ 0
+
+-- the transcript of a connection
+abbrev pub conn_transcript : ConnState → Transcript
+conn_transcript conn =
+    transcript (conn_opening conn) (Some conn.source.left) (Some conn.sink.written) conn.source.faults conn.sink.faults
+
+-- a door through which so many connections are to come
+abbrev pub new_door : ℕ → DoorView
+new_door waiting = record { transcripts = Some []; waiting = Some waiting; given = 0; finished = 0; closed = false; ended = false; faults = 0 }

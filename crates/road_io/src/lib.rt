@@ -12,6 +12,7 @@ mod failures;
 mod file_access;
 mod gateways;
 mod memory_connections;
+mod memory_doors;
 mod memory_files;
 mod memory_sinks;
 mod memory_sources;
@@ -27,10 +28,11 @@ pub use failures::{DoorsFault, Failed, FileFault};
 pub use file_access::Files;
 pub use gateways::{Gate, OpenGate};
 pub use memory_connections::MemConn;
+pub use memory_doors::{MemCloser, MemDoor};
 pub use memory_files::MemFiles;
 pub use memory_sinks::MemSink;
 pub use memory_sources::MemSource;
-pub use no_doors::{NoCloser, NoDoor, NoDoors};
+pub use no_doors::NoDoors;
 pub use steady_forms::{SteadyFiles, SteadySink, SteadySource};
 
 #[cfg(test)]

@@ -1,13 +1,15 @@
 //! Doors for a program that has none.
 
-ghost use Rattle.std.specs.Prelude.{map};
+ghost use Rattle.std.specs.Prelude.{◌≡◌, ◌<◌, ◌↔◌, IsTrue, map, sum_by};
 ghost use Rattle.road_io.specs.DoorOpening.{asked, door_set, OpenGives, BackGives};
-ghost use Rattle.road_io.specs.NoDoors.{no_doors, no_door};
+ghost use Rattle.road_io.specs.MemoryDoor.{door_view};
+ghost use Rattle.road_io.specs.NoDoors.{no_doors};
 
-use crate::doorways::{Closer, Door, Doors, Opened};
-use crate::failures::{DoorsFault, Failed};
-use crate::memory_connections::MemConn;
+use crate::doorways::{Doors, Opened};
+use crate::failures::DoorsFault;
+use crate::memory_doors::{MemCloser, MemDoor};
 use std::alloc::Global;
+use std::marker::Model;
 use std::net::{Net, TcpListener, TcpStream};
 
 /// No doors: each opening fails, and is counted.
@@ -16,47 +18,29 @@ pub struct NoDoors {
     faults: u64,
 }
 
+impl Model for NoDoors {
+    ghost use Rattle.std.specs.Prelude.{ℕ};
+
+    ghost Value = { ℕ };
+
+    ghost view = { λ d. d.faults };
+}
+
 impl NoDoors {
     /// No doors, none of which was asked for.
-    pub fn new() -> NoDoors {
+    pub fn new() -> NoDoors
+        ensures { result ≡ 0 }
+    {
         NoDoors { faults: 0 }
     }
 }
 
-/// The door that `NoDoors` never gives.
-#[derive(Drop, Debug)]
-pub enum NoDoor {}
-
-impl Door for NoDoor {
-    type Conn = MemConn;
-
-    ghost view = { λ _. no_door };
-
-    fn next(&mut self) -> Result<Option<MemConn>, Failed> {
-        match *self {}
-    }
-
-    fn finish(&mut self, _conn: MemConn) {
-        match *self {}
-    }
-}
-
-/// The closer that `NoDoors` never gives.
-#[derive(Drop, Debug)]
-pub enum NoCloser {}
-
-impl Closer for NoCloser {
-    fn close(self) {
-        match self {}
-    }
-}
-
 impl Doors for NoDoors {
-    type Door = NoDoor;
+    type Door = MemDoor;
 
-    type Closer = NoCloser;
+    type Closer = MemCloser;
 
-    ghost view = { λ d. no_doors d.faults };
+    ghost view = { no_doors };
 
     fn open<R: Net<Listener = TcpListener, Stream = TcpStream>>(
         &mut self,
@@ -65,17 +49,30 @@ impl Doors for NoDoors {
         query: &str,
         control: &str,
         workers: u32,
-    ) -> Result<Opened<NoDoor, NoCloser>, DoorsFault>
-        ensures gives { OpenGives (no_doors self.old.faults) result (no_doors self.new.faults) (asked query.now control.now workers) (λ o. door_set (map (λ _. no_door) o.queries.items) no_door) }
+    ) -> Result<Opened<MemDoor, MemCloser>, DoorsFault>
+        ensures gives { OpenGives (no_doors self.old) result (no_doors self.new) (asked query.now control.now workers) (λ o. door_set (map door_view o.queries.items) (door_view o.control)) }
     {
         self.faults = self.faults.saturating_add(1);
         Err(DoorsFault::Failed)
     }
 
-    fn back(&mut self, queries: Vec<NoDoor>, control: NoDoor)
-        ensures takes { BackGives (no_doors self.old.faults) (door_set (map (λ _. no_door) queries.items) no_door) (no_doors self.new.faults) }
+    fn back(&mut self, queries: Vec<MemDoor>, control: MemDoor)
+        ensures takes { BackGives (no_doors self.old) (door_set (map door_view queries.items) (door_view control)) (no_doors self.new) }
     {
-        let _ = queries;
-        match control {}
+        if control.has_fault() || any_fault(&queries) {
+            self.faults = self.faults.saturating_add(1);
+        }
     }
+}
+
+// Whether one of these doors has counted a fault.
+fn any_fault(doors: &[MemDoor]) -> bool
+    ensures { IsTrue result ↔ (0 < sum_by (λ door. door.faults) (map door_view doors.now)) }
+{
+    for door in doors {
+        if door.has_fault() {
+            return true;
+        }
+    }
+    false
 }

@@ -2,8 +2,9 @@
 //! fail.
 
 use crate::{
-    Conn, Doors, DoorsFault, Failed, FileFault, Files, Gate, MemConn, MemFiles, MemSink, MemSource,
-    NoDoors, OpenGate, Sink, Source, SteadyFiles, SteadySink, SteadySource, put_all,
+    Closer, Conn, Door, Doors, DoorsFault, Failed, FileFault, Files, Gate, MemConn, MemDoor,
+    MemFiles, MemSink, MemSource, NoDoors, OpenGate, Opened, Sink, Source, SteadyFiles, SteadySink,
+    SteadySource, put_all,
 };
 use road_base::Text;
 use std::alloc::{AllocError, Global};
@@ -112,7 +113,37 @@ fn an_open_gate_holds_nobody_and_no_doors_never_open(rt: HostRuntime) {
     let mut doors = NoDoors::new();
     let opened = doors.open(&rt, rt.alloc(), "127.0.0.1:0", "127.0.0.1:0", 1);
     match opened {
-        Ok(opened) => match opened.closer {},
+        Ok(opened) => {
+            let Opened {
+                queries,
+                control,
+                closer,
+            } = opened;
+            doors.back(queries, control);
+            closer.close();
+            assert!(rt; false, "doors that never open");
+        }
         Err(fault) => assert_eq!(rt; fault, DoorsFault::Failed),
     }
+}
+
+#[test]
+fn a_door_ends_once_its_connections_are_used_up(rt: HostRuntime) -> Result<(), AllocError> {
+    let alloc = rt.alloc();
+    let mut waiting = Vec::new(alloc);
+    waiting.push(MemConn::of(source(alloc, b"GET", &[], &[])?, sink(alloc, 10, &[])?))?;
+    let mut door = MemDoor::of(alloc, waiting, Vec::new(alloc))?;
+    let first = door.next();
+    assert!(rt; matches!(&first, Ok(Some(_))));
+    if let Ok(Some(mut conn)) = first {
+        assert_eq!(rt; echo_once(&mut conn, 8), Ok(3));
+        door.finish(conn);
+    }
+    assert!(rt; matches!(&door.next(), Ok(None)));
+    assert!(rt; !door.has_fault());
+    let mut failing = MemDoor::of(alloc, Vec::new(alloc), vec![in alloc; 1_u64]?)?;
+    assert!(rt; failing.next().is_err());
+    assert!(rt; failing.has_fault());
+    assert!(rt; matches!(&failing.next(), Ok(None)));
+    Ok(())
 }
