@@ -1,1 +1,5 @@
+mod Falls
+mod Far
+mod Grown
+mod Offered
 mod Queues

@@ -4,3 +4,4 @@ pub mod Queued
 pub mod Labelled
 pub mod Progress
 pub mod UnderWay
+pub mod Stepping

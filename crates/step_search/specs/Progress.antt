@@ -1,11 +1,9 @@
 -- What holds of a search under way, over its tree of walks, its labels and its queue.
-use Rattle.std.specs.Prelude.{◌≡◌, ℕ, ◌<◌, ◌^◌, Bool, true, false, List, Option, Some, None}
+use Rattle.std.specs.Prelude.{◌≡◌, ℕ, ◌<◌, ◌^◌, ◌⊎◌, Bool, true, false, List, [], ◌∷◌, Option, Some, None}
 use Rattle.std.specs.List.{Contains, slice_get}
 use Rattle.search_graph.specs.Costs.{CostOps, NoDearer}
 use Rattle.search_graph.specs.declared.ends.Start.{Start}
-use Rattle.step_search.specs.Spaces.{Space, HasHop, StepBy, IsSpace}
-use Rattle.step_search.specs.Paths.{AreStarts}
-use Rattle.step_search.specs.Queued.{TakesLeast}
+use Rattle.step_search.specs.Spaces.{Space, HasHop, StepBy}
 use Rattle.step_search.specs.declared.labels.Label.{Label}
 use Rattle.step_search.specs.declared.dijkstra.Node.{Node}
 
@@ -24,6 +22,19 @@ pub record IsNode {C : Type 0} (ops : CostOps C) (S : Space C) (starts : List (S
   pub units : ops.units n.cost (2 ^ 30)
   pub from : ComesFrom ops S starts tree i n n.before
 
+-- each node stands for a walk from a start
+pub record IsTree {C : Type 0} (ops : CostOps C) (S : Space C) (starts : List (Start C)) (tree : List (Node C)) : Type 0 where
+  pub nodes : (i : ℕ) (n : Node C) → slice_get tree i ≡ Some n → IsNode ops S starts tree i n
+
+-- each node names an earlier one, or none
+pub record IsBackward {C : Type 0} (tree : List (Node C)) : Type 0 where
+  pub earlier : (i j : ℕ) (n : Node C) → slice_get tree i ≡ Some n → n.before ≡ Some j → j < i
+
+-- the vertices from a node back to where its walk begins
+abbrev pub IsTrail : {C : Type 0} → List (Node C) → Option ℕ → List ℕ → Type 0
+IsTrail tree at [] = at ≡ None
+IsTrail {C} tree at (v ∷ vs) = (i : ℕ) × (n : Node C) × (at ≡ Some i) × (slice_get tree i ≡ Some n) × (v ≡ n.vertex) × IsTrail tree n.before vs
+
 -- the label l of v is one hop behind a node
 abbrev pub IsLabel : {C : Type 0} → CostOps C → Space C → List (Node C) → ℕ → Label C → Type 0
 IsLabel {C} ops S tree v l = (m : Node C) × (slice_get tree l.node ≡ Some m) × StepBy ops S m.vertex v m.cost l.cost
@@ -37,20 +48,17 @@ abbrev pub SettledWithin : {C : Type 0} → CostOps C → (ℕ → Option (Label
 SettledWithin {C} ops label settled c = (v : ℕ) (l : Label C) → settled v ≡ true → label v ≡ Some l → NoDearer ops l.cost c
 
 -- where there was a label there is one that costs no more
-abbrev pub LabelsFall : {C : Type 0} → CostOps C → (ℕ → Option (Label C)) → (ℕ → Option (Label C)) → Type 0
-LabelsFall {C} ops old new = (v : ℕ) (l : Label C) → old v ≡ Some l → LabelWithin ops new v l.cost
+pub record LabelsFall {C : Type 0} (ops : CostOps C) (old new : ℕ → Option (Label C)) : Type 0 where
+  pub within : (v : ℕ) (l : Label C) → old v ≡ Some l → LabelWithin ops new v l.cost
 
 -- each hop out of u, where c is paid, finds a label of its head that costs no more than what is paid there
-abbrev pub Expanded : {C : Type 0} → CostOps C → Space C → (ℕ → Option (Label C)) → ℕ → C → Type 0
-Expanded {C} ops S label u c = (v : ℕ) (s : C) → HasHop S u v s → LabelWithin ops label v (ops.plus c s)
+pub record Expanded {C : Type 0} (ops : CostOps C) (S : Space C) (label : ℕ → Option (Label C)) (u : ℕ) (c : C) : Type 0 where
+  pub finds : (v : ℕ) (s : C) → HasHop S u v s → LabelWithin ops label v (ops.plus c s)
 
--- Each node is a walk and each label one hop behind a node; a settled vertex has a node at its label's cost;
--- any other labelled vertex stands in the queue with its label; a queue's entry is no cheaper than its vertex's label,
--- nor than any settled vertex's.
-pub record IsSearch {C : Type 0} (ops : CostOps C) (S : Space C) (starts : List (Start C)) (tree : List (Node C)) (label : ℕ → Option (Label C)) (settled : ℕ → Bool) (queue : List (C × ℕ)) : Type 0 where
-  pub space : IsSpace ops S
-  pub fit : AreStarts ops S starts
-  pub nodes : (i : ℕ) (n : Node C) → slice_get tree i ≡ Some n → IsNode ops S starts tree i n
+-- Each label is one hop behind a node; a settled vertex has a node at its label's cost; any other labelled vertex
+-- stands in the queue with its label; an entry of the queue is no cheaper than its vertex's label, nor than any
+-- settled vertex's.
+pub record IsFront {C : Type 0} (ops : CostOps C) (S : Space C) (tree : List (Node C)) (label : ℕ → Option (Label C)) (settled : ℕ → Bool) (queue : List (C × ℕ)) : Type 0 where
   pub labelled : (v : ℕ) (l : Label C) → label v ≡ Some l → IsLabel ops S tree v l
   pub in_tree : (v : ℕ) → settled v ≡ true → (l : Label C) × (label v ≡ Some l) × HasNode tree v l.cost
   pub queued : (v : ℕ) (l : Label C) → settled v ≡ false → label v ≡ Some l → Contains queue (l.cost, v)
@@ -58,16 +66,9 @@ pub record IsSearch {C : Type 0} (ops : CostOps C) (S : Space C) (starts : List 
   pub ordered : (k : C) (v : ℕ) → Contains queue (k, v) → SettledWithin ops label settled k
 
 -- each node is expanded
-abbrev pub NodesExpanded : {C : Type 0} → CostOps C → Space C → List (Node C) → (ℕ → Option (Label C)) → Type 0
-NodesExpanded {C} ops S tree label = (i : ℕ) (n : Node C) → slice_get tree i ≡ Some n → Expanded ops S label n.vertex n.cost
+pub record NodesExpanded {C : Type 0} (ops : CostOps C) (S : Space C) (tree : List (Node C)) (label : ℕ → Option (Label C)) : Type 0 where
+  pub each : (i : ℕ) (n : Node C) → slice_get tree i ≡ Some n → Expanded ops S label n.vertex n.cost
 
 -- each of these starts where a path may begin has a node
-abbrev pub StartsIn : {C : Type 0} → Space C → List (Start C) → List (Node C) → Type 0
-StartsIn {C} S starts tree = (s : Start C) → Contains starts s → S.May s.vertex → HasNode tree s.vertex s.cost
-
--- (k, v) was taken from a queue as its least entry, and v isn't settled
-pub record IsNext {C : Type 0} (ops : CostOps C) (S : Space C) (starts : List (Start C)) (tree : List (Node C)) (label : ℕ → Option (Label C)) (settled : ℕ → Bool) (queue : List (C × ℕ)) (k : C) (v : ℕ) : Type 0 where
-  pub before : List (C × ℕ)
-  pub search : IsSearch ops S starts tree label settled before
-  pub takes : TakesLeast ops before queue (k, v)
-  pub unsettled : settled v ≡ false
+pub record StartsIn {C : Type 0} (S : Space C) (starts : List (Start C)) (tree : List (Node C)) : Type 0 where
+  pub node : (s : Start C) → Contains starts s → S.May s.vertex → HasNode tree s.vertex s.cost

@@ -1,14 +1,17 @@
 //! The search: a tree of walks, the labels of the vertices, and the queue.
 
-ghost use Rattle.std.specs.Prelude.{◌≡◌, ℕ, ◌<◌, length, Some, IfOk, OnOk};
-ghost use Rattle.std.specs.List.{slice_get};
-ghost use Rattle.step_search.specs.Spaces.{IsSpace};
+ghost use Rattle.std.specs.Prelude.{◌≡◌, ℕ, ◌<◌, ◌^◌, List, [], true, false, reverse, length, Some, IfSome, IfNone, IfOk, OnOk};
+ghost use Rattle.std.specs.Bool.{OnTrue, OnFalse};
+ghost use Rattle.std.specs.List.{Contains, slice_get};
+ghost use Rattle.step_search.specs.Spaces.{HasHop, IsSpace};
 ghost use Rattle.step_search.specs.Paths.{AreStarts, IsAnswer};
 ghost use Rattle.step_search.specs.Labelled.{label_of, settled_of};
+ghost use Rattle.step_search.specs.Progress.{LabelWithin, Expanded, IsBackward, IsFront, IsTrail};
+ghost use Rattle.step_search.specs.Stepping.{Begins, Improves, IsAtWork, IsNearest, IsTaken, NoneSettled, Offers, OnlyFalls, Settles, Skips};
 ghost use Rattle.step_search.specs.UnderWay.{IsUnderWay, IsDone};
 
-use crate::hops::Steps;
-use crate::labels::Labels;
+use crate::hops::{Hop, Steps};
+use crate::labels::{Label, Labels};
 use crate::queue::Queue;
 use search_graph::{Cost, Start};
 use std::alloc::{AllocError, Global};
@@ -48,14 +51,21 @@ impl<C: Cost> Search<C> {
         requires starts { AreStarts C.ops (T.space steps.now) starts.now }
         ensures { IfOk result (IsUnderWay C.ops (T.space steps.now) starts.now) }
     {
-        let _ = alloc;
-        let _ = steps;
-        let _ = starts;
-        Err(AllocError)
+        let mut search = Search {
+            tree: Vec::new(alloc),
+            labels: Labels::new(alloc),
+            queue: Queue::new(alloc),
+        };
+        for start in starts {
+            search.begin_at(steps, *start)?;
+        }
+        Ok(search)
     }
 
     /// Goes on until `until` is settled or nothing is left to settle. It ends in the error where memory runs
     /// out, and the search is then of no use any more.
+    ///
+    /// `steps` and `starts` are those with which the search began.
     pub fn run<T: Steps<C>>(
         &mut self,
         steps: &T,
@@ -67,14 +77,20 @@ impl<C: Cost> Search<C> {
         ensures under_way { OnOk result (IsUnderWay C.ops (T.space steps.now) starts.now self.new) }
         ensures done { OnOk result (IsDone self.new until) }
     {
-        let _ = steps;
         let _ = starts;
-        let _ = until;
-        Err(AllocError)
+        while !self.labels.is_settled(until) {
+            match self.nearest() {
+                Some(v) => self.settle(steps, v)?,
+                None => return Ok(()),
+            }
+        }
+        Ok(())
     }
 
     /// A cheapest path to `target`, or `None` exactly where there is none, once the search has run until it.
     /// It answers the error where memory runs out.
+    ///
+    /// `steps` and `starts` are those with which the search began.
     pub fn answer<T: Steps<C>>(
         &self,
         alloc: Global,
@@ -86,12 +102,229 @@ impl<C: Cost> Search<C> {
         requires done { IsDone self.now target }
         ensures { IfOk result (IsAnswer C.ops (T.space steps.now) starts.now target) }
     {
-        let _ = alloc;
         let _ = steps;
         let _ = starts;
-        let _ = target;
-        Err(AllocError)
+        match self.labels.label(target) {
+            None => Ok(None),
+            Some(label) => {
+                let mut walk = walk_to(alloc, self.tree.as_slice(), label.node)?;
+                walk.push(target)?;
+                let reached = Reached {
+                    cost: label.cost,
+                    walk,
+                };
+                Ok(Some(reached))
+            }
+        }
     }
+
+    // Begins at one start, where a path may begin there.
+    fn begin_at<T: Steps<C>>(&mut self, steps: &T, start: Start<C>) -> Result<(), AllocError>
+        requires ready { T.ready steps.now }
+        requires space { IsSpace C.ops (T.space steps.now) }
+        requires vertex { start.vertex < (T.space steps.now).vertices }
+        requires units { C.ops.units start.cost 1 }
+        requires front { IsFront C.ops (T.space steps.now) self.old.tree.items (label_of self.old.labels) (settled_of self.old.labels) self.old.queue }
+        requires unsettled { NoneSettled (settled_of self.old.labels) }
+        ensures front { OnOk result (IsFront C.ops (T.space steps.now) self.new.tree.items (label_of self.new.labels) (settled_of self.new.labels) self.new.queue) }
+        ensures begins { OnOk result (Begins C.ops (T.space steps.now) self.old self.new start) }
+    {
+        if !steps.may_begin(start.vertex) {
+            return Ok(());
+        }
+        let at = self.tree.len();
+        let node = Node {
+            vertex: start.vertex,
+            cost: start.cost,
+            before: None,
+        };
+        self.tree.push(node)?;
+        self.expand(steps, at, node)?;
+        Ok(())
+    }
+
+    // Takes the entry of the least key whose vertex isn't settled, and gives the vertex.
+    fn nearest(&mut self) -> Option<u32>
+        ensures some { IfSome result (IsNearest C.ops (settled_of self.old.labels) self.old.queue self.new.queue) }
+        ensures none { IfNone result (Skips (settled_of self.old.labels) self.old.queue self.new.queue) }
+        ensures empty { IfNone result (self.new.queue ≡ []) }
+        ensures labels { self.new.labels ≡ self.old.labels }
+        ensures tree { self.new.tree.items ≡ self.old.tree.items }
+    {
+        while let Some((_, v)) = self.queue.pop() {
+            if !self.labels.is_settled(v) {
+                return Some(v);
+            }
+        }
+        None
+    }
+
+    // Settles the vertex, which was taken from the queue, at its label.
+    fn settle<T: Steps<C>>(&mut self, steps: &T, v: u32) -> Result<(), AllocError>
+        requires ready { T.ready steps.now }
+        requires taken { IsTaken C.ops (T.space steps.now) self.old v }
+        ensures front { OnOk result (IsFront C.ops (T.space steps.now) self.new.tree.items (label_of self.new.labels) (settled_of self.new.labels) self.new.queue) }
+        ensures settles { OnOk result (Settles C.ops self.old self.new v) }
+        ensures expanded { OnOk result ((l : _) → label_of self.old.labels v ≡ Some l → Expanded C.ops (T.space steps.now) (label_of self.new.labels) v l.cost) }
+    {
+        let label = self.labels.label(v).unwrap();
+        let at = self.tree.len();
+        let node = Node {
+            vertex: v,
+            cost: label.cost,
+            before: Some(label.node),
+        };
+        self.tree.push(node)?;
+        self.labels.settle(v);
+        self.expand(steps, at, node)?;
+        Ok(())
+    }
+
+    // Offers a label along each hop out of the node.
+    fn expand<T: Steps<C>>(&mut self, steps: &T, at: usize, node: Node<C>) -> Result<(), AllocError>
+        requires ready { T.ready steps.now }
+        requires at_work { IsAtWork C.ops (T.space steps.now) self.old at node }
+        ensures at_work { OnOk result (IsAtWork C.ops (T.space steps.now) self.new at node) }
+        ensures falls { OnOk result (OnlyFalls C.ops self.old self.new) }
+        ensures expanded { OnOk result (Expanded C.ops (T.space steps.now) (label_of self.new.labels) node.vertex node.cost) }
+    {
+        self.expand_arcs(steps, at, node)?;
+        self.expand_row(steps, at, node)?;
+        Ok(())
+    }
+
+    // Offers a label along each arc out of the node.
+    fn expand_arcs<T: Steps<C>>(
+        &mut self,
+        steps: &T,
+        at: usize,
+        node: Node<C>,
+    ) -> Result<(), AllocError>
+        requires ready { T.ready steps.now }
+        requires at_work { IsAtWork C.ops (T.space steps.now) self.old at node }
+        ensures at_work { OnOk result (IsAtWork C.ops (T.space steps.now) self.new at node) }
+        ensures falls { OnOk result (OnlyFalls C.ops self.old self.new) }
+        ensures found { OnOk result ((i w : ℕ) (s : _) → (T.space steps.now).Arc node.vertex i w s → LabelWithin C.ops (label_of self.new.labels) w (C.ops.plus node.cost s)) }
+    {
+        for arc in steps.arcs(node.vertex) {
+            self.relax_arc(steps, at, node, *arc)?;
+        }
+        Ok(())
+    }
+
+    // Offers a label along each place of the node's row.
+    fn expand_row<T: Steps<C>>(
+        &mut self,
+        steps: &T,
+        at: usize,
+        node: Node<C>,
+    ) -> Result<(), AllocError>
+        requires ready { T.ready steps.now }
+        requires at_work { IsAtWork C.ops (T.space steps.now) self.old at node }
+        ensures at_work { OnOk result (IsAtWork C.ops (T.space steps.now) self.new at node) }
+        ensures falls { OnOk result (OnlyFalls C.ops self.old self.new) }
+        ensures found { OnOk result ((j w : ℕ) (s : _) → j < (T.space steps.now).row node.vertex → (T.space steps.now).Row node.vertex j w s → LabelWithin C.ops (label_of self.new.labels) w (C.ops.plus node.cost s)) }
+    {
+        for place in 0..steps.row(node.vertex) {
+            self.relax_place(steps, at, node, place)?;
+        }
+        Ok(())
+    }
+
+    // Offers a label along one arc.
+    fn relax_arc<T: Steps<C>>(
+        &mut self,
+        steps: &T,
+        at: usize,
+        node: Node<C>,
+        arc: u32,
+    ) -> Result<(), AllocError>
+        requires ready { T.ready steps.now }
+        requires at_work { IsAtWork C.ops (T.space steps.now) self.old at node }
+        requires named { (T.space steps.now).Name node.vertex arc }
+        ensures at_work { OnOk result (IsAtWork C.ops (T.space steps.now) self.new at node) }
+        ensures falls { OnOk result (OnlyFalls C.ops self.old self.new) }
+        ensures found { OnOk result ((w : ℕ) (s : _) → (T.space steps.now).Arc node.vertex arc w s → LabelWithin C.ops (label_of self.new.labels) w (C.ops.plus node.cost s)) }
+    {
+        match steps.by_arc(node.vertex, arc) {
+            Some(hop) => {
+                self.offer(at, node.cost, hop)?;
+                Ok(())
+            }
+            None => Ok(()),
+        }
+    }
+
+    // Offers a label along one place of the row.
+    fn relax_place<T: Steps<C>>(
+        &mut self,
+        steps: &T,
+        at: usize,
+        node: Node<C>,
+        place: u32,
+    ) -> Result<(), AllocError>
+        requires ready { T.ready steps.now }
+        requires at_work { IsAtWork C.ops (T.space steps.now) self.old at node }
+        requires place { place < (T.space steps.now).row node.vertex }
+        ensures at_work { OnOk result (IsAtWork C.ops (T.space steps.now) self.new at node) }
+        ensures falls { OnOk result (OnlyFalls C.ops self.old self.new) }
+        ensures found { OnOk result ((w : ℕ) (s : _) → (T.space steps.now).Row node.vertex place w s → LabelWithin C.ops (label_of self.new.labels) w (C.ops.plus node.cost s)) }
+    {
+        match steps.by_row(node.vertex, place) {
+            Some(hop) => {
+                self.offer(at, node.cost, hop)?;
+                Ok(())
+            }
+            None => Ok(()),
+        }
+    }
+
+    // Offers to the head of a hop the label that the hop gives it, behind the node at `at` where `paid` is paid.
+    fn offer(&mut self, at: usize, paid: C, hop: Hop<C>) -> Result<(), AllocError>
+        requires fits { C.ops.units (C.ops.plus paid hop.cost) (2 ^ 31) }
+        requires fixed { settled_of self.old.labels hop.head ≡ true → LabelWithin C.ops (label_of self.old.labels) hop.head (C.ops.plus paid hop.cost) }
+        ensures offers { OnOk result (Offers C.ops (label_of self.old.labels) (label_of self.new.labels) (settled_of self.old.labels) self.old.queue self.new.queue hop.head (record { cost = C.ops.plus paid hop.cost; node = at })) }
+        ensures settled { OnOk result (settled_of self.new.labels ≡ settled_of self.old.labels) }
+        ensures tree { OnOk result (self.new.tree.items ≡ self.old.tree.items) }
+    {
+        let label = Label {
+            cost: paid.plus(hop.cost),
+            node: at,
+        };
+        if !self.improves(hop.head, label.cost) {
+            return Ok(());
+        }
+        self.labels.put(hop.head, label)?;
+        self.queue.push(label.cost, hop.head)?;
+        Ok(())
+    }
+
+    // Whether `cost` is less than what the vertex's label costs, or it has none.
+    fn improves(&self, v: u32, cost: C) -> bool
+        ensures yes { OnTrue result (Improves C.ops (label_of self.now.labels) v cost) }
+        ensures no { OnFalse result (LabelWithin C.ops (label_of self.now.labels) v cost) }
+    {
+        match self.labels.label(v) {
+            Some(label) => cost.cmp(&label.cost).is_lt(),
+            None => true,
+        }
+    }
+}
+
+// The vertices of the walk that the node at `at` stands for.
+fn walk_to<C: Cost>(alloc: Global, tree: &[Node<C>], at: usize) -> Result<Vec<u32>, AllocError>
+    requires backward { IsBackward tree.now }
+    requires in_range { at < length tree.now }
+    ensures { IfOk result (λ walk. (trail : List ℕ) × IsTrail tree.now (Some at) trail × (walk.items ≡ reverse trail)) }
+{
+    let mut walk = Vec::new(alloc);
+    let mut next = Some(at);
+    while let Some(i) = next {
+        walk.push(tree[i].vertex)?;
+        next = tree[i].before;
+    }
+    walk.reverse();
+    Ok(walk)
 }
 
 /// A cheapest path from the starts to each target, in the order of the targets, or `None` exactly where there
@@ -110,9 +343,11 @@ pub fn least<C: Cost, T: Steps<C>>(
     ensures one_each { IfOk result (λ found. length found.items ≡ length targets.now) }
     ensures least { IfOk result (λ found. (k t : ℕ) (answer : _) → slice_get targets.now k ≡ Some t → slice_get found.items k ≡ Some answer → IsAnswer C.ops (T.space steps.now) starts.now t answer) }
 {
-    let _ = alloc;
-    let _ = steps;
-    let _ = starts;
-    let _ = targets;
-    Err(AllocError)
+    let mut search = Search::begin(alloc, steps, starts)?;
+    let mut found = Vec::new(alloc);
+    for target in targets {
+        search.run(steps, starts, *target)?;
+        found.push(search.answer(alloc, steps, starts, *target)?)?;
+    }
+    Ok(found)
 }

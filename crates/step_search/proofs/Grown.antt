@@ -1,0 +1,124 @@
+-- The tree with one node more, and the front of the search when a vertex is settled.
+use Rattle.std.proofs.Common.{◌≡◌, ℕ, zero, suc, ◌+◌, ◌^◌, ◌<◌, ◌≤◌, ◌⊎◌, inl, inr, Bool, true, false, nat_eq, Option, Some, None, List, [], ◌∷◌, ◌++◌, length, refl, sym, ◌∙◌, ap, subst, true≢false, eq-eqb, arith}
+use Rattle.std.specs.List.{Contains, slice_get}
+use Rattle.std.proofs.lemmas.Option.{same_Some, none-some}
+use Rattle.search_graph.specs.Costs.{CostOps, CostLaws, NoDearer}
+use Rattle.search_graph.specs.declared.ends.Start.{Start}
+use Rattle.search_graph.proofs.Order.{le_refl, le_trans}
+use Rattle.step_search.specs.Spaces.{Space, StepBy, IsSpace}
+use Rattle.step_search.specs.Queued.{TakesLeast}
+use Rattle.step_search.specs.Labelled.{changed, label_of, settled_of}
+use Rattle.step_search.specs.Progress.{HasNode, ComesFrom, IsNode, IsTree, IsLabel, LabelWithin, LabelsFall, SettledWithin, Expanded, NodesExpanded, StartsIn, IsFront}
+use Rattle.step_search.specs.Stepping.{IsAtWork, IsTaken, NoneSettled, OnlyFalls, Settles, Begins, node_of, start_node}
+use Rattle.step_search.specs.declared.labels.Label.{Label}
+use Rattle.step_search.specs.declared.dijkstra.Node.{Node}
+use Rattle.step_search.specs.declared.dijkstra.Search.{Search}
+use Rattle.step_search.proofs.Falls.{by_truth, same_place, changed-here, changed-there}
+
+module _ {X : Type 0} where
+  -- what a list has, it has with one more
+  pub slice_get-left : (xs : List X) (y : X) (i : ℕ) (n : X) → slice_get xs i ≡ Some n → slice_get (xs ++ y ∷ []) i ≡ Some n
+  slice_get-left [] y i n h = absurd (none-some n h)
+  slice_get-left (x ∷ xs) y zero n h = h
+  slice_get-left (x ∷ xs) y (suc i) n h = slice_get-left xs y i n h
+
+  pub slice_get-last : (xs : List X) (y : X) → slice_get (xs ++ y ∷ []) (length xs) ≡ Some y
+  slice_get-last [] y = refl
+  slice_get-last (x ∷ xs) y = slice_get-last xs y
+
+  pub slice_get-cases : (xs : List X) (y : X) (i : ℕ) (n : X) → slice_get (xs ++ y ∷ []) i ≡ Some n → (slice_get xs i ≡ Some n) ⊎ ((i ≡ length xs) × (y ≡ n))
+  slice_get-cases [] y zero n h = inr (refl, same_Some y n h)
+  slice_get-cases [] y (suc i) n h = absurd (none-some n h)
+  slice_get-cases (x ∷ xs) y zero n h = inl h
+  slice_get-cases (x ∷ xs) y (suc i) n h = elim (slice_get-cases xs y i n h) [ inl k ↦ inl k | inr k ↦ inr (ap suc k.0, k.1) ]
+
+module _ {C : Type 0} where
+  pub HasNode-left : (tree : List (Node C)) (n : Node C) (u : ℕ) (c : C) → HasNode tree u c → HasNode (tree ++ n ∷ []) u c
+  HasNode-left tree n u c h = (h.0, h.1, slice_get-left tree n h.0 h.1 h.2, h.3, h.4)
+
+  pub HasNode-last : (tree : List (Node C)) (n : Node C) → HasNode (tree ++ n ∷ []) n.vertex n.cost
+  HasNode-last tree n = (length tree, n, slice_get-last tree n, refl, refl)
+
+  pub StartsIn-left : (S : Space C) (starts : List (Start C)) (tree : List (Node C)) (n : Node C) → StartsIn S starts tree → StartsIn S starts (tree ++ n ∷ [])
+  StartsIn-left S starts tree n h = record { node = λ s k m. HasNode-left tree n s.vertex s.cost (h.node s k m) }
+
+module _ {C : Type 0} (ops : CostOps C) (S : Space C) where
+  ComesFrom-left : (starts : List (Start C)) (tree : List (Node C)) (n : Node C) (i : ℕ) (m : Node C) (o : Option ℕ) → ComesFrom ops S starts tree i m o → ComesFrom ops S starts (tree ++ n ∷ []) i m o
+  ComesFrom-left starts tree n i m None h = h
+  ComesFrom-left starts tree n i m (Some j) h = (h.0, h.1, slice_get-left tree n j h.1 h.2, h.3)
+
+  -- a node that is a walk of the tree so far makes it grow
+  pub IsTree-push : (starts : List (Start C)) (tree : List (Node C)) (n : Node C) → IsTree ops S starts tree → IsNode ops S starts tree (length tree) n → IsTree ops S starts (tree ++ n ∷ [])
+  IsTree-push starts tree n t h = record {
+    nodes = λ i m k. elim (slice_get-cases tree n i m k) [
+        inl q ↦ let was = t.nodes i m q in record { vertex = was.vertex; units = was.units; from = ComesFrom-left starts tree n i m m.before was.from }
+      | inr q ↦ subst (λ (x : Node C). IsNode ops S starts (tree ++ n ∷ []) i x) q.1 (subst (λ (x : ℕ). IsNode ops S starts (tree ++ n ∷ []) x n) (sym q.0)
+          (record { vertex = h.vertex; units = h.units; from = ComesFrom-left starts tree n (length tree) n n.before h.from })) ];
+  }
+
+  pub NodesExpanded-push : (tree : List (Node C)) (n : Node C) (label : ℕ → Option (Label C)) → NodesExpanded ops S tree label → Expanded ops S label n.vertex n.cost → NodesExpanded ops S (tree ++ n ∷ []) label
+  NodesExpanded-push tree n label e h = record {
+    each = λ i m k. elim (slice_get-cases tree n i m k) [
+        inl q ↦ e.each i m q
+      | inr q ↦ subst (λ (x : Node C). Expanded ops S label x.vertex x.cost) q.1 h ];
+  }
+
+  IsLabel-left : (tree : List (Node C)) (n : Node C) (v : ℕ) (l : Label C) → IsLabel ops S tree v l → IsLabel ops S (tree ++ n ∷ []) v l
+  IsLabel-left tree n v l h = (h.0, slice_get-left tree n l.node h.0 h.1, h.2)
+
+  pub IsFront-push : (tree : List (Node C)) (n : Node C) (label : ℕ → Option (Label C)) (settled : ℕ → Bool) (queue : List (C × ℕ)) → IsFront ops S tree label settled queue → IsFront ops S (tree ++ n ∷ []) label settled queue
+  IsFront-push tree n label settled queue f = record {
+    labelled = λ v l h. IsLabel-left tree n v l (f.labelled v l h);
+    in_tree = λ v s. let r = f.in_tree v s in (r.0, r.1, HasNode-left tree n v r.0.cost r.2);
+    queued = f.queued;
+    keys = f.keys;
+    ordered = f.ordered;
+  }
+
+not_itself : (v u : ℕ) → nat_eq v u ≡ false → v ≡ u → ⊥
+not_itself v u h e = true≢false (sym (eq-eqb v u e) ∙ h)
+
+module _ {C : Type 0} {ops : CostOps C} (laws : CostLaws ops) (S : Space C) (tree : List (Node C)) (label : ℕ → Option (Label C)) (settled : ℕ → Bool) (before queue : List (C × ℕ)) (key : C) (v : ℕ)
+    (front : IsFront ops S tree label settled before) (takes : TakesLeast ops before queue (key, v)) (unsettled : settled v ≡ false) where
+  -- what was taken has a label, and it is within the key
+  pub taken_label : LabelWithin ops label v key
+  taken_label = front.keys key v ((takes.taken (key, v)).1 (inl refl))
+
+  module _ (l : Label C) (has : label v ≡ Some l) where
+    -- and within what else stands in the queue
+    pub label_least : (k : C) (u : ℕ) → Contains before (k, u) → NoDearer ops l.cost k
+    label_least k u h =
+        let e : taken_label.0 ≡ l = same_Some taken_label.0 l (sym taken_label.1 ∙ has) in
+        le_trans laws l.cost key k (subst (λ (x : Label C). NoDearer ops x.cost key) e taken_label.2) (takes.least (k, u) h)
+
+    -- the labels of what is settled from now on are within it
+    pub settle-within : SettledWithin ops label (changed settled v true) l.cost
+    settle-within u m s h = elim (same_place v u) [
+        inl k ↦ let e : l ≡ m = same_Some l m (sym has ∙ ap label k ∙ h) in subst (λ (x : Label C). NoDearer ops x.cost l.cost) e (le_refl laws l.cost)
+      | inr k ↦ le_trans laws m.cost key l.cost (front.ordered key v ((takes.taken (key, v)).1 (inl refl)) u m (sym (changed-there settled v true u k) ∙ s) h) (takes.least (l.cost, v) (front.queued v l unsettled has)) ]
+
+    settle-ordered : (k : C) (u : ℕ) → Contains queue (k, u) → SettledWithin ops label (changed settled v true) k
+    settle-ordered k u h w m s g = elim (same_place v w) [
+        inl e ↦ let q : l ≡ m = same_Some l m (sym has ∙ ap label e ∙ g) in subst (λ (x : Label C). NoDearer ops x.cost k) q (label_least k u ((takes.taken (k, u)).1 (inr h)))
+      | inr e ↦ front.ordered k u ((takes.taken (k, u)).1 (inr h)) w m (sym (changed-there settled v true w e) ∙ s) g ]
+
+    settle-queued : (u : ℕ) (m : Label C) → changed settled v true u ≡ false → label u ≡ Some m → Contains queue (m.cost, u)
+    settle-queued u m s h = elim (same_place v u) [
+        inl k ↦ absurd (true≢false (sym (changed-here settled v true u k) ∙ s))
+      | inr k ↦ elim ((takes.taken (m.cost, u)).0 (front.queued u m (sym (changed-there settled v true u k) ∙ s) h)) [
+            inl e ↦ absurd (not_itself v u k (sym (ap (λ (p : C × ℕ). p.1) e)))
+          | inr q ↦ q ] ]
+
+    settle-in_tree : (u : ℕ) → changed settled v true u ≡ true → (m : Label C) × (label u ≡ Some m) × HasNode (tree ++ node_of v l ∷ []) u m.cost
+    settle-in_tree u s = elim (same_place v u) [
+        inl k ↦ (l, sym (ap label k) ∙ has, subst (λ (x : ℕ). HasNode (tree ++ node_of v l ∷ []) x l.cost) k (HasNode-last tree (node_of v l)))
+      | inr k ↦ let r = front.in_tree u (sym (changed-there settled v true u k) ∙ s) in (r.0, r.1, HasNode-left tree (node_of v l) u r.0.cost r.2) ]
+
+    pub settle-front : IsFront ops S (tree ++ node_of v l ∷ []) label (changed settled v true) queue
+    settle-front = record {
+      labelled = λ u m h. IsLabel-left ops S tree (node_of v l) u m (front.labelled u m h);
+      in_tree = settle-in_tree;
+      queued = settle-queued;
+      keys = λ k u h. front.keys k u ((takes.taken (k, u)).1 (inr h));
+      ordered = settle-ordered;
+    }

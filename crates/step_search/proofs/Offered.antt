@@ -1,0 +1,173 @@
+-- What an offered label leaves: the front of the search, with labels that have only fallen.
+use Rattle.std.proofs.Common.{◌≡◌, ℕ, ◌+◌, ◌^◌, ◌<◌, ◌≤◌, ◌⊎◌, inl, inr, Bool, true, false, cond, nat_eq, Option, Some, None, List, refl, sym, ◌∙◌, ap, subst, true≢false, arith}
+use Rattle.std.specs.Bool.{OnFalse}
+use Rattle.std.specs.List.{Contains, slice_get}
+use Rattle.std.specs.Ordering.{is_lt}
+use Rattle.std.specs.declared.cmp.Ordering.{Ordering}
+use Rattle.std.proofs.lemmas.Option.{same_Some}
+use Rattle.search_graph.specs.Costs.{CostOps, CostLaws, NoDearer}
+use Rattle.search_graph.proofs.Order.{le_refl, le_trans, le_from_less, le_from_not_less, not_both, plus_grows}
+use Rattle.step_search.specs.Spaces.{Space, HasHop, IsSpace}
+use Rattle.step_search.specs.Queued.{Adds}
+use Rattle.step_search.specs.Labelled.{changed, label_of, settled_of}
+use Rattle.step_search.specs.Progress.{LabelWithin, LabelsFall, SettledWithin, IsLabel, IsFront}
+use Rattle.step_search.specs.Stepping.{Improves, Offers, IsAtWork, OnlyFalls}
+use Rattle.step_search.specs.Stepping.Offers.{left, put}
+use Rattle.step_search.specs.declared.labels.Label.{Label}
+use Rattle.step_search.specs.declared.dijkstra.Node.{Node}
+use Rattle.step_search.specs.declared.dijkstra.Search.{Search}
+use Rattle.step_search.specs.declared.hops.Hop.{Hop}
+use Rattle.step_search.proofs.Falls.{by_truth, same_place, changed-here, changed-there, LabelWithin-falls, LabelsFall-same, LabelsFall-trans, SettledWithin-falls}
+
+OnFalse_from : (b : Bool) (P : Type 0) → (b ≡ false → P) → OnFalse b P
+OnFalse_from true P f = tt
+OnFalse_from false P f = f refl
+
+module _ {C : Type 0} {ops : CostOps C} (laws : CostLaws ops) where
+  -- a cost that isn't less than the label's finds the label within it
+  pub within_unless_less : (cmp : C → C → Ordering) → ops.cmp ≡ cmp → (label : ℕ → Option (Label C)) (v : ℕ) (c : C) (l : Label C) (b : Bool) →
+      label v ≡ Some l → b ≡ is_lt (cmp c l.cost) → OnFalse b (LabelWithin ops label v c)
+  within_unless_less cmp same label v c l b h e =
+      OnFalse_from b (LabelWithin ops label v c) (λ n. (l, h, le_from_not_less laws c l.cost (ap (λ (f : C → C → Ordering). is_lt (f c l.cost)) same ∙ sym e ∙ n)))
+
+  -- what improves on a label that is within it would be less than itself
+  pub unsettled_if_improved : (label : ℕ → Option (Label C)) (settled : ℕ → Bool) (v : ℕ) (c : C) →
+      (settled v ≡ true → LabelWithin ops label v c) → Improves ops label v c → settled v ≡ false
+  unsettled_if_improved label settled v c w b = by_truth (settled v) (λ s. let h = w s in absurd (not_both laws h.0.cost c h.2 (b h.0 h.1))) (λ s. s)
+
+module _ {C : Type 0} {ops : CostOps C} (laws : CostLaws ops) (old new : ℕ → Option (Label C)) (settled : ℕ → Bool) (before after : List (C × ℕ)) (v : ℕ) (l : Label C) where
+  -- the head has a label within what was offered
+  pub Offers-within : Offers ops old new settled before after v l → LabelWithin ops new v l.cost
+  Offers-within (left e q w) = subst (λ (f : ℕ → Option (Label C)). LabelWithin ops f v l.cost) (sym e) w
+  Offers-within (put e q u b) = (l, ap (λ (f : ℕ → Option (Label C)). f v) e ∙ changed-here old v (Some l) v refl, le_refl laws l.cost)
+
+  module _ (e : new ≡ changed old v (Some l)) where
+    new-here : (u : ℕ) → v ≡ u → new u ≡ Some l
+    new-here u k = ap (λ (f : ℕ → Option (Label C)). f u) e ∙ changed-here old v (Some l) u k
+
+    new-there : (u : ℕ) → nat_eq v u ≡ false → new u ≡ old u
+    new-there u k = ap (λ (f : ℕ → Option (Label C)). f u) e ∙ changed-there old v (Some l) u k
+
+    -- the label at v is l
+    only_l : (u : ℕ) (m : Label C) → v ≡ u → new u ≡ Some m → l ≡ m
+    only_l u m k h = same_Some l m (sym (new-here u k) ∙ h)
+
+    put-falls : Improves ops old v l.cost → LabelsFall ops old new
+    put-falls b = record {
+      within = λ u m h. elim (same_place v u) [
+          inl k ↦ (l, new-here u k, le_from_less laws l.cost m.cost (b m (ap old k ∙ h)))
+        | inr k ↦ (m, new-there u k ∙ h, le_refl laws m.cost) ];
+    }
+
+    module _ (q : Adds before after (l.cost, v)) (unsettled : settled v ≡ false) (falls : LabelsFall ops old new)
+        (S : Space C) (tree : List (Node C)) (front : IsFront ops S tree old settled before) (is : IsLabel ops S tree v l) (w : SettledWithin ops old settled l.cost) where
+      put-labelled : (u : ℕ) (m : Label C) → new u ≡ Some m → IsLabel ops S tree u m
+      put-labelled u m h = elim (same_place v u) [
+          inl k ↦ subst (λ (x : ℕ). IsLabel ops S tree x m) k (subst (λ (x : Label C). IsLabel ops S tree v x) (only_l u m k h) is)
+        | inr k ↦ front.labelled u m (sym (new-there u k) ∙ h) ]
+
+      -- a settled vertex is another
+      elsewhere : (u : ℕ) → settled u ≡ true → new u ≡ old u
+      elsewhere u s = elim (same_place v u) [
+          inl k ↦ absurd (true≢false (sym s ∙ sym (ap settled k) ∙ unsettled))
+        | inr k ↦ new-there u k ]
+
+      put-queued : (u : ℕ) (m : Label C) → settled u ≡ false → new u ≡ Some m → Contains after (m.cost, u)
+      put-queued u m s h = elim (same_place v u) [
+          inl k ↦ subst (λ (x : ℕ). Contains after (m.cost, x)) k (subst (λ (x : Label C). Contains after (x.cost, v)) (only_l u m k h) ((q (l.cost, v)).1 (inl refl)))
+        | inr k ↦ (q (m.cost, u)).1 (inr (front.queued u m s (sym (new-there u k) ∙ h))) ]
+
+      put-keys : (k : C) (u : ℕ) → Contains after (k, u) → LabelWithin ops new u k
+      put-keys k u h = elim ((q (k, u)).0 h) [
+          inl x ↦ (l, new-here u (sym (ap (λ (p : C × ℕ). p.1) x)), subst (λ (c : C). NoDearer ops l.cost c) (sym (ap (λ (p : C × ℕ). p.0) x)) (le_refl laws l.cost))
+        | inr x ↦ LabelWithin-falls laws old new u k falls (front.keys k u x) ]
+
+      put-ordered : (k : C) (u : ℕ) → Contains after (k, u) → SettledWithin ops new settled k
+      put-ordered k u h z m s g =
+          let was : old z ≡ Some m = sym (elsewhere z s) ∙ g in
+          elim ((q (k, u)).0 h) [
+            inl x ↦ subst (λ (c : C). NoDearer ops m.cost c) (sym (ap (λ (p : C × ℕ). p.0) x)) (w z m s was)
+          | inr x ↦ front.ordered k u x z m s was ]
+
+      put-front : IsFront ops S tree new settled after
+      put-front = record {
+        labelled = put-labelled;
+        in_tree = λ u s. let r = front.in_tree u s in (r.0, elsewhere u s ∙ r.1, r.2);
+        queued = put-queued;
+        keys = put-keys;
+        ordered = put-ordered;
+      }
+
+  -- labels only fall
+  pub Offers-falls : Offers ops old new settled before after v l → LabelsFall ops old new
+  Offers-falls (left e q w) = LabelsFall-same laws old new e
+  Offers-falls (put e q u b) = put-falls e b
+
+  -- the front stays, where the label is one hop behind a node that settled vertices don't pass
+  pub Offers-front : Offers ops old new settled before after v l → (S : Space C) (tree : List (Node C)) →
+      IsFront ops S tree old settled before → IsLabel ops S tree v l → SettledWithin ops old settled l.cost → IsFront ops S tree new settled after
+  Offers-front (left e q w) S tree front is b =
+      subst (λ (x : List (C × ℕ)). IsFront ops S tree new settled x) (sym q) (subst (λ (f : ℕ → Option (Label C)). IsFront ops S tree f settled before) (sym e) front)
+  Offers-front (put e q u b) S tree front is w = put-front e q u (put-falls e b) S tree front is w
+
+-- a hop out of the node at work
+module _ {C : Type 0} {ops : CostOps C} (laws : CostLaws ops) (S : Space C) (old : Search C) (at : ℕ) (node : Node C) (work : IsAtWork ops S old at node) where
+  node_valid : ops.valid node.cost
+  node_valid = laws.units_valid node.cost (2 ^ 30) work.units
+
+  module _ (v : ℕ) (s : C) (hop : HasHop S node.vertex v s) where
+    grows : NoDearer ops node.cost (ops.plus node.cost s)
+    grows = plus_grows laws node.cost s node_valid (laws.units_valid s (2 ^ 29) (work.space.hop_units node.vertex v s hop))
+
+    -- what is paid behind it fits
+    pub hop_fits : ops.units (ops.plus node.cost s) (2 ^ 31)
+    hop_fits = laws.units_more (ops.plus node.cost s) (2 ^ 30 + 2 ^ 29) (2 ^ 31) (laws.plus_units node.cost s (2 ^ 30) (2 ^ 29) work.units (work.space.hop_units node.vertex v s hop)) (omega arith)
+
+    -- and no settled vertex is cheaper to come to by it
+    pub settled_within_hop : settled_of old.labels v ≡ true → LabelWithin ops (label_of old.labels) v (ops.plus node.cost s)
+    settled_within_hop k = let r = work.front.in_tree v k in (r.0, r.1, le_trans laws r.0.cost node.cost (ops.plus node.cost s) (work.within v r.0 k r.1) grows)
+
+    module _ (new : Search C) (o : Offers ops (label_of old.labels) (label_of new.labels) (settled_of old.labels) old.queue new.queue v (record { cost = ops.plus node.cost s; node = at }))
+        (same : settled_of new.labels ≡ settled_of old.labels) (tree : new.tree.items ≡ old.tree.items) where
+      within_hop : SettledWithin ops (label_of old.labels) (settled_of old.labels) (ops.plus node.cost s)
+      within_hop u m k h = le_trans laws m.cost node.cost (ops.plus node.cost s) (work.within u m k h) grows
+
+      hop_falls : LabelsFall ops (label_of old.labels) (label_of new.labels)
+      hop_falls = Offers-falls laws (label_of old.labels) (label_of new.labels) (settled_of old.labels) old.queue new.queue v (record { cost = ops.plus node.cost s; node = at }) o
+
+      hop_front : IsFront ops S old.tree.items (label_of new.labels) (settled_of old.labels) new.queue
+      hop_front = Offers-front laws (label_of old.labels) (label_of new.labels) (settled_of old.labels) old.queue new.queue v (record { cost = ops.plus node.cost s; node = at }) o S old.tree.items work.front (node, work.here, (s, hop, refl)) within_hop
+
+      -- the search stays at work on the node
+      pub hop_at_work : IsAtWork ops S new at node
+      hop_at_work = record {
+        space = work.space;
+        front = subst (λ (t : List (Node C)). IsFront ops S t (label_of new.labels) (settled_of new.labels) new.queue) (sym tree)
+          (subst (λ (f : ℕ → Bool). IsFront ops S old.tree.items (label_of new.labels) f new.queue) (sym same) hop_front);
+        here = ap (λ (t : List (Node C)). slice_get t at) tree ∙ work.here;
+        vertex = work.vertex;
+        units = work.units;
+        within = subst (λ (f : ℕ → Bool). SettledWithin ops (label_of new.labels) f node.cost) (sym same)
+          (SettledWithin-falls laws S old.tree.items (label_of old.labels) (label_of new.labels) (settled_of old.labels) old.queue node.cost work.front hop_falls work.within);
+      }
+
+      pub hop_only_falls : OnlyFalls ops old new
+      hop_only_falls = record { falls = hop_falls; settled = same; tree = tree }
+
+      pub hop_found : LabelWithin ops (label_of new.labels) v (ops.plus node.cost s)
+      hop_found = Offers-within laws (label_of old.labels) (label_of new.labels) (settled_of old.labels) old.queue new.queue v (record { cost = ops.plus node.cost s; node = at }) o
+
+module _ {C : Type 0} {ops : CostOps C} (laws : CostLaws ops) where
+  pub OnlyFalls-refl : (search : Search C) → OnlyFalls ops search search
+  OnlyFalls-refl search = record { falls = LabelsFall-same laws (label_of search.labels) (label_of search.labels) refl; settled = refl; tree = refl }
+
+  pub OnlyFalls-trans : (a b c : Search C) → OnlyFalls ops a b → OnlyFalls ops b c → OnlyFalls ops a c
+  OnlyFalls-trans a b c f g = record {
+    falls = LabelsFall-trans laws (label_of a.labels) (label_of b.labels) (label_of c.labels) f.falls g.falls;
+    settled = g.settled ∙ f.settled;
+    tree = g.tree ∙ f.tree;
+  }
+
+-- what holds of the hop that a call gave holds of each that it may give
+pub each_hop : {C : Type 0} (P : ℕ → C → Type 0) (hop : Hop C) → P hop.head hop.cost → (w : ℕ) (s : C) → Some hop ≡ Some (record { head = w; cost = s }) → P w s
+each_hop {C} P hop p w s e = subst (λ (h : Hop C). P h.head h.cost) (same_Some hop (record { head = w; cost = s }) e) p

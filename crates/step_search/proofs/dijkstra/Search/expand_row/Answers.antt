@@ -1,0 +1,34 @@
+-- What a place found stays found while labels fall.
+use Rattle.std.proofs.Common.{◌≡◌, ℕ, ◌+◌, ◌<◌, ◌≤◌, arith, below_more}
+use Rattle.step_search.specs.Labelled.{label_of}
+use Rattle.step_search.proofs.Falls.{LabelWithin-falls}
+use Rattle.step_search.proofs.Offered.{OnlyFalls-refl, OnlyFalls-trans}
+use Rattle.step_search.proofs.dijkstra.Search.expand_row.Goals as goal
+
+pub loop-place-init : goal.loop-place-init
+loop-place-init g c = record {
+  at_work = c.requires.at_work;
+  falls = OnlyFalls-refl g.met.C.Cost.laws c.args.self.now;
+  found = λ k lt. absurd (omega (arith, lt));
+}
+
+pub relax_place-requires-clause-at_work : goal.relax_place-requires-clause-at_work
+relax_place-requires-clause-at_work g c = c.loop-place.invariant.at_work
+
+pub loop-place-preserved : goal.loop-place-preserved
+loop-place-preserved g c = record {
+  at_work = c.in_ok-relax_place.ensures.at_work;
+  falls = OnlyFalls-trans g.met.C.Cost.laws c.args.self.now c.loop-place.self c.relax_place.new.self c.loop-place.invariant.falls c.in_ok-relax_place.ensures.falls;
+  found = below_more _ _
+    (λ k lt w s h. LabelWithin-falls g.met.C.Cost.laws (label_of c.loop-place.self.labels) (label_of c.relax_place.new.self.labels) w (g.C.Cost.ops.plus c.args.node.cost s) c.in_ok-relax_place.ensures.falls.falls (c.loop-place.invariant.found k lt w s h))
+    c.in_ok-relax_place.ensures.found;
+}
+
+pub returns-clause-at_work : goal.returns-clause-at_work
+returns-clause-at_work g c = c.loop-place.invariant.at_work
+
+pub returns-clause-falls : goal.returns-clause-falls
+returns-clause-falls g c = c.loop-place.invariant.falls
+
+pub returns-clause-found : goal.returns-clause-found
+returns-clause-found g c j w s lt h = c.loop-place.invariant.found j (omega arith) w s h

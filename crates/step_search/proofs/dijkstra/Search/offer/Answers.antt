@@ -1,0 +1,19 @@
+-- A label that improves goes to a vertex that isn't settled, and any other is left.
+use Rattle.std.proofs.Common.{◌≡◌, true, false, refl, sym, subst}
+use Rattle.step_search.specs.Labelled.{label_of, settled_of}
+use Rattle.step_search.specs.Progress.{LabelWithin}
+use Rattle.step_search.specs.Stepping.Offers.{left, put}
+use Rattle.step_search.proofs.Offered.{unsettled_if_improved}
+use Rattle.step_search.proofs.dijkstra.Search.offer.Goals as goal
+
+pub put-requires : goal.put-requires
+put-requires g c =
+    unsettled_if_improved g.met.C.Cost.laws (label_of c.args.self.now.labels) (settled_of c.args.self.now.labels) c.args.hop.head c.plus.result (rw (← c.plus.ensures) at c.requires.fixed) c.if-not-improves.ensures.yes
+
+pub returns-then-not-improves-clause-offers : goal.returns-then-not-improves-clause-offers
+returns-then-not-improves-clause-offers g c = rw (← c.plus.ensures) (left refl refl c.if-not-improves.ensures.no)
+
+pub returns-clause-offers : goal.returns-clause-offers
+returns-clause-offers g c =
+    let unsettled : settled_of c.args.self.now.labels c.args.hop.head ≡ false = unsettled_if_improved g.met.C.Cost.laws (label_of c.args.self.now.labels) (settled_of c.args.self.now.labels) c.args.hop.head c.plus.result (rw (← c.plus.ensures) at c.requires.fixed) c.if-not-improves.ensures.yes in
+    rw (← c.plus.ensures) (put c.in_ok-put.ensures.label c.in_ok-push.ensures unsettled c.if-not-improves.ensures.yes)

@@ -1,0 +1,86 @@
+-- What the private functions of the search do, one step each.
+use Rattle.std.specs.Prelude.{◌≡◌, ℕ, ◌<◌, ◌^◌, ◌⊎◌, Bool, true, false, List, [], ◌∷◌, ◌++◌, Option, Some, None}
+use Rattle.std.specs.List.{Contains, slice_get}
+use Rattle.std.specs.declared.cmp.Ordering.TheVariants.{Less}
+use Rattle.search_graph.specs.Costs.{CostOps, NoDearer}
+use Rattle.search_graph.specs.declared.ends.Start.{Start}
+use Rattle.step_search.specs.Spaces.{Space, IsSpace}
+use Rattle.step_search.specs.Queued.{Adds, TakesLeast}
+use Rattle.step_search.specs.Labelled.{label_of, settled_of, changed}
+use Rattle.step_search.specs.Progress.{LabelWithin, LabelsFall, SettledWithin, IsFront}
+use Rattle.step_search.specs.declared.labels.Label.{Label}
+use Rattle.step_search.specs.declared.dijkstra.Node.{Node}
+use Rattle.step_search.specs.declared.dijkstra.Search.{Search}
+
+-- no vertex is settled
+abbrev pub NoneSettled : (ℕ → Bool) → Type 0
+NoneSettled settled = (v : ℕ) → settled v ≡ false
+
+-- c is less than what the label of v costs, if it has one
+abbrev pub Improves : {C : Type 0} → CostOps C → (ℕ → Option (Label C)) → ℕ → C → Type 0
+Improves {C} ops label v c = (l : Label C) → label v ≡ Some l → ops.cmp c l.cost ≡ Less
+
+-- the label l, offered to v, is put and queued where it improves
+pub data Offers {C : Type 0} (ops : CostOps C) (old new : ℕ → Option (Label C)) (settled : ℕ → Bool) (before after : List (C × ℕ)) (v : ℕ) (l : Label C) : Type 0 where
+  left : new ≡ old → after ≡ before → LabelWithin ops old v l.cost → Offers ops old new settled before after v l
+  put : new ≡ changed old v (Some l) → Adds before after (l.cost, v) → settled v ≡ false → Improves ops old v l.cost → Offers ops old new settled before after v l
+
+-- the node, at its place in the tree, is what the search is at work on
+pub record IsAtWork {C : Type 0} (ops : CostOps C) (S : Space C) (search : Search C) (at : ℕ) (node : Node C) : Type 0 where
+  pub space : IsSpace ops S
+  pub front : IsFront ops S search.tree.items (label_of search.labels) (settled_of search.labels) search.queue
+  pub here : slice_get search.tree.items at ≡ Some node
+  pub vertex : node.vertex < S.vertices
+  pub units : ops.units node.cost (2 ^ 30)
+  pub within : SettledWithin ops (label_of search.labels) (settled_of search.labels) node.cost
+
+-- only labels have fallen
+pub record OnlyFalls {C : Type 0} (ops : CostOps C) (old new : Search C) : Type 0 where
+  pub falls : LabelsFall ops (label_of old.labels) (label_of new.labels)
+  pub settled : settled_of new.labels ≡ settled_of old.labels
+  pub tree : new.tree.items ≡ old.tree.items
+
+-- new is old without entries of settled vertices
+pub record Skips {C : Type 0} (settled : ℕ → Bool) (old new : List (C × ℕ)) : Type 0 where
+  pub fewer : (x : C × ℕ) → Contains new x → Contains old x
+  pub kept : (x : C × ℕ) → Contains old x → settled x.1 ≡ false → Contains new x
+
+-- v, which isn't settled, was taken from the queue with the least key
+pub record IsNearest {C : Type 0} (ops : CostOps C) (settled : ℕ → Bool) (old new : List (C × ℕ)) (v : ℕ) : Type 0 where
+  pub key : C
+  pub before : List (C × ℕ)
+  pub skips : Skips settled old before
+  pub takes : TakesLeast ops before new (key, v)
+  pub unsettled : settled v ≡ false
+
+-- the search is about to settle v, which was taken from the queue
+pub record IsTaken {C : Type 0} (ops : CostOps C) (S : Space C) (search : Search C) (v : ℕ) : Type 0 where
+  pub space : IsSpace ops S
+  pub before : List (C × ℕ)
+  pub front : IsFront ops S search.tree.items (label_of search.labels) (settled_of search.labels) before
+  pub key : C
+  pub takes : TakesLeast ops before search.queue (key, v)
+  pub unsettled : settled_of search.labels v ≡ false
+  pub units : ops.units key (2 ^ 30)
+
+-- the node of a vertex at its label
+abbrev pub node_of : {C : Type 0} → ℕ → Label C → Node C
+node_of v l = record { vertex = v; cost = l.cost; before = Some l.node }
+
+-- the node of a start
+abbrev pub start_node : {C : Type 0} → Start C → Node C
+start_node s = record { vertex = s.vertex; cost = s.cost; before = None }
+
+-- v is settled: its node is new in the tree
+pub record Settles {C : Type 0} (ops : CostOps C) (old new : Search C) (v : ℕ) : Type 0 where
+  pub label : Label C
+  pub had : label_of old.labels v ≡ Some label
+  pub grows : new.tree.items ≡ old.tree.items ++ node_of v label ∷ []
+  pub falls : LabelsFall ops (label_of old.labels) (label_of new.labels)
+  pub settled : settled_of new.labels ≡ changed (settled_of old.labels) v true
+
+-- the search has begun at s: where a path may begin there, its node is new in the tree
+pub record Begins {C : Type 0} (ops : CostOps C) (S : Space C) (old new : Search C) (s : Start C) : Type 0 where
+  pub grows : (S.May s.vertex × (new.tree.items ≡ old.tree.items ++ start_node s ∷ [])) ⊎ ((¬ S.May s.vertex) × (new.tree.items ≡ old.tree.items))
+  pub falls : LabelsFall ops (label_of old.labels) (label_of new.labels)
+  pub settled : settled_of new.labels ≡ settled_of old.labels
