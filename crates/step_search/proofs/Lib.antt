@@ -1,5 +1,10 @@
+mod Advanced
+mod Answered
 mod Falls
 mod Far
 mod Grown
 mod Offered
 mod Queues
+mod Settled
+mod Taken
+mod Trails

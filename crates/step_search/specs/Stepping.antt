@@ -7,7 +7,7 @@ use Rattle.search_graph.specs.declared.ends.Start.{Start}
 use Rattle.step_search.specs.Spaces.{Space, IsSpace}
 use Rattle.step_search.specs.Queued.{Adds, TakesLeast}
 use Rattle.step_search.specs.Labelled.{label_of, settled_of, changed}
-use Rattle.step_search.specs.Progress.{LabelWithin, LabelsFall, SettledWithin, IsFront}
+use Rattle.step_search.specs.Progress.{LabelWithin, LabelsFall, SettledWithin, Expanded, IsFront}
 use Rattle.step_search.specs.declared.labels.Label.{Label}
 use Rattle.step_search.specs.declared.dijkstra.Node.{Node}
 use Rattle.step_search.specs.declared.dijkstra.Search.{Search}
@@ -61,7 +61,7 @@ pub record IsTaken {C : Type 0} (ops : CostOps C) (S : Space C) (search : Search
   pub key : C
   pub takes : TakesLeast ops before search.queue (key, v)
   pub unsettled : settled_of search.labels v ≡ false
-  pub units : ops.units key (2 ^ 30)
+  pub units : (l : Label C) → label_of search.labels v ≡ Some l → ops.units l.cost (2 ^ 30)
 
 -- the node of a vertex at its label
 abbrev pub node_of : {C : Type 0} → ℕ → Label C → Node C
@@ -79,8 +79,8 @@ pub record Settles {C : Type 0} (ops : CostOps C) (old new : Search C) (v : ℕ)
   pub falls : LabelsFall ops (label_of old.labels) (label_of new.labels)
   pub settled : settled_of new.labels ≡ changed (settled_of old.labels) v true
 
--- the search has begun at s: where a path may begin there, its node is new in the tree
+-- the search has begun at s: where a path may begin there, its node is new in the tree, and expanded
 pub record Begins {C : Type 0} (ops : CostOps C) (S : Space C) (old new : Search C) (s : Start C) : Type 0 where
-  pub grows : (S.May s.vertex × (new.tree.items ≡ old.tree.items ++ start_node s ∷ [])) ⊎ ((¬ S.May s.vertex) × (new.tree.items ≡ old.tree.items))
+  pub grows : (S.May s.vertex × (new.tree.items ≡ old.tree.items ++ start_node s ∷ []) × Expanded ops S (label_of new.labels) s.vertex s.cost) ⊎ ((¬ S.May s.vertex) × (new.tree.items ≡ old.tree.items))
   pub falls : LabelsFall ops (label_of old.labels) (label_of new.labels)
   pub settled : settled_of new.labels ≡ settled_of old.labels

@@ -320,8 +320,9 @@ fn walk_to<C: Cost>(alloc: Global, tree: &[Node<C>], at: usize) -> Result<Vec<u3
     let mut walk = Vec::new(alloc);
     let mut next = Some(at);
     while let Some(i) = next {
-        walk.push(tree[i].vertex)?;
-        next = tree[i].before;
+        let node = tree[i];
+        walk.push(node.vertex)?;
+        next = node.before;
     }
     walk.reverse();
     Ok(walk)

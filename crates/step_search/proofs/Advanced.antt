@@ -1,0 +1,122 @@
+-- The search once a vertex is settled, or once it has begun at one start more; and how many vertices are still open.
+use Rattle.std.proofs.Common.{◌≡◌, ℕ, zero, suc, ◌+◌, ◌^◌, ◌<◌, ◌≤◌, ◌⊎◌, inl, inr, Bool, true, false, cond, nat_eq, Option, Some, None, List, [], ◌∷◌, ◌++◌, length, refl, sym, ◌∙◌, ap, subst, ◌≢◌, true≢false, eq-eqb, arith}
+use Rattle.std.specs.List.{Contains, slice_get}
+use Rattle.std.proofs.lemmas.List.Elements.{Contains-push_cases}
+use Rattle.std.proofs.lemmas.Option.{same_Some, slice_get_within}
+use Rattle.search_graph.specs.Costs.{CostOps, CostLaws, NoDearer}
+use Rattle.search_graph.specs.declared.ends.Start.{Start}
+use Rattle.step_search.specs.Spaces.{Space, IsSpace}
+use Rattle.step_search.specs.Paths.{AreStarts}
+use Rattle.step_search.specs.Labelled.{changed, label_of, settled_of}
+use Rattle.step_search.specs.Progress.{HasNode, IsNode, IsTree, Expanded, NodesExpanded, StartsIn, IsFront}
+use Rattle.step_search.specs.Stepping.{IsTaken, Settles, Begins, node_of, start_node}
+use Rattle.step_search.specs.UnderWay.{IsUnderWay, IsBegun}
+use Rattle.step_search.specs.declared.labels.Label.{Label}
+use Rattle.step_search.specs.declared.dijkstra.Node.{Node}
+use Rattle.step_search.specs.declared.dijkstra.Search.{Search}
+use Rattle.step_search.proofs.Falls.{by_truth, same_place, changed-here, changed-there, NodesExpanded-falls}
+use Rattle.step_search.proofs.Grown.{HasNode-left, HasNode-last, StartsIn-left, IsTree-push, NodesExpanded-push}
+
+-- one for a vertex that isn't settled
+abbrev pub one_if_open : Bool → ℕ
+one_if_open true = 0
+one_if_open false = 1
+
+-- how many of the first n vertices aren't settled
+abbrev pub open_below : (ℕ → Bool) → ℕ → ℕ
+open_below settled zero = 0
+open_below settled (suc n) = one_if_open (settled n) + open_below settled n
+
+fewer_here : (a b c d : ℕ) → a ≡ 0 → b ≡ 1 → c ≡ d → a + c < b + d
+fewer_here a b c d p q r = omega arith
+
+fewer_there : (a b c d : ℕ) → a ≡ b → c < d → a + c < b + d
+fewer_there a b c d p q = omega arith
+
+other_below : (v n : ℕ) → v < suc n → nat_eq v n ≡ false → v < n
+other_below v n lt e = let other : v ≢ n = λ q. true≢false (sym (eq-eqb v n q) ∙ e) in omega arith
+
+module _ (settled : ℕ → Bool) (v : ℕ) where
+  open-same : (n : ℕ) → n ≤ v → open_below (changed settled v true) n ≡ open_below settled n
+  open-same zero le = refl
+  open-same (suc n) le =
+      let rest : open_below (changed settled v true) n ≡ open_below settled n = open-same n (omega arith) in
+      let at : changed settled v true n ≡ settled n = elim (same_place v n) [ inl e ↦ absurd (omega arith) | inr e ↦ changed-there settled v true n e ] in
+      ap (λ (b : Bool). one_if_open b + open_below (changed settled v true) n) at ∙ ap (λ (k : ℕ). one_if_open (settled n) + k) rest
+
+  -- one fewer once v is settled
+  pub open-fewer : (n : ℕ) → v < n → settled v ≡ false → open_below (changed settled v true) n < open_below settled n
+  open-fewer zero lt s = absurd (omega arith)
+  open-fewer (suc n) lt s = elim (same_place v n) [
+      inl e ↦ fewer_here (one_if_open (changed settled v true n)) (one_if_open (settled n)) (open_below (changed settled v true) n) (open_below settled n)
+        (ap one_if_open (changed-here settled v true n e)) (ap one_if_open (sym (ap settled e) ∙ s)) (open-same n (omega arith))
+    | inr e ↦ fewer_there (one_if_open (changed settled v true n)) (one_if_open (settled n)) (open_below (changed settled v true) n) (open_below settled n)
+        (ap one_if_open (changed-there settled v true n e)) (open-fewer n (other_below v n lt e) s) ]
+
+module _ {C : Type 0} {ops : CostOps C} (laws : CostLaws ops) (S : Space C) (starts : List (Start C)) (old new : Search C)
+    (front : IsFront ops S new.tree.items (label_of new.labels) (settled_of new.labels) new.queue) where
+  module _ (v : ℕ) (fit : AreStarts ops S starts) (is_tree : IsTree ops S starts old.tree.items) (expanded : NodesExpanded ops S old.tree.items (label_of old.labels)) (starts_in : StartsIn S starts old.tree.items) (taken : IsTaken ops S old v) (settles : Settles ops old new v) where
+    settled_node : IsNode ops S starts old.tree.items (length old.tree.items) (node_of v settles.label)
+    settled_node =
+        let m = taken.front.labelled v settles.label settles.had in
+        record {
+          vertex = taken.space.heads m.0.vertex v m.2.0 m.2.1;
+          units = taken.units settles.label settles.had;
+          from = (slice_get_within old.tree.items settles.label.node m.0 m.1, m.0, m.1, m.2);
+        }
+
+    -- once a vertex is settled the search is still under way
+    pub settled_under_way : ((l : Label C) → label_of old.labels v ≡ Some l → Expanded ops S (label_of new.labels) v l.cost) → IsUnderWay ops S starts new
+    settled_under_way opened = record {
+      space = taken.space;
+      fit = fit;
+      tree = subst (λ (t : List (Node C)). IsTree ops S starts t) (sym settles.grows) (IsTree-push ops S starts old.tree.items (node_of v settles.label) is_tree settled_node);
+      front = front;
+      expanded = subst (λ (t : List (Node C)). NodesExpanded ops S t (label_of new.labels)) (sym settles.grows)
+        (NodesExpanded-push ops S old.tree.items (node_of v settles.label) (label_of new.labels) (NodesExpanded-falls laws S old.tree.items (label_of old.labels) (label_of new.labels) settles.falls expanded) (opened settles.label settles.had));
+      starts_in = subst (λ (t : List (Node C)). StartsIn S starts t) (sym settles.grows) (StartsIn-left S starts old.tree.items (node_of v settles.label) starts_in);
+    }
+
+    -- and one vertex fewer is open
+    pub settled_fewer : open_below (settled_of new.labels) S.vertices < open_below (settled_of old.labels) S.vertices
+    settled_fewer =
+        let m = taken.front.labelled v settles.label settles.had in
+        subst (λ (f : ℕ → Bool). open_below f S.vertices < open_below (settled_of old.labels) S.vertices) (sym settles.settled)
+          (open-fewer (settled_of old.labels) v S.vertices (taken.space.heads m.0.vertex v m.2.0 m.2.1) taken.unsettled)
+
+  module _ (done : List (Start C)) (begun : IsBegun ops S starts done old) (s : Start C) (among : Contains starts s) (begins : Begins ops S old new s) where
+    start_is_node : S.May s.vertex → IsNode ops S starts old.tree.items (length old.tree.items) (start_node s)
+    start_is_node may = record {
+      vertex = (begun.fit s among).0;
+      units = laws.units_more s.cost 1 (2 ^ 30) (begun.fit s among).1 (omega arith);
+      from = (s, among, may, refl, refl);
+    }
+
+    -- once the search has begun at one start more it has begun at all of these
+    pub begun_more : IsBegun ops S starts (done ++ s ∷ []) new
+    begun_more = elim begins.grows [
+        inl h ↦ record {
+          space = begun.space;
+          fit = begun.fit;
+          tree = subst (λ (t : List (Node C)). IsTree ops S starts t) (sym h.1) (IsTree-push ops S starts old.tree.items (start_node s) begun.tree (start_is_node h.0));
+          front = front;
+          expanded = subst (λ (t : List (Node C)). NodesExpanded ops S t (label_of new.labels)) (sym h.1)
+            (NodesExpanded-push ops S old.tree.items (start_node s) (label_of new.labels) (NodesExpanded-falls laws S old.tree.items (label_of old.labels) (label_of new.labels) begins.falls begun.expanded) h.2);
+          starts_in = subst (λ (t : List (Node C)). StartsIn S (done ++ s ∷ []) t) (sym h.1) (record {
+            node = λ r k m. elim (Contains-push_cases done s r k) [
+                inl q ↦ HasNode-left old.tree.items (start_node s) r.vertex r.cost (begun.starts_in.node r q m)
+              | inr q ↦ subst (λ (x : Start C). HasNode (old.tree.items ++ start_node s ∷ []) x.vertex x.cost) q (HasNode-last old.tree.items (start_node s)) ];
+          });
+        }
+      | inr h ↦ record {
+          space = begun.space;
+          fit = begun.fit;
+          tree = subst (λ (t : List (Node C)). IsTree ops S starts t) (sym h.1) begun.tree;
+          front = front;
+          expanded = subst (λ (t : List (Node C)). NodesExpanded ops S t (label_of new.labels)) (sym h.1) (NodesExpanded-falls laws S old.tree.items (label_of old.labels) (label_of new.labels) begins.falls begun.expanded);
+          starts_in = subst (λ (t : List (Node C)). StartsIn S (done ++ s ∷ []) t) (sym h.1) (record {
+            node = λ r k m. elim (Contains-push_cases done s r k) [
+                inl q ↦ begun.starts_in.node r q m
+              | inr q ↦ absurd (h.0 (subst (λ (x : Start C). S.May x.vertex) (sym q) m)) ];
+          });
+        } ]

@@ -1,0 +1,79 @@
+-- What settling a vertex and beginning at a start leave of a search.
+use Rattle.std.proofs.Common.{◌≡◌, ℕ, ◌+◌, ◌^◌, ◌<◌, ◌≤◌, ◌⊎◌, inl, inr, Bool, true, false, Option, Some, None, List, [], ◌∷◌, ◌++◌, length, refl, sym, ◌∙◌, ap, subst, true≢false, arith}
+use Rattle.std.specs.List.{Contains, slice_get}
+use Rattle.std.proofs.lemmas.Option.{same_Some}
+use Rattle.search_graph.specs.Costs.{CostOps, CostLaws, NoDearer}
+use Rattle.search_graph.specs.declared.ends.Start.{Start}
+use Rattle.step_search.specs.Spaces.{Space, IsSpace}
+use Rattle.step_search.specs.Queued.{TakesLeast}
+use Rattle.step_search.specs.Labelled.{changed, label_of, settled_of}
+use Rattle.step_search.specs.Progress.{IsTree, IsLabel, LabelWithin, LabelsFall, SettledWithin, Expanded, NodesExpanded, StartsIn, IsFront}
+use Rattle.step_search.specs.Stepping.{IsAtWork, IsTaken, NoneSettled, OnlyFalls, Settles, Begins, node_of, start_node}
+use Rattle.step_search.specs.declared.labels.Label.{Label}
+use Rattle.step_search.specs.declared.dijkstra.Node.{Node}
+use Rattle.step_search.specs.declared.dijkstra.Search.{Search}
+use Rattle.step_search.proofs.Falls.{LabelsFall-same}
+use Rattle.step_search.proofs.Grown.{slice_get-last, IsFront-push, taken_label, settle-front, settle-within}
+
+module _ {C : Type 0} (ops : CostOps C) (S : Space C) where
+  -- the front by equals
+  pub IsFront-same : (tree tree' : List (Node C)) (label label' : ℕ → Option (Label C)) (settled settled' : ℕ → Bool) (queue queue' : List (C × ℕ)) →
+      tree' ≡ tree → label' ≡ label → settled' ≡ settled → queue' ≡ queue → IsFront ops S tree label settled queue → IsFront ops S tree' label' settled' queue'
+  IsFront-same tree tree' label label' settled settled' queue queue' t l s q f =
+      subst (λ (x : List (Node C)). IsFront ops S x label' settled' queue') (sym t)
+        (subst (λ (x : ℕ → Option (Label C)). IsFront ops S tree x settled' queue') (sym l)
+          (subst (λ (x : ℕ → Bool). IsFront ops S tree label x queue') (sym s)
+            (subst (λ (x : List (C × ℕ)). IsFront ops S tree label settled x) (sym q) f)))
+
+module _ {C : Type 0} {ops : CostOps C} (laws : CostLaws ops) (S : Space C) (old : Search C) (v : ℕ) (taken : IsTaken ops S old v) where
+  -- what was taken has a label
+  pub taken_has : LabelWithin ops (label_of old.labels) v taken.key
+  taken_has = taken_label laws S old.tree.items (label_of old.labels) (settled_of old.labels) taken.before old.queue taken.key v taken.front taken.takes taken.unsettled
+
+  module _ (l : Label C) (has : label_of old.labels v ≡ Some l) (mid : Search C) (tree : mid.tree.items ≡ old.tree.items ++ node_of v l ∷ [])
+      (labels : label_of mid.labels ≡ label_of old.labels) (settled : settled_of mid.labels ≡ changed (settled_of old.labels) v true) where
+    -- and the search goes to work on its node
+    pub settle_at_work : (at : ℕ) → mid.queue ≡ old.queue → at ≡ length old.tree.items → IsAtWork ops S mid at (node_of v l)
+    settle_at_work at queue place = record {
+      space = taken.space;
+      front = IsFront-same ops S (old.tree.items ++ node_of v l ∷ []) mid.tree.items (label_of old.labels) (label_of mid.labels) (changed (settled_of old.labels) v true) (settled_of mid.labels) old.queue mid.queue tree labels settled queue
+        (settle-front laws S old.tree.items (label_of old.labels) (settled_of old.labels) taken.before old.queue taken.key v taken.front taken.takes taken.unsettled l has);
+      here = subst (λ (t : List (Node C)). slice_get t at ≡ Some (node_of v l)) (sym tree) (subst (λ (i : ℕ). slice_get (old.tree.items ++ node_of v l ∷ []) i ≡ Some (node_of v l)) (sym place) (slice_get-last old.tree.items (node_of v l)));
+      vertex = let m = taken.front.labelled v l has in taken.space.heads m.0.vertex v m.2.0 m.2.1;
+      units = taken.units l has;
+      within = subst (λ (x : ℕ → Option (Label C)). SettledWithin ops x (settled_of mid.labels) l.cost) (sym labels)
+        (subst (λ (x : ℕ → Bool). SettledWithin ops (label_of old.labels) x l.cost) (sym settled)
+          (settle-within laws S old.tree.items (label_of old.labels) (settled_of old.labels) taken.before old.queue taken.key v taken.front taken.takes taken.unsettled l has));
+    }
+
+    pub settle_settles : (new : Search C) → OnlyFalls ops mid new → Settles ops old new v
+    settle_settles new f = record {
+      label = l;
+      had = has;
+      grows = f.tree ∙ tree;
+      falls = subst (λ (x : ℕ → Option (Label C)). LabelsFall ops x (label_of new.labels)) labels f.falls;
+      settled = f.settled ∙ settled;
+    }
+
+module _ {C : Type 0} {ops : CostOps C} (laws : CostLaws ops) (S : Space C) (old : Search C) (s : Start C) where
+  pub begin_at_work : IsSpace ops S → s.vertex < S.vertices → ops.units s.cost 1 → IsFront ops S old.tree.items (label_of old.labels) (settled_of old.labels) old.queue → NoneSettled (settled_of old.labels) →
+      (mid : Search C) (at : ℕ) → mid.tree.items ≡ old.tree.items ++ start_node s ∷ [] → mid.labels ≡ old.labels → mid.queue ≡ old.queue → at ≡ length old.tree.items → IsAtWork ops S mid at (start_node s)
+  begin_at_work space vertex units front none mid at tree labels queue place = record {
+    space = space;
+    front = IsFront-same ops S (old.tree.items ++ start_node s ∷ []) mid.tree.items (label_of old.labels) (label_of mid.labels) (settled_of old.labels) (settled_of mid.labels) old.queue mid.queue tree (ap label_of labels) (ap settled_of labels) queue
+      (IsFront-push ops S old.tree.items (start_node s) (label_of old.labels) (settled_of old.labels) old.queue front);
+    here = subst (λ (t : List (Node C)). slice_get t at ≡ Some (start_node s)) (sym tree) (subst (λ (i : ℕ). slice_get (old.tree.items ++ start_node s ∷ []) i ≡ Some (start_node s)) (sym place) (slice_get-last old.tree.items (start_node s)));
+    vertex = vertex;
+    units = laws.units_more s.cost 1 (2 ^ 30) units (omega arith);
+    within = λ u l k h. absurd (true≢false (sym k ∙ ap (λ x. settled_of x u) labels ∙ none u));
+  }
+
+  pub begin_begins : S.May s.vertex → (mid new : Search C) → mid.tree.items ≡ old.tree.items ++ start_node s ∷ [] → mid.labels ≡ old.labels → OnlyFalls ops mid new → Expanded ops S (label_of new.labels) s.vertex s.cost → Begins ops S old new s
+  begin_begins may mid new tree labels f e = record {
+    grows = inl (may, f.tree ∙ tree, e);
+    falls = subst (λ (x : ℕ → Option (Label C)). LabelsFall ops x (label_of new.labels)) (ap label_of labels) f.falls;
+    settled = f.settled ∙ ap settled_of labels;
+  }
+
+  pub begin_nowhere : (¬ S.May s.vertex) → Begins ops S old old s
+  begin_nowhere never = record { grows = inr (never, refl); falls = LabelsFall-same laws (label_of old.labels) (label_of old.labels) refl; settled = refl }

@@ -1,0 +1,88 @@
+-- What the queue gives up on the way to the nearest vertex that isn't settled, and that its label fits.
+use Rattle.std.proofs.Common.{◌≡◌, ℕ, ◌+◌, ◌^◌, ◌<◌, ◌⊎◌, inl, inr, Bool, true, false, Option, Some, List, [], refl, sym, ◌∙◌, ap, subst, true≢false, arith}
+use Rattle.std.specs.List.{Contains}
+use Rattle.std.proofs.lemmas.Option.{same_Some}
+use Rattle.search_graph.specs.Costs.{CostOps, CostLaws, NoDearer}
+use Rattle.search_graph.specs.declared.ends.Start.{Start}
+use Rattle.search_graph.proofs.Order.{le_refl, le_trans}
+use Rattle.step_search.specs.Spaces.{Space}
+use Rattle.step_search.specs.Queued.{TakesLeast}
+use Rattle.step_search.specs.Labelled.{label_of, settled_of}
+use Rattle.step_search.specs.Progress.{IsFront, IsTree, NodesExpanded, StartsIn}
+use Rattle.step_search.specs.Stepping.{Skips, IsNearest, IsTaken}
+use Rattle.step_search.specs.UnderWay.{IsUnderWay, IsBegun}
+use Rattle.step_search.specs.declared.labels.Label.{Label}
+use Rattle.step_search.specs.declared.dijkstra.Node.{Node}
+use Rattle.step_search.specs.declared.dijkstra.Search.{Search}
+use Rattle.step_search.proofs.Far.{label_small}
+use Rattle.step_search.proofs.Grown.{label_least}
+use Rattle.step_search.proofs.Settled.{IsFront-same}
+
+module _ {C : Type 0} (settled : ℕ → Bool) where
+  pub Skips-refl : (queue : List (C × ℕ)) → Skips settled queue queue
+  Skips-refl queue = record { fewer = λ x h. h; kept = λ x h s. h }
+
+  -- an entry of a settled vertex is skipped
+  pub Skips-take : (ops : CostOps C) (a b c : List (C × ℕ)) (e : C × ℕ) → Skips settled a b → TakesLeast ops b c e → settled e.1 ≡ true → Skips settled a c
+  Skips-take ops a b c e k t s = record {
+    fewer = λ x h. k.fewer x ((t.taken x).1 (inr h));
+    kept = λ x h u. elim ((t.taken x).0 (k.kept x h u)) [
+        inl q ↦ absurd (true≢false (sym s ∙ ap settled (sym (ap (λ (p : C × ℕ). p.1) q)) ∙ u))
+      | inr q ↦ q ];
+  }
+
+  -- and the front stays without it
+  pub IsFront-skips : (ops : CostOps C) (S : Space C) (tree : List (Node C)) (label : ℕ → Option (Label C)) (a b : List (C × ℕ)) → Skips settled a b → IsFront ops S tree label settled a → IsFront ops S tree label settled b
+  IsFront-skips ops S tree label a b k f = record {
+    labelled = f.labelled;
+    in_tree = f.in_tree;
+    queued = λ v l s h. k.kept (l.cost, v) (f.queued v l s h) s;
+    keys = λ c v h. f.keys c v (k.fewer (c, v) h);
+    ordered = λ c v h. f.ordered c v (k.fewer (c, v) h);
+  }
+
+module _ {C : Type 0} {ops : CostOps C} (laws : CostLaws ops) (S : Space C) (starts : List (Start C)) (old : Search C) (under_way : IsUnderWay ops S starts old)
+    (mid : Search C) (labels : mid.labels ≡ old.labels) (tree : mid.tree.items ≡ old.tree.items) where
+  -- the tree stays, with what is known of it
+  pub still_tree : IsTree ops S starts mid.tree.items
+  still_tree = subst (λ (t : List (Node C)). IsTree ops S starts t) (sym tree) under_way.tree
+
+  pub still_expanded : NodesExpanded ops S mid.tree.items (label_of mid.labels)
+  still_expanded = subst (λ (t : List (Node C)). NodesExpanded ops S t (label_of mid.labels)) (sym tree) (subst (λ (x : ℕ → Option (Label C)). NodesExpanded ops S old.tree.items x) (sym (ap label_of labels)) under_way.expanded)
+
+  pub still_starts : StartsIn S starts mid.tree.items
+  still_starts = subst (λ (t : List (Node C)). StartsIn S starts t) (sym tree) under_way.starts_in
+
+  -- the search that has skipped entries is still under way
+  pub skipped_under_way : Skips (settled_of old.labels) old.queue mid.queue → IsUnderWay ops S starts mid
+  skipped_under_way k = record {
+    space = under_way.space;
+    fit = under_way.fit;
+    tree = still_tree;
+    front = IsFront-same ops S old.tree.items mid.tree.items (label_of old.labels) (label_of mid.labels) (settled_of old.labels) (settled_of mid.labels) mid.queue mid.queue tree (ap label_of labels) (ap settled_of labels) refl
+      (IsFront-skips (settled_of old.labels) ops S old.tree.items (label_of old.labels) old.queue mid.queue k under_way.front);
+    expanded = still_expanded;
+    starts_in = still_starts;
+  }
+
+  module _ (v : ℕ) (near : IsNearest ops (settled_of old.labels) old.queue mid.queue v) where
+    front_before : IsFront ops S old.tree.items (label_of old.labels) (settled_of old.labels) near.before
+    front_before = IsFront-skips (settled_of old.labels) ops S old.tree.items (label_of old.labels) old.queue near.before near.skips under_way.front
+
+    -- the label of what was taken: no unsettled label is less
+    near_small : (l : Label C) → label_of old.labels v ≡ Some l → ops.units l.cost (2 ^ 30)
+    near_small l has = label_small laws S under_way.space starts under_way.fit old.tree.items under_way.tree (label_of old.labels) (settled_of old.labels) near.before front_before under_way.expanded
+      (λ c. NoDearer ops l.cost c) (λ c d f g. le_trans laws l.cost c d f g)
+      (λ u m s h. label_least laws S old.tree.items (label_of old.labels) (settled_of old.labels) near.before mid.queue near.key v front_before near.takes near.unsettled l has m.cost u (front_before.queued u m s h))
+      under_way.starts_in v l has (λ d f. f)
+
+    pub taken_from_near : IsTaken ops S mid v
+    taken_from_near = record {
+      space = under_way.space;
+      before = near.before;
+      front = IsFront-same ops S old.tree.items mid.tree.items (label_of old.labels) (label_of mid.labels) (settled_of old.labels) (settled_of mid.labels) near.before near.before tree (ap label_of labels) (ap settled_of labels) refl front_before;
+      key = near.key;
+      takes = near.takes;
+      unsettled = ap (λ x. settled_of x v) labels ∙ near.unsettled;
+      units = λ l h. near_small l (sym (ap (λ x. label_of x v) labels) ∙ h);
+    }
