@@ -2,7 +2,7 @@
 use Rattle.std.proofs.Common.{◌≡◌, ℕ, zero, suc, ◌+◌, ◌^◌, ◌<◌, ◌≤◌, ◌⊎◌, inl, inr, Bool, true, false, cond, nat_eq, Option, Some, None, List, [], ◌∷◌, ◌++◌, length, refl, sym, ◌∙◌, ap, subst, ◌≢◌, true≢false, eq-eqb, arith}
 use Rattle.std.specs.List.{Contains, slice_get}
 use Rattle.std.proofs.lemmas.List.Elements.{Contains-push_cases}
-use Rattle.std.proofs.lemmas.Option.{same_Some, slice_get_within}
+use Rattle.std.proofs.lemmas.Option.{none-some, slice_get_within}
 use Rattle.search_graph.specs.Costs.{CostOps, CostLaws, NoDearer}
 use Rattle.search_graph.specs.declared.ends.Start.{Start}
 use Rattle.step_search.specs.Spaces.{Space, IsSpace}
@@ -120,3 +120,36 @@ module _ {C : Type 0} {ops : CostOps C} (laws : CostLaws ops) (S : Space C) (sta
               | inr q ↦ absurd (h.0 (subst (λ (x : Start C). S.May x.vertex) (sym q) m)) ];
           });
         } ]
+
+-- an empty search has begun nowhere
+module _ {C : Type 0} (ops : CostOps C) (S : Space C) (starts : List (Start C)) (search : Search C) (tree : search.tree.items ≡ []) (labels : search.labels ≡ []) (queue : search.queue ≡ []) where
+  no_label : (v : ℕ) (l : Label C) → label_of search.labels v ≡ Some l → ⊥
+  no_label v l h = none-some l (sym (ap (λ x. label_of x v) labels) ∙ h)
+
+  no_node : (i : ℕ) (n : Node C) → slice_get search.tree.items i ≡ Some n → ⊥
+  no_node i n h = none-some n (sym (ap (λ t. slice_get t i) tree) ∙ h)
+
+  no_entry : (x : C × ℕ) → Contains search.queue x → ⊥
+  no_entry x h = let none : Contains [] x = subst (λ ys. Contains ys x) queue h in let lt : none.0 < 0 = none.1 in omega arith
+
+  no_start : (s : Start C) → Contains [] s → ⊥
+  no_start s h = let lt : h.0 < 0 = h.1 in omega arith
+
+  pub none_settled : (v : ℕ) → settled_of search.labels v ≡ false
+  none_settled v = ap (λ x. settled_of x v) labels
+
+  pub begun_nowhere : IsSpace ops S → AreStarts ops S starts → IsBegun ops S starts [] search
+  begun_nowhere space fit = record {
+    space = space;
+    fit = fit;
+    tree = record { nodes = λ i n h. absurd (no_node i n h) };
+    front = record {
+      labelled = λ v l h. absurd (no_label v l h);
+      in_tree = λ v s. absurd (true≢false (sym s ∙ none_settled v));
+      queued = λ v l s h. absurd (no_label v l h);
+      keys = λ k v h. absurd (no_entry (k, v) h);
+      ordered = λ k v h. absurd (no_entry (k, v) h);
+    };
+    expanded = record { each = λ i n h. absurd (no_node i n h) };
+    starts_in = record { node = λ s h m. absurd (no_start s h) };
+  }

@@ -62,8 +62,8 @@ module _ {C : Type 0} {ops : CostOps C} (laws : CostLaws ops) (S : Space C) (sta
           is_walk = ap (λ (x : List ℕ). x ++ target ∷ []) w.5;
         }
 
-    pub least_path : (trail walk : List ℕ) → IsTrail search.tree.items (Some l.node) trail → walk ≡ reverse trail ++ target ∷ [] → IsLeastPath ops S starts target walk l.cost
-    least_path trail walk t e = record {
-      leads = subst (λ (x : List ℕ). IsPathTo ops S starts target x l.cost) (sym e) (trail_leads trail t);
+    pub least_path : (trail back walk : List ℕ) → IsTrail search.tree.items (Some l.node) trail → back ≡ reverse trail → walk ≡ back ++ target ∷ [] → IsLeastPath ops S starts target walk l.cost
+    least_path trail back walk t e d = record {
+      leads = subst (λ (x : List ℕ). IsPathTo ops S starts target x l.cost) (sym (d ∙ ap (λ (x : List ℕ). x ++ target ∷ []) e)) (trail_leads trail t);
       least = label_is_least;
     }
