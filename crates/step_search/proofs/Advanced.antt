@@ -1,9 +1,9 @@
 -- The search once a vertex is settled, or once it has begun at one start more; and how many vertices are still open.
-use Rattle.std.proofs.Common.{◌≡◌, ℕ, zero, suc, ◌+◌, ◌^◌, ◌<◌, ◌≤◌, ◌⊎◌, inl, inr, Bool, true, false, cond, nat_eq, Option, Some, None, List, [], ◌∷◌, ◌++◌, length, refl, sym, ◌∙◌, ap, subst, ◌≢◌, true≢false, eq-eqb, arith}
+use Rattle.std.proofs.Common.{◌≡◌, ℕ, zero, suc, ◌+◌, ◌^◌, ◌<◌, ◌≤◌, inl, inr, Bool, true, false, nat_eq, Some, List, [], ◌∷◌, ◌++◌, length, refl, sym, ◌∙◌, ap, subst, ◌≢◌, true≢false, eq-eqb, arith}
 use Rattle.std.specs.List.{Contains, slice_get}
 use Rattle.std.proofs.lemmas.List.Elements.{Contains-push_cases}
 use Rattle.std.proofs.lemmas.Option.{none-some, slice_get_within}
-use Rattle.search_graph.specs.Costs.{CostOps, CostLaws, NoDearer}
+use Rattle.search_graph.specs.Costs.{CostOps, CostLaws}
 use Rattle.search_graph.specs.declared.ends.Start.{Start}
 use Rattle.step_search.specs.Spaces.{Space, IsSpace}
 use Rattle.step_search.specs.Paths.{AreStarts}
@@ -14,7 +14,7 @@ use Rattle.step_search.specs.UnderWay.{IsUnderWay, IsBegun}
 use Rattle.step_search.specs.declared.labels.Label.{Label}
 use Rattle.step_search.specs.declared.dijkstra.Node.{Node}
 use Rattle.step_search.specs.declared.dijkstra.Search.{Search}
-use Rattle.step_search.proofs.Falls.{by_truth, same_place, changed-here, changed-there, NodesExpanded-falls}
+use Rattle.step_search.proofs.Falls.{same_place, changed-here, changed-there, NodesExpanded-falls}
 use Rattle.step_search.proofs.Grown.{HasNode-left, HasNode-last, StartsIn-left, IsTree-push, NodesExpanded-push}
 
 -- one for a vertex that isn't settled
@@ -48,10 +48,11 @@ module _ (settled : ℕ → Bool) (v : ℕ) where
   pub open-fewer : (n : ℕ) → v < n → settled v ≡ false → open_below (changed settled v true) n < open_below settled n
   open-fewer zero lt s = absurd (omega arith)
   open-fewer (suc n) lt s = elim (same_place v n) [
-      inl e ↦ fewer_here (one_if_open (changed settled v true n)) (one_if_open (settled n)) (open_below (changed settled v true) n) (open_below settled n)
+    | inl e ↦ fewer_here (one_if_open (changed settled v true n)) (one_if_open (settled n)) (open_below (changed settled v true) n) (open_below settled n)
         (ap one_if_open (changed-here settled v true n e)) (ap one_if_open (sym (ap settled e) ∙ s)) (open-same n (omega arith))
     | inr e ↦ fewer_there (one_if_open (changed settled v true n)) (one_if_open (settled n)) (open_below (changed settled v true) n) (open_below settled n)
-        (ap one_if_open (changed-there settled v true n e)) (open-fewer n (other_below v n lt e) s) ]
+        (ap one_if_open (changed-there settled v true n e)) (open-fewer n (other_below v n lt e) s)
+  ]
 
 module _ {C : Type 0} {ops : CostOps C} (laws : CostLaws ops) (S : Space C) (starts : List (Start C)) (old new : Search C)
     (front : IsFront ops S new.tree.items (label_of new.labels) (settled_of new.labels) new.queue) where
@@ -73,7 +74,7 @@ module _ {C : Type 0} {ops : CostOps C} (laws : CostLaws ops) (S : Space C) (sta
       tree = subst (λ (t : List (Node C)). IsTree ops S starts t) (sym settles.grows) (IsTree-push ops S starts old.tree.items (node_of v settles.label) is_tree settled_node);
       front = front;
       expanded = subst (λ (t : List (Node C)). NodesExpanded ops S t (label_of new.labels)) (sym settles.grows)
-        (NodesExpanded-push ops S old.tree.items (node_of v settles.label) (label_of new.labels) (NodesExpanded-falls laws S old.tree.items (label_of old.labels) (label_of new.labels) settles.falls expanded) (opened settles.label settles.had));
+          (NodesExpanded-push ops S old.tree.items (node_of v settles.label) (label_of new.labels) (NodesExpanded-falls laws S old.tree.items (label_of old.labels) (label_of new.labels) settles.falls expanded) (opened settles.label settles.had));
       starts_in = subst (λ (t : List (Node C)). StartsIn S starts t) (sym settles.grows) (StartsIn-left S starts old.tree.items (node_of v settles.label) starts_in);
     }
 
@@ -82,7 +83,7 @@ module _ {C : Type 0} {ops : CostOps C} (laws : CostLaws ops) (S : Space C) (sta
     settled_fewer =
         let m = taken.front.labelled v settles.label settles.had in
         subst (λ (f : ℕ → Bool). open_below f S.vertices < open_below (settled_of old.labels) S.vertices) (sym settles.settled)
-          (open-fewer (settled_of old.labels) v S.vertices (taken.space.heads m.0.vertex v m.2.0 m.2.1) taken.unsettled)
+        (open-fewer (settled_of old.labels) v S.vertices (taken.space.heads m.0.vertex v m.2.0 m.2.1) taken.unsettled)
 
   module _ (done : List (Start C)) (begun : IsBegun ops S starts done old) (s : Start C) (among : Contains starts s) (begins : Begins ops S old new s) where
     start_is_node : S.May s.vertex → IsNode ops S starts old.tree.items (length old.tree.items) (start_node s)
@@ -95,31 +96,34 @@ module _ {C : Type 0} {ops : CostOps C} (laws : CostLaws ops) (S : Space C) (sta
     -- once the search has begun at one start more it has begun at all of these
     pub begun_more : IsBegun ops S starts (done ++ s ∷ []) new
     begun_more = elim begins.grows [
-        inl h ↦ record {
-          space = begun.space;
-          fit = begun.fit;
-          tree = subst (λ (t : List (Node C)). IsTree ops S starts t) (sym h.1) (IsTree-push ops S starts old.tree.items (start_node s) begun.tree (start_is_node h.0));
-          front = front;
-          expanded = subst (λ (t : List (Node C)). NodesExpanded ops S t (label_of new.labels)) (sym h.1)
+      | inl h ↦ record {
+        space = begun.space;
+        fit = begun.fit;
+        tree = subst (λ (t : List (Node C)). IsTree ops S starts t) (sym h.1) (IsTree-push ops S starts old.tree.items (start_node s) begun.tree (start_is_node h.0));
+        front = front;
+        expanded = subst (λ (t : List (Node C)). NodesExpanded ops S t (label_of new.labels)) (sym h.1)
             (NodesExpanded-push ops S old.tree.items (start_node s) (label_of new.labels) (NodesExpanded-falls laws S old.tree.items (label_of old.labels) (label_of new.labels) begins.falls begun.expanded) h.2);
-          starts_in = subst (λ (t : List (Node C)). StartsIn S (done ++ s ∷ []) t) (sym h.1) (record {
-            node = λ r k m. elim (Contains-push_cases done s r k) [
-                inl q ↦ HasNode-left old.tree.items (start_node s) r.vertex r.cost (begun.starts_in.node r q m)
-              | inr q ↦ subst (λ (x : Start C). HasNode (old.tree.items ++ start_node s ∷ []) x.vertex x.cost) q (HasNode-last old.tree.items (start_node s)) ];
-          });
-        }
+        starts_in = subst (λ (t : List (Node C)). StartsIn S (done ++ s ∷ []) t) (sym h.1) (record {
+          node = λ r k m. elim (Contains-push_cases done s r k) [
+            | inl q ↦ HasNode-left old.tree.items (start_node s) r.vertex r.cost (begun.starts_in.node r q m)
+            | inr q ↦ subst (λ (x : Start C). HasNode (old.tree.items ++ start_node s ∷ []) x.vertex x.cost) q (HasNode-last old.tree.items (start_node s))
+          ];
+        });
+      }
       | inr h ↦ record {
-          space = begun.space;
-          fit = begun.fit;
-          tree = subst (λ (t : List (Node C)). IsTree ops S starts t) (sym h.1) begun.tree;
-          front = front;
-          expanded = subst (λ (t : List (Node C)). NodesExpanded ops S t (label_of new.labels)) (sym h.1) (NodesExpanded-falls laws S old.tree.items (label_of old.labels) (label_of new.labels) begins.falls begun.expanded);
-          starts_in = subst (λ (t : List (Node C)). StartsIn S (done ++ s ∷ []) t) (sym h.1) (record {
-            node = λ r k m. elim (Contains-push_cases done s r k) [
-                inl q ↦ begun.starts_in.node r q m
-              | inr q ↦ absurd (h.0 (subst (λ (x : Start C). S.May x.vertex) (sym q) m)) ];
-          });
-        } ]
+        space = begun.space;
+        fit = begun.fit;
+        tree = subst (λ (t : List (Node C)). IsTree ops S starts t) (sym h.1) begun.tree;
+        front = front;
+        expanded = subst (λ (t : List (Node C)). NodesExpanded ops S t (label_of new.labels)) (sym h.1) (NodesExpanded-falls laws S old.tree.items (label_of old.labels) (label_of new.labels) begins.falls begun.expanded);
+        starts_in = subst (λ (t : List (Node C)). StartsIn S (done ++ s ∷ []) t) (sym h.1) (record {
+          node = λ r k m. elim (Contains-push_cases done s r k) [
+            | inl q ↦ begun.starts_in.node r q m
+            | inr q ↦ absurd (h.0 (subst (λ (x : Start C). S.May x.vertex) (sym q) m))
+          ];
+        });
+      }
+    ]
 
 -- an empty search has begun nowhere
 module _ {C : Type 0} (ops : CostOps C) (S : Space C) (starts : List (Start C)) (search : Search C) (tree : search.tree.items ≡ []) (labels : search.labels ≡ []) (queue : search.queue ≡ []) where

@@ -1,17 +1,16 @@
 -- The answer to a target that is settled, or when nothing is left to settle.
-use Rattle.std.proofs.Common.{◌≡◌, ℕ, ◌<◌, ◌⊎◌, inl, inr, Bool, true, false, Option, Some, None, List, [], ◌∷◌, ◌++◌, reverse, refl, sym, ◌∙◌, ap, subst, arith}
-use Rattle.std.specs.List.{Contains, slice_get}
+use Rattle.std.proofs.Common.{◌≡◌, ℕ, ◌<◌, inl, inr, Some, None, List, [], ◌∷◌, ◌++◌, reverse, sym, ◌∙◌, ap, subst, arith}
+use Rattle.std.specs.List.{Contains}
 use Rattle.std.proofs.lemmas.Option.{same_Some, none-some}
 use Rattle.search_graph.specs.Costs.{CostOps, CostLaws, NoDearer}
 use Rattle.search_graph.specs.declared.ends.Start.{Start}
-use Rattle.search_graph.proofs.Order.{le_refl, le_trans}
-use Rattle.step_search.specs.Spaces.{Space, StepBy, Path}
+use Rattle.search_graph.proofs.Order.{le_trans}
+use Rattle.step_search.specs.Spaces.{Space}
 use Rattle.step_search.specs.Paths.{IsPathTo, IsLeastPath, NoPathTo}
 use Rattle.step_search.specs.Labelled.{label_of, settled_of}
-use Rattle.step_search.specs.Progress.{LabelWithin, IsTrail}
+use Rattle.step_search.specs.Progress.{IsTrail}
 use Rattle.step_search.specs.UnderWay.{IsUnderWay, IsDone}
 use Rattle.step_search.specs.declared.labels.Label.{Label}
-use Rattle.step_search.specs.declared.dijkstra.Node.{Node}
 use Rattle.step_search.specs.declared.dijkstra.Search.{Search}
 use Rattle.step_search.proofs.Far.{path_far}
 use Rattle.step_search.proofs.Trails.{trail_of}
@@ -24,26 +23,30 @@ module _ {C : Type 0} {ops : CostOps C} (laws : CostLaws ops) (S : Space C) (sta
   pub no_path : label_of search.labels target ≡ None → NoPathTo ops S starts target
   no_path none walk d p =
       elim (path_far laws S under_way.space starts under_way.fit search.tree.items under_way.tree (label_of search.labels) (settled_of search.labels) search.queue under_way.front under_way.expanded
-        (λ c. ⊥) (λ c e f g. f)
-        (λ v l s h. elim done [
-            inl k ↦ let r = under_way.front.in_tree target k in none-some r.0 (sym none ∙ r.1)
-          | inr k ↦ nothing_in search.queue (l.cost, v) k (under_way.front.queued v l s h) ])
-        under_way.starts_in target walk d p) [
-          inl w ↦ none-some w.0 (sym none ∙ w.1)
-        | inr f ↦ f ]
+      (λ c. ⊥) (λ c e f g. f)
+      (λ v l s h. elim done [
+        | inl k ↦ let r = under_way.front.in_tree target k in none-some r.0 (sym none ∙ r.1)
+        | inr k ↦ nothing_in search.queue (l.cost, v) k (under_way.front.queued v l s h)
+      ])
+      under_way.starts_in target walk d p) [
+        | inl w ↦ none-some w.0 (sym none ∙ w.1)
+        | inr f ↦ f
+      ]
 
   module _ (l : Label C) (has : label_of search.labels target ≡ Some l) where
     -- no path costs less than the label
     pub label_is_least : (walk : List ℕ) (d : C) → IsPathTo ops S starts target walk d → NoDearer ops l.cost d
     label_is_least walk d p =
         elim (path_far laws S under_way.space starts under_way.fit search.tree.items under_way.tree (label_of search.labels) (settled_of search.labels) search.queue under_way.front under_way.expanded
-          (λ c. NoDearer ops l.cost c) (λ c e f g. le_trans laws l.cost c e f g)
-          (λ v m s h. elim done [
-              inl k ↦ under_way.front.ordered m.cost v (under_way.front.queued v m s h) target l k has
-            | inr k ↦ absurd (nothing_in search.queue (m.cost, v) k (under_way.front.queued v m s h)) ])
-          under_way.starts_in target walk d p) [
-            inl w ↦ let e : w.0 ≡ l = same_Some w.0 l (sym w.1 ∙ has) in subst (λ (x : Label C). NoDearer ops x.cost d) e w.2
-          | inr f ↦ f ]
+        (λ c. NoDearer ops l.cost c) (λ c e f g. le_trans laws l.cost c e f g)
+        (λ v m s h. elim done [
+          | inl k ↦ under_way.front.ordered m.cost v (under_way.front.queued v m s h) target l k has
+          | inr k ↦ absurd (nothing_in search.queue (m.cost, v) k (under_way.front.queued v m s h))
+        ])
+        under_way.starts_in target walk d p) [
+          | inl w ↦ let e : w.0 ≡ l = same_Some w.0 l (sym w.1 ∙ has) in subst (λ (x : Label C). NoDearer ops x.cost d) e w.2
+          | inr f ↦ f
+        ]
 
     -- and the trail of its node, with the target at its end, leads there at its cost
     pub trail_leads : (trail : List ℕ) → IsTrail search.tree.items (Some l.node) trail → IsPathTo ops S starts target (reverse trail ++ target ∷ []) l.cost

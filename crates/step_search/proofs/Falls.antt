@@ -1,10 +1,10 @@
 -- How labels fall while a search goes on, and what stays while they do.
-use Rattle.std.proofs.Common.{◌≡◌, ℕ, ◌⊎◌, inl, inr, Bool, true, false, cond, nat_eq, Option, Some, None, List, refl, sym, ◌∙◌, ap, subst, eq-eqb}
+use Rattle.std.proofs.Common.{◌≡◌, ℕ, ◌⊎◌, inl, inr, Bool, true, false, cond, nat_eq, Option, List, refl, sym, ◌∙◌, ap, subst, eq-eqb}
 use Rattle.std.proofs.lemmas.Bool.Decides.{eqb_tells}
 use Rattle.std.proofs.lemmas.Option.{same_Some}
 use Rattle.search_graph.specs.Costs.{CostOps, CostLaws, NoDearer}
 use Rattle.search_graph.proofs.Order.{le_refl, le_trans}
-use Rattle.step_search.specs.Spaces.{Space, HasHop}
+use Rattle.step_search.specs.Spaces.{Space}
 use Rattle.step_search.specs.Labelled.{changed}
 use Rattle.step_search.specs.Progress.{LabelWithin, LabelsFall, SettledWithin, Expanded, NodesExpanded, IsFront}
 use Rattle.step_search.specs.declared.labels.Label.{Label}

@@ -1,14 +1,14 @@
 -- How far a search has come along any path: its end is expanded, or what is paid there is far.
-use Rattle.std.proofs.Common.{◌≡◌, ℕ, zero, suc, ◌+◌, ◌^◌, ◌<◌, ◌≤◌, ◌⊎◌, inl, inr, Bool, true, false, Option, Some, None, List, [], ◌∷◌, ◌++◌, refl, sym, ◌∙◌, ap, subst, arith}
+use Rattle.std.proofs.Common.{◌≡◌, ℕ, zero, suc, ◌+◌, ◌^◌, ◌<◌, ◌⊎◌, inl, inr, Bool, true, false, Option, Some, None, List, [], ◌∷◌, ◌++◌, refl, sym, ◌∙◌, ap, subst, arith}
 use Rattle.std.specs.List.{Contains, slice_get}
 use Rattle.std.proofs.lemmas.Option.{same_Some}
 use Rattle.search_graph.specs.Costs.{CostOps, CostLaws, NoDearer}
 use Rattle.search_graph.specs.declared.ends.Start.{Start}
-use Rattle.search_graph.proofs.Order.{le_refl, le_trans, le_from_same, same_from_le, plus_le, plus_le_left, plus_grows}
+use Rattle.search_graph.proofs.Order.{le_trans, same_from_le, plus_le, plus_le_left, plus_grows}
 use Rattle.search_graph.proofs.Chains.{Chain-push, Chain-valid, Chain-grows, Chain-from_zero, Chain-to_more}
 use Rattle.step_search.specs.Spaces.{Space, HasHop, StepBy, Path, IsSpace}
 use Rattle.step_search.specs.Paths.{AreStarts, IsPathTo}
-use Rattle.step_search.specs.Progress.{HasNode, ComesFrom, IsNode, IsTree, IsLabel, LabelWithin, Expanded, NodesExpanded, StartsIn, IsFront}
+use Rattle.step_search.specs.Progress.{ComesFrom, IsTree, LabelWithin, Expanded, NodesExpanded, StartsIn, IsFront}
 use Rattle.step_search.specs.declared.labels.Label.{Label}
 use Rattle.step_search.specs.declared.dijkstra.Node.{Node}
 use Rattle.step_search.proofs.Falls.{by_truth, LabelWithin-more}
@@ -67,8 +67,8 @@ module _ {C : Type 0} {ops : CostOps C} (laws : CostLaws ops) (S : Space C) (spa
           let found : LabelWithin ops label v h.0 = subst (λ (x : C). LabelWithin ops label v x) (sym step.2) (e.finds v step.0 step.1) in
           let valid : ops.valid h.0 = subst ops.valid (sym step.2) (laws.plus_valid c step.0 k (hop_valid u v step.0 step.1)) in
           by_truth (settled v)
-            (λ s. walk_far v z h.0 d vs valid h.2 (settled_expanded v found.0 h.0 valid s found.1 found.2))
-            (λ s. inr (up found.0.cost d (far v found.0 s found.1) (le_trans laws found.0.cost h.0 d found.2 (Chain-grows laws hop_valid v z h.0 d vs valid h.2))))
+          (λ s. walk_far v z h.0 d vs valid h.2 (settled_expanded v found.0 h.0 valid s found.1 found.2))
+          (λ s. inr (up found.0.cost d (far v found.0 s found.1) (le_trans laws found.0.cost h.0 d found.2 (Chain-grows laws hop_valid v z h.0 d vs valid h.2))))
 
       module _ (starts_in : StartsIn S starts tree) where
         start_expanded : (s : Start C) → Contains starts s → S.May s.vertex → Expanded ops S label s.vertex s.cost
@@ -81,8 +81,9 @@ module _ {C : Type 0} {ops : CostOps C} (laws : CostLaws ops) (S : Space C) (spa
         hop_far s h m u v c d vs p step =
             let vc : ops.valid c = Chain-valid laws hop_valid s.vertex u s.cost c vs (start_valid s h) p in
             elim (walk_far s.vertex u s.cost c vs (start_valid s h) p (start_expanded s h m)) [
-              inl e ↦ inl (subst (λ (x : C). LabelWithin ops label v x) (sym step.2) (e.finds v step.0 step.1))
-            | inr f ↦ inr (up c d f (subst (λ (x : C). NoDearer ops c x) (sym step.2) (plus_grows laws c step.0 vc (hop_valid u v step.0 step.1)))) ]
+              | inl e ↦ inl (subst (λ (x : C). LabelWithin ops label v x) (sym step.2) (e.finds v step.0 step.1))
+              | inr f ↦ inr (up c d f (subst (λ (x : C). NoDearer ops c x) (sym step.2) (plus_grows laws c step.0 vc (hop_valid u v step.0 step.1))))
+            ]
 
         pub path_far : (target : ℕ) (walk : List ℕ) (d : C) → IsPathTo ops S starts target walk d → LabelWithin ops label target d ⊎ Far d
         path_far target walk d p = hop_far p.start p.among p.may p.last target p.paid d p.middle p.goes p.joins
@@ -109,8 +110,9 @@ module _ {C : Type 0} {ops : CostOps C} (laws : CostLaws ops) (S : Space C) (spa
             let vx : ops.valid (ops.plus (ops.plus b.cost e) s) = laws.plus_valid (ops.plus b.cost e) s vbe vs in
             let p : Path ops S b.vertex b.cost small.0 m.vertex (ops.plus b.cost e) = Chain-to_more laws hop_valid b.vertex m.vertex b.cost e small.0 vb small.2 in
             let upper : NoDearer ops l.cost (ops.plus (ops.plus b.cost e) s) = elim (hop_far b w.1 w.2 m.vertex v (ops.plus b.cost e) (ops.plus (ops.plus b.cost e) s) small.0 p (s, step.1, refl)) [
-                  inl f ↦ let q : f.0 ≡ l = same_Some f.0 l (sym f.1 ∙ has) in subst (λ (y : Label C). NoDearer ops y.cost (ops.plus (ops.plus b.cost e) s)) q f.2
-                | inr f ↦ within (ops.plus (ops.plus b.cost e) s) f ] in
+              | inl f ↦ let q : f.0 ≡ l = same_Some f.0 l (sym f.1 ∙ has) in subst (λ (y : Label C). NoDearer ops y.cost (ops.plus (ops.plus b.cost e) s)) q f.2
+              | inr f ↦ within (ops.plus (ops.plus b.cost e) s) f
+            ] in
             let vm : ops.valid m.cost = node_valid l.node m lab.1 in
             let below : NoDearer ops (ops.plus b.cost e) m.cost = subst (λ (y : C). NoDearer ops (ops.plus b.cost e) y) (sym z.2) (plus_le_left laws e d0 b.cost ve vd0 vb small.3) in
             let lower : NoDearer ops (ops.plus (ops.plus b.cost e) s) l.cost = subst (λ (y : C). NoDearer ops (ops.plus (ops.plus b.cost e) s) y) (sym step.2) (plus_le laws (ops.plus b.cost e) m.cost s vbe vm vs below) in

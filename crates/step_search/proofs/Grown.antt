@@ -1,19 +1,18 @@
 -- The tree with one node more, and the front of the search when a vertex is settled.
-use Rattle.std.proofs.Common.{◌≡◌, ℕ, zero, suc, ◌+◌, ◌^◌, ◌<◌, ◌≤◌, ◌⊎◌, inl, inr, Bool, true, false, nat_eq, Option, Some, None, List, [], ◌∷◌, ◌++◌, length, refl, sym, ◌∙◌, ap, subst, true≢false, eq-eqb, arith}
+use Rattle.std.proofs.Common.{◌≡◌, ℕ, zero, suc, ◌⊎◌, inl, inr, Bool, true, false, nat_eq, Option, Some, None, List, [], ◌∷◌, ◌++◌, length, refl, sym, ◌∙◌, ap, subst, true≢false, eq-eqb}
 use Rattle.std.specs.List.{Contains, slice_get}
 use Rattle.std.proofs.lemmas.Option.{same_Some, none-some}
 use Rattle.search_graph.specs.Costs.{CostOps, CostLaws, NoDearer}
 use Rattle.search_graph.specs.declared.ends.Start.{Start}
 use Rattle.search_graph.proofs.Order.{le_refl, le_trans}
-use Rattle.step_search.specs.Spaces.{Space, StepBy, IsSpace}
+use Rattle.step_search.specs.Spaces.{Space}
 use Rattle.step_search.specs.Queued.{TakesLeast}
-use Rattle.step_search.specs.Labelled.{changed, label_of, settled_of}
-use Rattle.step_search.specs.Progress.{HasNode, ComesFrom, IsNode, IsTree, IsLabel, LabelWithin, LabelsFall, SettledWithin, Expanded, NodesExpanded, StartsIn, IsFront}
-use Rattle.step_search.specs.Stepping.{IsAtWork, IsTaken, NoneSettled, OnlyFalls, Settles, Begins, node_of, start_node}
+use Rattle.step_search.specs.Labelled.{changed}
+use Rattle.step_search.specs.Progress.{HasNode, ComesFrom, IsNode, IsTree, IsLabel, LabelWithin, SettledWithin, Expanded, NodesExpanded, StartsIn, IsFront}
+use Rattle.step_search.specs.Stepping.{node_of}
 use Rattle.step_search.specs.declared.labels.Label.{Label}
 use Rattle.step_search.specs.declared.dijkstra.Node.{Node}
-use Rattle.step_search.specs.declared.dijkstra.Search.{Search}
-use Rattle.step_search.proofs.Falls.{by_truth, same_place, changed-here, changed-there}
+use Rattle.step_search.proofs.Falls.{same_place, changed-here, changed-there}
 
 module _ {X : Type 0} where
   -- what a list has, it has with one more
@@ -51,16 +50,18 @@ module _ {C : Type 0} (ops : CostOps C) (S : Space C) where
   pub IsTree-push : (starts : List (Start C)) (tree : List (Node C)) (n : Node C) → IsTree ops S starts tree → IsNode ops S starts tree (length tree) n → IsTree ops S starts (tree ++ n ∷ [])
   IsTree-push starts tree n t h = record {
     nodes = λ i m k. elim (slice_get-cases tree n i m k) [
-        inl q ↦ let was = t.nodes i m q in record { vertex = was.vertex; units = was.units; from = ComesFrom-left starts tree n i m m.before was.from }
+      | inl q ↦ let was = t.nodes i m q in record { vertex = was.vertex; units = was.units; from = ComesFrom-left starts tree n i m m.before was.from }
       | inr q ↦ subst (λ (x : Node C). IsNode ops S starts (tree ++ n ∷ []) i x) q.1 (subst (λ (x : ℕ). IsNode ops S starts (tree ++ n ∷ []) x n) (sym q.0)
-          (record { vertex = h.vertex; units = h.units; from = ComesFrom-left starts tree n (length tree) n n.before h.from })) ];
+          (record { vertex = h.vertex; units = h.units; from = ComesFrom-left starts tree n (length tree) n n.before h.from }))
+    ];
   }
 
   pub NodesExpanded-push : (tree : List (Node C)) (n : Node C) (label : ℕ → Option (Label C)) → NodesExpanded ops S tree label → Expanded ops S label n.vertex n.cost → NodesExpanded ops S (tree ++ n ∷ []) label
   NodesExpanded-push tree n label e h = record {
     each = λ i m k. elim (slice_get-cases tree n i m k) [
-        inl q ↦ e.each i m q
-      | inr q ↦ subst (λ (x : Node C). Expanded ops S label x.vertex x.cost) q.1 h ];
+      | inl q ↦ e.each i m q
+      | inr q ↦ subst (λ (x : Node C). Expanded ops S label x.vertex x.cost) q.1 h
+    ];
   }
 
   IsLabel-left : (tree : List (Node C)) (n : Node C) (v : ℕ) (l : Label C) → IsLabel ops S tree v l → IsLabel ops S (tree ++ n ∷ []) v l
@@ -94,25 +95,30 @@ module _ {C : Type 0} {ops : CostOps C} (laws : CostLaws ops) (S : Space C) (tre
     -- the labels of what is settled from now on are within it
     pub settle-within : SettledWithin ops label (changed settled v true) l.cost
     settle-within u m s h = elim (same_place v u) [
-        inl k ↦ let e : l ≡ m = same_Some l m (sym has ∙ ap label k ∙ h) in subst (λ (x : Label C). NoDearer ops x.cost l.cost) e (le_refl laws l.cost)
-      | inr k ↦ le_trans laws m.cost key l.cost (front.ordered key v ((takes.taken (key, v)).1 (inl refl)) u m (sym (changed-there settled v true u k) ∙ s) h) (takes.least (l.cost, v) (front.queued v l unsettled has)) ]
+      | inl k ↦ let e : l ≡ m = same_Some l m (sym has ∙ ap label k ∙ h) in subst (λ (x : Label C). NoDearer ops x.cost l.cost) e (le_refl laws l.cost)
+      | inr k ↦ le_trans laws m.cost key l.cost (front.ordered key v ((takes.taken (key, v)).1 (inl refl)) u m (sym (changed-there settled v true u k) ∙ s) h) (takes.least (l.cost, v) (front.queued v l unsettled has))
+    ]
 
     settle-ordered : (k : C) (u : ℕ) → Contains queue (k, u) → SettledWithin ops label (changed settled v true) k
     settle-ordered k u h w m s g = elim (same_place v w) [
-        inl e ↦ let q : l ≡ m = same_Some l m (sym has ∙ ap label e ∙ g) in subst (λ (x : Label C). NoDearer ops x.cost k) q (label_least k u ((takes.taken (k, u)).1 (inr h)))
-      | inr e ↦ front.ordered k u ((takes.taken (k, u)).1 (inr h)) w m (sym (changed-there settled v true w e) ∙ s) g ]
+      | inl e ↦ let q : l ≡ m = same_Some l m (sym has ∙ ap label e ∙ g) in subst (λ (x : Label C). NoDearer ops x.cost k) q (label_least k u ((takes.taken (k, u)).1 (inr h)))
+      | inr e ↦ front.ordered k u ((takes.taken (k, u)).1 (inr h)) w m (sym (changed-there settled v true w e) ∙ s) g
+    ]
 
     settle-queued : (u : ℕ) (m : Label C) → changed settled v true u ≡ false → label u ≡ Some m → Contains queue (m.cost, u)
     settle-queued u m s h = elim (same_place v u) [
-        inl k ↦ absurd (true≢false (sym (changed-here settled v true u k) ∙ s))
+      | inl k ↦ absurd (true≢false (sym (changed-here settled v true u k) ∙ s))
       | inr k ↦ elim ((takes.taken (m.cost, u)).0 (front.queued u m (sym (changed-there settled v true u k) ∙ s) h)) [
-            inl e ↦ absurd (not_itself v u k (sym (ap (λ (p : C × ℕ). p.1) e)))
-          | inr q ↦ q ] ]
+        | inl e ↦ absurd (not_itself v u k (sym (ap (λ (p : C × ℕ). p.1) e)))
+        | inr q ↦ q
+      ]
+    ]
 
     settle-in_tree : (u : ℕ) → changed settled v true u ≡ true → (m : Label C) × (label u ≡ Some m) × HasNode (tree ++ node_of v l ∷ []) u m.cost
     settle-in_tree u s = elim (same_place v u) [
-        inl k ↦ (l, sym (ap label k) ∙ has, subst (λ (x : ℕ). HasNode (tree ++ node_of v l ∷ []) x l.cost) k (HasNode-last tree (node_of v l)))
-      | inr k ↦ let r = front.in_tree u (sym (changed-there settled v true u k) ∙ s) in (r.0, r.1, HasNode-left tree (node_of v l) u r.0.cost r.2) ]
+      | inl k ↦ (l, sym (ap label k) ∙ has, subst (λ (x : ℕ). HasNode (tree ++ node_of v l ∷ []) x l.cost) k (HasNode-last tree (node_of v l)))
+      | inr k ↦ let r = front.in_tree u (sym (changed-there settled v true u k) ∙ s) in (r.0, r.1, HasNode-left tree (node_of v l) u r.0.cost r.2)
+    ]
 
     pub settle-front : IsFront ops S (tree ++ node_of v l ∷ []) label (changed settled v true) queue
     settle-front = record {

@@ -1,5 +1,5 @@
 -- What an offered label leaves: the front of the search, with labels that have only fallen.
-use Rattle.std.proofs.Common.{◌≡◌, ℕ, ◌+◌, ◌^◌, ◌<◌, ◌≤◌, ◌⊎◌, inl, inr, Bool, true, false, cond, nat_eq, Option, Some, None, List, refl, sym, ◌∙◌, ap, subst, true≢false, arith}
+use Rattle.std.proofs.Common.{◌≡◌, ℕ, ◌+◌, ◌^◌, inl, inr, Bool, true, false, nat_eq, Option, Some, List, refl, sym, ◌∙◌, ap, subst, true≢false, arith}
 use Rattle.std.specs.Bool.{OnFalse}
 use Rattle.std.specs.List.{Contains, slice_get}
 use Rattle.std.specs.Ordering.{is_lt}
@@ -7,7 +7,7 @@ use Rattle.std.specs.declared.cmp.Ordering.{Ordering}
 use Rattle.std.proofs.lemmas.Option.{same_Some}
 use Rattle.search_graph.specs.Costs.{CostOps, CostLaws, NoDearer}
 use Rattle.search_graph.proofs.Order.{le_refl, le_trans, le_from_less, le_from_not_less, not_both, plus_grows}
-use Rattle.step_search.specs.Spaces.{Space, HasHop, IsSpace}
+use Rattle.step_search.specs.Spaces.{Space, HasHop}
 use Rattle.step_search.specs.Queued.{Adds}
 use Rattle.step_search.specs.Labelled.{changed, label_of, settled_of}
 use Rattle.step_search.specs.Progress.{LabelWithin, LabelsFall, SettledWithin, IsLabel, IsFront}
@@ -55,39 +55,45 @@ module _ {C : Type 0} {ops : CostOps C} (laws : CostLaws ops) (old new : ℕ →
     put-falls : Improves ops old v l.cost → LabelsFall ops old new
     put-falls b = record {
       within = λ u m h. elim (same_place v u) [
-          inl k ↦ (l, new-here u k, le_from_less laws l.cost m.cost (b m (ap old k ∙ h)))
-        | inr k ↦ (m, new-there u k ∙ h, le_refl laws m.cost) ];
+        | inl k ↦ (l, new-here u k, le_from_less laws l.cost m.cost (b m (ap old k ∙ h)))
+        | inr k ↦ (m, new-there u k ∙ h, le_refl laws m.cost)
+      ];
     }
 
     module _ (q : Adds before after (l.cost, v)) (unsettled : settled v ≡ false) (falls : LabelsFall ops old new)
         (S : Space C) (tree : List (Node C)) (front : IsFront ops S tree old settled before) (is : IsLabel ops S tree v l) (w : SettledWithin ops old settled l.cost) where
       put-labelled : (u : ℕ) (m : Label C) → new u ≡ Some m → IsLabel ops S tree u m
       put-labelled u m h = elim (same_place v u) [
-          inl k ↦ subst (λ (x : ℕ). IsLabel ops S tree x m) k (subst (λ (x : Label C). IsLabel ops S tree v x) (only_l u m k h) is)
-        | inr k ↦ front.labelled u m (sym (new-there u k) ∙ h) ]
+        | inl k ↦ subst (λ (x : ℕ). IsLabel ops S tree x m) k (subst (λ (x : Label C). IsLabel ops S tree v x) (only_l u m k h) is)
+        | inr k ↦ front.labelled u m (sym (new-there u k) ∙ h)
+      ]
 
       -- a settled vertex is another
       elsewhere : (u : ℕ) → settled u ≡ true → new u ≡ old u
       elsewhere u s = elim (same_place v u) [
-          inl k ↦ absurd (true≢false (sym s ∙ sym (ap settled k) ∙ unsettled))
-        | inr k ↦ new-there u k ]
+        | inl k ↦ absurd (true≢false (sym s ∙ sym (ap settled k) ∙ unsettled))
+        | inr k ↦ new-there u k
+      ]
 
       put-queued : (u : ℕ) (m : Label C) → settled u ≡ false → new u ≡ Some m → Contains after (m.cost, u)
       put-queued u m s h = elim (same_place v u) [
-          inl k ↦ subst (λ (x : ℕ). Contains after (m.cost, x)) k (subst (λ (x : Label C). Contains after (x.cost, v)) (only_l u m k h) ((q (l.cost, v)).1 (inl refl)))
-        | inr k ↦ (q (m.cost, u)).1 (inr (front.queued u m s (sym (new-there u k) ∙ h))) ]
+        | inl k ↦ subst (λ (x : ℕ). Contains after (m.cost, x)) k (subst (λ (x : Label C). Contains after (x.cost, v)) (only_l u m k h) ((q (l.cost, v)).1 (inl refl)))
+        | inr k ↦ (q (m.cost, u)).1 (inr (front.queued u m s (sym (new-there u k) ∙ h)))
+      ]
 
       put-keys : (k : C) (u : ℕ) → Contains after (k, u) → LabelWithin ops new u k
       put-keys k u h = elim ((q (k, u)).0 h) [
-          inl x ↦ (l, new-here u (sym (ap (λ (p : C × ℕ). p.1) x)), subst (λ (c : C). NoDearer ops l.cost c) (sym (ap (λ (p : C × ℕ). p.0) x)) (le_refl laws l.cost))
-        | inr x ↦ LabelWithin-falls laws old new u k falls (front.keys k u x) ]
+        | inl x ↦ (l, new-here u (sym (ap (λ (p : C × ℕ). p.1) x)), subst (λ (c : C). NoDearer ops l.cost c) (sym (ap (λ (p : C × ℕ). p.0) x)) (le_refl laws l.cost))
+        | inr x ↦ LabelWithin-falls laws old new u k falls (front.keys k u x)
+      ]
 
       put-ordered : (k : C) (u : ℕ) → Contains after (k, u) → SettledWithin ops new settled k
       put-ordered k u h z m s g =
           let was : old z ≡ Some m = sym (elsewhere z s) ∙ g in
           elim ((q (k, u)).0 h) [
-            inl x ↦ subst (λ (c : C). NoDearer ops m.cost c) (sym (ap (λ (p : C × ℕ). p.0) x)) (w z m s was)
-          | inr x ↦ front.ordered k u x z m s was ]
+            | inl x ↦ subst (λ (c : C). NoDearer ops m.cost c) (sym (ap (λ (p : C × ℕ). p.0) x)) (w z m s was)
+            | inr x ↦ front.ordered k u x z m s was
+          ]
 
       put-front : IsFront ops S tree new settled after
       put-front = record {
@@ -143,12 +149,12 @@ module _ {C : Type 0} {ops : CostOps C} (laws : CostLaws ops) (S : Space C) (old
       hop_at_work = record {
         space = work.space;
         front = subst (λ (t : List (Node C)). IsFront ops S t (label_of new.labels) (settled_of new.labels) new.queue) (sym tree)
-          (subst (λ (f : ℕ → Bool). IsFront ops S old.tree.items (label_of new.labels) f new.queue) (sym same) hop_front);
+            (subst (λ (f : ℕ → Bool). IsFront ops S old.tree.items (label_of new.labels) f new.queue) (sym same) hop_front);
         here = ap (λ (t : List (Node C)). slice_get t at) tree ∙ work.here;
         vertex = work.vertex;
         units = work.units;
         within = subst (λ (f : ℕ → Bool). SettledWithin ops (label_of new.labels) f node.cost) (sym same)
-          (SettledWithin-falls laws S old.tree.items (label_of old.labels) (label_of new.labels) (settled_of old.labels) old.queue node.cost work.front hop_falls work.within);
+            (SettledWithin-falls laws S old.tree.items (label_of old.labels) (label_of new.labels) (settled_of old.labels) old.queue node.cost work.front hop_falls work.within);
       }
 
       pub hop_only_falls : OnlyFalls ops old new

@@ -1,13 +1,11 @@
 -- What settling a vertex and beginning at a start leave of a search.
-use Rattle.std.proofs.Common.{◌≡◌, ℕ, ◌+◌, ◌^◌, ◌<◌, ◌≤◌, ◌⊎◌, inl, inr, Bool, true, false, Option, Some, None, List, [], ◌∷◌, ◌++◌, length, refl, sym, ◌∙◌, ap, subst, true≢false, arith}
-use Rattle.std.specs.List.{Contains, slice_get}
-use Rattle.std.proofs.lemmas.Option.{same_Some}
-use Rattle.search_graph.specs.Costs.{CostOps, CostLaws, NoDearer}
+use Rattle.std.proofs.Common.{◌≡◌, ℕ, ◌^◌, ◌<◌, inl, inr, Bool, true, Option, Some, List, [], ◌∷◌, ◌++◌, length, refl, sym, ◌∙◌, ap, subst, true≢false, arith}
+use Rattle.std.specs.List.{slice_get}
+use Rattle.search_graph.specs.Costs.{CostOps, CostLaws}
 use Rattle.search_graph.specs.declared.ends.Start.{Start}
 use Rattle.step_search.specs.Spaces.{Space, IsSpace}
-use Rattle.step_search.specs.Queued.{TakesLeast}
 use Rattle.step_search.specs.Labelled.{changed, label_of, settled_of}
-use Rattle.step_search.specs.Progress.{IsTree, IsLabel, LabelWithin, LabelsFall, SettledWithin, Expanded, NodesExpanded, StartsIn, IsFront}
+use Rattle.step_search.specs.Progress.{LabelWithin, LabelsFall, SettledWithin, Expanded, IsFront}
 use Rattle.step_search.specs.Stepping.{IsAtWork, IsTaken, NoneSettled, OnlyFalls, Settles, Begins, node_of, start_node}
 use Rattle.step_search.specs.declared.labels.Label.{Label}
 use Rattle.step_search.specs.declared.dijkstra.Node.{Node}
@@ -21,9 +19,9 @@ module _ {C : Type 0} (ops : CostOps C) (S : Space C) where
       tree' ≡ tree → label' ≡ label → settled' ≡ settled → queue' ≡ queue → IsFront ops S tree label settled queue → IsFront ops S tree' label' settled' queue'
   IsFront-same tree tree' label label' settled settled' queue queue' t l s q f =
       subst (λ (x : List (Node C)). IsFront ops S x label' settled' queue') (sym t)
-        (subst (λ (x : ℕ → Option (Label C)). IsFront ops S tree x settled' queue') (sym l)
-          (subst (λ (x : ℕ → Bool). IsFront ops S tree label x queue') (sym s)
-            (subst (λ (x : List (C × ℕ)). IsFront ops S tree label settled x) (sym q) f)))
+      (subst (λ (x : ℕ → Option (Label C)). IsFront ops S tree x settled' queue') (sym l)
+      (subst (λ (x : ℕ → Bool). IsFront ops S tree label x queue') (sym s)
+      (subst (λ (x : List (C × ℕ)). IsFront ops S tree label settled x) (sym q) f)))
 
 module _ {C : Type 0} {ops : CostOps C} (laws : CostLaws ops) (S : Space C) (old : Search C) (v : ℕ) (taken : IsTaken ops S old v) where
   -- what was taken has a label
@@ -37,12 +35,12 @@ module _ {C : Type 0} {ops : CostOps C} (laws : CostLaws ops) (S : Space C) (old
     settle_at_work at queue place = record {
       space = taken.space;
       front = IsFront-same ops S (old.tree.items ++ node_of v l ∷ []) mid.tree.items (label_of old.labels) (label_of mid.labels) (changed (settled_of old.labels) v true) (settled_of mid.labels) old.queue mid.queue tree labels settled queue
-        (settle-front laws S old.tree.items (label_of old.labels) (settled_of old.labels) taken.before old.queue taken.key v taken.front taken.takes taken.unsettled l has);
+          (settle-front laws S old.tree.items (label_of old.labels) (settled_of old.labels) taken.before old.queue taken.key v taken.front taken.takes taken.unsettled l has);
       here = subst (λ (t : List (Node C)). slice_get t at ≡ Some (node_of v l)) (sym tree) (subst (λ (i : ℕ). slice_get (old.tree.items ++ node_of v l ∷ []) i ≡ Some (node_of v l)) (sym place) (slice_get-last old.tree.items (node_of v l)));
       vertex = let m = taken.front.labelled v l has in taken.space.heads m.0.vertex v m.2.0 m.2.1;
       units = taken.units l has;
       within = subst (λ (x : ℕ → Option (Label C)). SettledWithin ops x (settled_of mid.labels) l.cost) (sym labels)
-        (subst (λ (x : ℕ → Bool). SettledWithin ops (label_of old.labels) x l.cost) (sym settled)
+          (subst (λ (x : ℕ → Bool). SettledWithin ops (label_of old.labels) x l.cost) (sym settled)
           (settle-within laws S old.tree.items (label_of old.labels) (settled_of old.labels) taken.before old.queue taken.key v taken.front taken.takes taken.unsettled l has));
     }
 
@@ -61,7 +59,7 @@ module _ {C : Type 0} {ops : CostOps C} (laws : CostLaws ops) (S : Space C) (old
   begin_at_work space vertex units front none mid at tree labels queue place = record {
     space = space;
     front = IsFront-same ops S (old.tree.items ++ start_node s ∷ []) mid.tree.items (label_of old.labels) (label_of mid.labels) (settled_of old.labels) (settled_of mid.labels) old.queue mid.queue tree (ap label_of labels) (ap settled_of labels) queue
-      (IsFront-push ops S old.tree.items (start_node s) (label_of old.labels) (settled_of old.labels) old.queue front);
+        (IsFront-push ops S old.tree.items (start_node s) (label_of old.labels) (settled_of old.labels) old.queue front);
     here = subst (λ (t : List (Node C)). slice_get t at ≡ Some (start_node s)) (sym tree) (subst (λ (i : ℕ). slice_get (old.tree.items ++ start_node s ∷ []) i ≡ Some (start_node s)) (sym place) (slice_get-last old.tree.items (start_node s)));
     vertex = vertex;
     units = laws.units_more s.cost 1 (2 ^ 30) units (omega arith);

@@ -1,16 +1,14 @@
 -- What the queue gives up on the way to the nearest vertex that isn't settled, and that its label fits.
-use Rattle.std.proofs.Common.{◌≡◌, ℕ, ◌+◌, ◌^◌, ◌<◌, ◌⊎◌, inl, inr, Bool, true, false, Option, Some, List, [], refl, sym, ◌∙◌, ap, subst, true≢false, arith}
-use Rattle.std.specs.List.{Contains}
-use Rattle.std.proofs.lemmas.Option.{same_Some}
+use Rattle.std.proofs.Common.{◌≡◌, ℕ, ◌^◌, inl, inr, Bool, true, Option, Some, List, refl, sym, ◌∙◌, ap, subst, true≢false}
 use Rattle.search_graph.specs.Costs.{CostOps, CostLaws, NoDearer}
 use Rattle.search_graph.specs.declared.ends.Start.{Start}
-use Rattle.search_graph.proofs.Order.{le_refl, le_trans}
+use Rattle.search_graph.proofs.Order.{le_trans}
 use Rattle.step_search.specs.Spaces.{Space}
 use Rattle.step_search.specs.Queued.{TakesLeast}
 use Rattle.step_search.specs.Labelled.{label_of, settled_of}
 use Rattle.step_search.specs.Progress.{IsFront, IsTree, NodesExpanded, StartsIn}
 use Rattle.step_search.specs.Stepping.{Skips, IsNearest, IsTaken}
-use Rattle.step_search.specs.UnderWay.{IsUnderWay, IsBegun}
+use Rattle.step_search.specs.UnderWay.{IsUnderWay}
 use Rattle.step_search.specs.declared.labels.Label.{Label}
 use Rattle.step_search.specs.declared.dijkstra.Node.{Node}
 use Rattle.step_search.specs.declared.dijkstra.Search.{Search}
@@ -27,8 +25,9 @@ module _ {C : Type 0} (settled : ℕ → Bool) where
   Skips-take ops a b c e k t s = record {
     fewer = λ x h. k.fewer x ((t.taken x).1 (inr h));
     kept = λ x h u. elim ((t.taken x).0 (k.kept x h u)) [
-        inl q ↦ absurd (true≢false (sym s ∙ ap settled (sym (ap (λ (p : C × ℕ). p.1) q)) ∙ u))
-      | inr q ↦ q ];
+      | inl q ↦ absurd (true≢false (sym s ∙ ap settled (sym (ap (λ (p : C × ℕ). p.1) q)) ∙ u))
+      | inr q ↦ q
+    ];
   }
 
   -- and the front stays without it
@@ -60,7 +59,7 @@ module _ {C : Type 0} {ops : CostOps C} (laws : CostLaws ops) (S : Space C) (sta
     fit = under_way.fit;
     tree = still_tree;
     front = IsFront-same ops S old.tree.items mid.tree.items (label_of old.labels) (label_of mid.labels) (settled_of old.labels) (settled_of mid.labels) mid.queue mid.queue tree (ap label_of labels) (ap settled_of labels) refl
-      (IsFront-skips (settled_of old.labels) ops S old.tree.items (label_of old.labels) old.queue mid.queue k under_way.front);
+        (IsFront-skips (settled_of old.labels) ops S old.tree.items (label_of old.labels) old.queue mid.queue k under_way.front);
     expanded = still_expanded;
     starts_in = still_starts;
   }
@@ -72,9 +71,9 @@ module _ {C : Type 0} {ops : CostOps C} (laws : CostLaws ops) (S : Space C) (sta
     -- the label of what was taken: no unsettled label is less
     near_small : (l : Label C) → label_of old.labels v ≡ Some l → ops.units l.cost (2 ^ 30)
     near_small l has = label_small laws S under_way.space starts under_way.fit old.tree.items under_way.tree (label_of old.labels) (settled_of old.labels) near.before front_before under_way.expanded
-      (λ c. NoDearer ops l.cost c) (λ c d f g. le_trans laws l.cost c d f g)
-      (λ u m s h. label_least laws S old.tree.items (label_of old.labels) (settled_of old.labels) near.before mid.queue near.key v front_before near.takes near.unsettled l has m.cost u (front_before.queued u m s h))
-      under_way.starts_in v l has (λ d f. f)
+        (λ c. NoDearer ops l.cost c) (λ c d f g. le_trans laws l.cost c d f g)
+        (λ u m s h. label_least laws S old.tree.items (label_of old.labels) (settled_of old.labels) near.before mid.queue near.key v front_before near.takes near.unsettled l has m.cost u (front_before.queued u m s h))
+        under_way.starts_in v l has (λ d f. f)
 
     pub taken_from_near : IsTaken ops S mid v
     taken_from_near = record {

@@ -3,7 +3,7 @@ use Rattle.std.proofs.Common.{◌≡◌, ℕ, suc, ◌<◌, Option, Some, None, 
 use Rattle.std.specs.List.{Contains, slice_get}
 use Rattle.std.proofs.lemmas.Option.{same_Some, none-some}
 use Rattle.std.proofs.lemmas.List.{reverse-append}
-use Rattle.search_graph.specs.Costs.{CostOps, CostLaws}
+use Rattle.search_graph.specs.Costs.{CostOps}
 use Rattle.search_graph.specs.declared.ends.Start.{Start}
 use Rattle.search_graph.proofs.Chains.{Chain-push}
 use Rattle.step_search.specs.Spaces.{Space, StepBy, Path}
@@ -29,7 +29,7 @@ module _ {C : Type 0} (tree : List (Node C)) (o : Option ℕ) (i : ℕ) (n : Nod
       (rest : List ℕ) → IsTrail tree n.before rest → IsTrail tree end (walk' ++ rest)
   trail-more end walk walk' e h rest t =
       subst (λ (x : List ℕ). IsTrail tree end (x ++ rest)) (sym e)
-        (subst (λ (x : List ℕ). IsTrail tree end x) (sym (append_assoc walk (n.vertex ∷ []) rest)) (h (n.vertex ∷ rest) (i, n, at, has, refl, t)))
+      (subst (λ (x : List ℕ). IsTrail tree end x) (sym (append_assoc walk (n.vertex ∷ []) rest)) (h (n.vertex ∷ rest) (i, n, at, has, refl, t)))
 
 module _ {C : Type 0} (ops : CostOps C) (S : Space C) (starts : List (Start C)) (tree : List (Node C)) (is_tree : IsTree ops S starts tree) where
   earlier_from : (i j : ℕ) (n : Node C) (o : Option ℕ) → ComesFrom ops S starts tree i n o → o ≡ Some j → j < i

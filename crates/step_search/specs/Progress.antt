@@ -1,5 +1,5 @@
 -- What holds of a search under way, over its tree of walks, its labels and its queue.
-use Rattle.std.specs.Prelude.{◌≡◌, ℕ, ◌<◌, ◌^◌, ◌⊎◌, Bool, true, false, List, [], ◌∷◌, Option, Some, None}
+use Rattle.std.specs.Prelude.{◌≡◌, ℕ, ◌<◌, ◌^◌, Bool, true, false, List, [], ◌∷◌, Option, Some, None}
 use Rattle.std.specs.List.{Contains, slice_get}
 use Rattle.search_graph.specs.Costs.{CostOps, NoDearer}
 use Rattle.search_graph.specs.declared.ends.Start.{Start}

@@ -1,5 +1,5 @@
 -- Each target so far has its answer.
-use Rattle.std.proofs.Common.{◌≡◌, ℕ, ◌<◌, Some, Option, length}
+use Rattle.std.proofs.Common.{◌≡◌, ℕ, Some, Option, length}
 use Rattle.std.specs.List.{slice_get}
 use Rattle.step_search.specs.Paths.{IsAnswer}
 use Rattle.step_search.specs.UnderWay.{IsUnderWay}

@@ -1,5 +1,5 @@
 -- Each step goes one node back, and its vertex to the walk.
-use Rattle.std.proofs.Common.{◌≡◌, ◌<◌, Some, List, [], ◌++◌, ℕ, slice_get, length, append-nil, refl, sym, subst, lt_trans}
+use Rattle.std.proofs.Common.{◌≡◌, Some, List, [], ℕ, slice_get, length, append-nil, refl, subst, lt_trans}
 use Rattle.std.proofs.lemmas.Option.{slice_get_read}
 use Rattle.step_search.specs.Progress.{IsTrail}
 use Rattle.step_search.proofs.Trails.{steps-fewer, trail-more}

@@ -1,5 +1,5 @@
 -- What goes on behind the vertices so far is the rest of the trail.
-use Rattle.std.proofs.Common.{◌≡◌, ℕ, ◌+◌, ◌<◌, Some, Option, None, List, ◌++◌, length, suc}
+use Rattle.std.proofs.Common.{◌≡◌, ℕ, ◌<◌, Some, List, ◌++◌, length}
 use Rattle.step_search.specs.Progress.{IsTrail}
 use Rattle.step_search.proofs.Trails.{steps_left}
 use Rattle.step_search.proofs.dijkstra.walk_to.Given as goal

@@ -1,5 +1,5 @@
 -- The target's label is the least cost, and the trail of its node the walk; with no label there is no path.
-use Rattle.std.proofs.Common.{ℕ, Some, List, ◌<◌, [], ◌∷◌, ◌++◌, length, sym, ◌∙◌, ap, subst}
+use Rattle.std.proofs.Common.{Some, List, ◌<◌, length, sym, subst}
 use Rattle.std.proofs.lemmas.Option.{slice_get_within}
 use Rattle.step_search.specs.Progress.{IsBackward, IsTrail}
 use Rattle.step_search.specs.declared.dijkstra.Node.{Node}
@@ -23,6 +23,6 @@ returns-in-None g c =
 pub returns-in_ok-push-in-Some : goal.returns-in_ok-push-in-Some
 returns-in_ok-push-in-Some g c =
     least_path g.met.C.Cost.laws (g.T.Steps.space c.args.steps.now) c.args.starts.now c.args.self.now c.requires.under_way c.args.target c.requires.done c.in-Some.label (sym c.in-Some.ensures)
-      c.in_ok-walk-in-Some.ensures.0 c.in_ok-walk-in-Some.walk.items c.push.new.self.items
-      (subst (λ (t : List (Node g.row.C.Denot)). IsTrail t (Some c.in-Some.label.node) c.in_ok-walk-in-Some.ensures.0) c.as_slice.ensures.value c.in_ok-walk-in-Some.ensures.1)
-      c.in_ok-walk-in-Some.ensures.2 c.in_ok-push-in-Some.ensures.items
+    c.in_ok-walk-in-Some.ensures.0 c.in_ok-walk-in-Some.walk.items c.push.new.self.items
+    (subst (λ (t : List (Node g.row.C.Denot)). IsTrail t (Some c.in-Some.label.node) c.in_ok-walk-in-Some.ensures.0) c.as_slice.ensures.value c.in_ok-walk-in-Some.ensures.1)
+    c.in_ok-walk-in-Some.ensures.2 c.in_ok-push-in-Some.ensures.items

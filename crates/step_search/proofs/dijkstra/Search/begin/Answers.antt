@@ -1,5 +1,5 @@
 -- A search begins empty, and at one start after the other.
-use Rattle.std.proofs.Common.{◌≡◌, ◌+◌, [], ◌∷◌, ◌++◌, take, refl, sym, ◌∙◌, ap, subst}
+use Rattle.std.proofs.Common.{[], ◌∷◌, ◌++◌, take, sym, ◌∙◌, ap, subst}
 use Rattle.std.specs.List.{Contains}
 use Rattle.std.proofs.lemmas.List.{take_more}
 use Rattle.step_search.specs.Labelled.{settled_of}
@@ -22,6 +22,6 @@ loop-start-preserved g c =
     let more = begun_more g.met.C.Cost.laws (g.T.Steps.space c.args.steps.now) c.args.starts.now c.loop-start.search c.begin_at.new.self c.in_ok-begin_at.ensures.front (take c.loop-start.start-index c.args.starts.now) c.loop-start.invariant.begun c.start-item.result among c.in_ok-begin_at.ensures.begins in
     record {
       begun = subst (λ ss. IsBegun g.C.Cost.ops (g.T.Steps.space c.args.steps.now) c.args.starts.now ss c.begin_at.new.self)
-        (ap (λ x. take c.loop-start.start-index c.args.starts.now ++ x ∷ []) c.start-item.is ∙ sym (take_more c.args.starts.now c.loop-start.start-index c.start-item.result c.loop-start-test.true)) more;
+          (ap (λ x. take c.loop-start.start-index c.args.starts.now ++ x ∷ []) c.start-item.is ∙ sym (take_more c.args.starts.now c.loop-start.start-index c.start-item.result c.loop-start-test.true)) more;
       unsettled = λ v. ap (λ f. f v) c.in_ok-begin_at.ensures.begins.settled ∙ c.loop-start.invariant.unsettled v;
     }

@@ -1,5 +1,5 @@
 -- The start's node is new in the tree.
-use Rattle.std.proofs.Common.{refl, sym, ◌∙◌}
+use Rattle.std.proofs.Common.{refl, ◌∙◌}
 use Rattle.step_search.proofs.Settled.{begin_at_work, begin_begins, begin_nowhere}
 use Rattle.step_search.proofs.dijkstra.Search.begin_at.Goals as goal
 
@@ -9,7 +9,7 @@ returns-then-not-may_begin-clause-begins g c = begin_nowhere g.met.C.Cost.laws (
 pub expand-requires-clause-at_work : goal.expand-requires-clause-at_work
 expand-requires-clause-at_work g c =
     begin_at_work g.met.C.Cost.laws (g.T.Steps.space c.args.steps.now) c.args.self.now c.args.start c.requires.space c.requires.vertex c.requires.units c.requires.front c.requires.unsettled _ c.len-at.result
-      c.in_ok-push.ensures.items refl refl (c.len-at.ensures ∙ c.args.self.now.tree.ok.0)
+    c.in_ok-push.ensures.items refl refl (c.len-at.ensures ∙ c.args.self.now.tree.ok.0)
 
 pub returns-clause-begins : goal.returns-clause-begins
 returns-clause-begins g c =

@@ -1,7 +1,6 @@
 -- The arcs and the row are all hops out of the node.
 use Rattle.std.proofs.Common.{inl, inr}
 use Rattle.step_search.specs.Labelled.{label_of}
-use Rattle.step_search.specs.Progress.{LabelWithin}
 use Rattle.step_search.proofs.Falls.{LabelWithin-falls}
 use Rattle.step_search.proofs.Offered.{OnlyFalls-trans}
 use Rattle.step_search.proofs.dijkstra.Search.expand.Goals as goal
@@ -13,6 +12,7 @@ returns-clause-falls g c =
 pub returns-clause-expanded : goal.returns-clause-expanded
 returns-clause-expanded g c = record {
   finds = λ v s h. elim h [
-      inl k ↦ LabelWithin-falls g.met.C.Cost.laws (label_of c.expand_arcs.new.self.labels) (label_of c.expand_row.new.self.labels) v (g.C.Cost.ops.plus c.args.node.cost s) c.in_ok-expand_row.ensures.falls.falls (c.in_ok-expand_arcs.ensures.found k.0 v s k.1)
-    | inr k ↦ c.in_ok-expand_row.ensures.found k.0 v s k.1 k.2 ];
+    | inl k ↦ LabelWithin-falls g.met.C.Cost.laws (label_of c.expand_arcs.new.self.labels) (label_of c.expand_row.new.self.labels) v (g.C.Cost.ops.plus c.args.node.cost s) c.in_ok-expand_row.ensures.falls.falls (c.in_ok-expand_arcs.ensures.found k.0 v s k.1)
+    | inr k ↦ c.in_ok-expand_row.ensures.found k.0 v s k.1 k.2
+  ];
 }

@@ -1,8 +1,7 @@
 -- What an arc found stays found while labels fall.
-use Rattle.std.proofs.Common.{◌≡◌, ℕ, ◌+◌, ◌<◌, ◌≤◌, get_or, length, refl, sym, ◌∙◌, subst, arith, below_more, not-suc-le-zero}
+use Rattle.std.proofs.Common.{◌≡◌, ℕ, ◌<◌, get_or, sym, ◌∙◌, subst, arith, below_more}
 use Rattle.std.proofs.lemmas.List.{get_or_default}
 use Rattle.step_search.specs.Labelled.{label_of}
-use Rattle.step_search.specs.Progress.{LabelWithin}
 use Rattle.step_search.proofs.Falls.{LabelWithin-falls}
 use Rattle.step_search.proofs.Offered.{OnlyFalls-refl, OnlyFalls-trans}
 use Rattle.step_search.proofs.dijkstra.Search.expand_arcs.Goals as goal
@@ -22,8 +21,8 @@ loop-arc-preserved g c = record {
   at_work = c.in_ok-relax_arc.ensures.at_work;
   falls = OnlyFalls-trans g.met.C.Cost.laws c.args.self.now c.loop-arc.self c.relax_arc.new.self c.loop-arc.invariant.falls c.in_ok-relax_arc.ensures.falls;
   found = below_more _ _
-    (λ k lt w s h. LabelWithin-falls g.met.C.Cost.laws (label_of c.loop-arc.self.labels) (label_of c.relax_arc.new.self.labels) w (g.C.Cost.ops.plus c.args.node.cost s) c.in_ok-relax_arc.ensures.falls.falls (c.loop-arc.invariant.found k lt w s h))
-    c.in_ok-relax_arc.ensures.found;
+      (λ k lt w s h. LabelWithin-falls g.met.C.Cost.laws (label_of c.loop-arc.self.labels) (label_of c.relax_arc.new.self.labels) w (g.C.Cost.ops.plus c.args.node.cost s) c.in_ok-relax_arc.ensures.falls.falls (c.loop-arc.invariant.found k lt w s h))
+      c.in_ok-relax_arc.ensures.found;
 }
 
 pub returns-clause-at_work : goal.returns-clause-at_work

@@ -1,5 +1,5 @@
 -- What a place found stays found while labels fall.
-use Rattle.std.proofs.Common.{◌≡◌, ℕ, ◌+◌, ◌<◌, ◌≤◌, arith, below_more}
+use Rattle.std.proofs.Common.{arith, below_more}
 use Rattle.step_search.specs.Labelled.{label_of}
 use Rattle.step_search.proofs.Falls.{LabelWithin-falls}
 use Rattle.step_search.proofs.Offered.{OnlyFalls-refl, OnlyFalls-trans}
@@ -20,8 +20,8 @@ loop-place-preserved g c = record {
   at_work = c.in_ok-relax_place.ensures.at_work;
   falls = OnlyFalls-trans g.met.C.Cost.laws c.args.self.now c.loop-place.self c.relax_place.new.self c.loop-place.invariant.falls c.in_ok-relax_place.ensures.falls;
   found = below_more _ _
-    (λ k lt w s h. LabelWithin-falls g.met.C.Cost.laws (label_of c.loop-place.self.labels) (label_of c.relax_place.new.self.labels) w (g.C.Cost.ops.plus c.args.node.cost s) c.in_ok-relax_place.ensures.falls.falls (c.loop-place.invariant.found k lt w s h))
-    c.in_ok-relax_place.ensures.found;
+      (λ k lt w s h. LabelWithin-falls g.met.C.Cost.laws (label_of c.loop-place.self.labels) (label_of c.relax_place.new.self.labels) w (g.C.Cost.ops.plus c.args.node.cost s) c.in_ok-relax_place.ensures.falls.falls (c.loop-place.invariant.found k lt w s h))
+      c.in_ok-relax_place.ensures.found;
 }
 
 pub returns-clause-at_work : goal.returns-clause-at_work

@@ -1,6 +1,5 @@
 -- What was taken from the queue is settled at its label.
-use Rattle.std.proofs.Common.{◌≡◌, Some, IsSome, length, refl, sym, ◌∙◌, subst}
-use Rattle.step_search.specs.Labelled.{label_of}
+use Rattle.std.proofs.Common.{IsSome, refl, sym, ◌∙◌, subst}
 use Rattle.step_search.proofs.Settled.{taken_has, settle_at_work, settle_settles}
 use Rattle.step_search.proofs.dijkstra.Search.settle.Goals as goal
 
@@ -12,9 +11,9 @@ unwrap-label-requires g c =
 pub expand-requires-clause-at_work : goal.expand-requires-clause-at_work
 expand-requires-clause-at_work g c =
     settle_at_work g.met.C.Cost.laws (g.T.Steps.space c.args.steps.now) c.args.self.now c.args.v c.requires.taken c.unwrap-label.result (sym c.label.ensures ∙ c.unwrap-label.ensures) _
-      c.in_ok-push.ensures.items c.settle.ensures.label c.settle.ensures.settled c.len-at.result refl (c.len-at.ensures ∙ c.args.self.now.tree.ok.0)
+    c.in_ok-push.ensures.items c.settle.ensures.label c.settle.ensures.settled c.len-at.result refl (c.len-at.ensures ∙ c.args.self.now.tree.ok.0)
 
 pub returns-clause-settles : goal.returns-clause-settles
 returns-clause-settles g c =
     settle_settles g.met.C.Cost.laws (g.T.Steps.space c.args.steps.now) c.args.self.now c.args.v c.requires.taken c.unwrap-label.result (sym c.label.ensures ∙ c.unwrap-label.ensures) _
-      c.in_ok-push.ensures.items c.settle.ensures.label c.settle.ensures.settled c.expand.new.self c.in_ok-expand.ensures.falls
+    c.in_ok-push.ensures.items c.settle.ensures.label c.settle.ensures.settled c.expand.new.self c.in_ok-expand.ensures.falls
