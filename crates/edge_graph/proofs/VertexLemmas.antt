@@ -1,0 +1,85 @@
+-- What stands at a place of the list of vertices.
+use Rattle.std.proofs.Common.{◌≡◌, ℕ, zero, suc, ◌+◌, ◌*◌, ◌<◌, ◌/◌, ◌%◌, List, [], ◌∷◌, length, get_or, Option, Some, arith, refl, sym, ap, subst, ◌∙◌, ◌≢◌, inl, inr, false, All}
+use Rattle.std.specs.Prelude.{option_map, unwrap_or}
+use Rattle.std.specs.List.{slice_get}
+use Rattle.std.proofs.lemmas.Option.{same_Some, slice_get-map, slice_get_read}
+use Rattle.std.proofs.lemmas.Bool.{cases_eq}
+use Rattle.std.proofs.lemmas.List.{length-map}
+use Rattle.way_profile.specs.Vehicle.{IsSpeed}
+use Rattle.edge_graph.specs.Rows.{AreRows, segment_in, segments_in, street_at}
+use Rattle.edge_graph.specs.Segment.{Segment}
+use Rattle.edge_graph.specs.Vertex.{Vertex, along, against, vertices}
+use Rattle.edge_graph.specs.declared.roads.Row.{Row}
+use Rattle.edge_graph.specs.declared.streets.Street.{Street}
+
+pub vertices-even : (segments : List Segment) (k : ℕ) (s : Segment) (v : ℕ) → slice_get segments k ≡ Some s → v ≡ 2 * k → slice_get (vertices segments) v ≡ Some (along s)
+vertices-even [] k s v e h = cc
+vertices-even (s0 ∷ segments) zero s zero e h = ap (option_map along) e
+vertices-even (s0 ∷ segments) zero s (suc v) e h = absurd (omega arith)
+vertices-even (s0 ∷ segments) (suc k) s zero e h = absurd (omega arith)
+vertices-even (s0 ∷ segments) (suc k) s (suc zero) e h = absurd (omega arith)
+vertices-even (s0 ∷ segments) (suc k) s (suc (suc v)) e h = vertices-even segments k s v e (omega arith)
+
+pub vertices-odd : (segments : List Segment) (k : ℕ) (s : Segment) (v : ℕ) → slice_get segments k ≡ Some s → v ≡ 2 * k + 1 → slice_get (vertices segments) v ≡ Some (against s)
+vertices-odd [] k s v e h = cc
+vertices-odd (s0 ∷ segments) zero s zero e h = absurd (omega arith)
+vertices-odd (s0 ∷ segments) zero s (suc zero) e h = ap (option_map against) e
+vertices-odd (s0 ∷ segments) zero s (suc (suc v)) e h = absurd (omega arith)
+vertices-odd (s0 ∷ segments) (suc k) s zero e h = absurd (omega arith)
+vertices-odd (s0 ∷ segments) (suc k) s (suc zero) e h = absurd (omega arith)
+vertices-odd (s0 ∷ segments) (suc k) s (suc (suc v)) e h = vertices-odd segments k s v e (omega arith)
+
+pub length-vertices : (segments : List Segment) → length (vertices segments) ≡ 2 * length segments
+length-vertices [] = omega arith
+length-vertices (s ∷ segments) = omega (arith, length-vertices segments)
+
+-- the rows and the segments are as many
+pub length-rows : (streets : List Street) (rows : List Row) (segments : List Segment) → segments_in streets rows ≡ segments → length rows ≡ length segments
+length-rows streets rows segments e = sym (length-map rows (segment_in streets)) ∙ ap length e
+
+-- the segment of a row that was read
+segment-read : (streets : List Street) (rows : List Row) (segments : List Segment) (k : ℕ) (row : Row)
+    → segments_in streets rows ≡ segments → k < length rows → row ≡ get_or rows k row
+    → slice_get segments k ≡ Some (segment_in streets row)
+segment-read streets rows segments k row e h r =
+    ap (λ (x : List Segment). slice_get x k) (sym e) ∙ slice_get-map (segment_in streets) rows k ∙ ap (option_map (segment_in streets)) (slice_get_read rows (length rows) k row refl h r)
+
+module _ {A : Type 0} (f : Vertex → A) (streets : List Street) (rows : List Row) (segments : List Segment) (v : ℕ) (row : Row) where
+  -- what a vertex has, by the row that was read for it
+  pub even-read : segments_in streets rows ≡ segments → v < 2 * length segments → row ≡ get_or rows (v / 2) row → v % 2 ≡ 0
+      → option_map f (slice_get (vertices segments) v) ≡ Some (f (along (segment_in streets row)))
+  even-read e h r even =
+      ap (option_map f) (vertices-even segments (v / 2) (segment_in streets row) v (segment-read streets rows segments (v / 2) row e (omega (arith, length-rows streets rows segments e)) r) (omega arith))
+
+  pub odd-read : segments_in streets rows ≡ segments → v < 2 * length segments → row ≡ get_or rows (v / 2) row → v % 2 ≢ 0
+      → option_map f (slice_get (vertices segments) v) ≡ Some (f (against (segment_in streets row)))
+  odd-read e h r odd =
+      ap (option_map f) (vertices-odd segments (v / 2) (segment_in streets row) v (segment-read streets rows segments (v / 2) row e (omega (arith, length-rows streets rows segments e)) r) (omega arith))
+
+  -- what both directions of a segment have alike
+  pub either-read : segments_in streets rows ≡ segments → v < 2 * length segments → row ≡ get_or rows (v / 2) row
+      → f (along (segment_in streets row)) ≡ f (against (segment_in streets row))
+      → option_map f (slice_get (vertices segments) v) ≡ Some (f (along (segment_in streets row)))
+  either-read e h r same =
+      elim (cases_eq (v % 2) 0) as (λ _. option_map f (slice_get (vertices segments) v) ≡ Some (f (along (segment_in streets row)))) [
+        | inl even ↦ even-read e h r even
+        | inr odd ↦ odd-read e h r odd ∙ ap Some (sym same)
+      ]
+
+-- the street of a row, both read
+pub street-read : (streets : List Street) (rows : List Row) (segments : List Segment) (v : ℕ) (row : Row) (street : Street)
+    → segments_in streets rows ≡ segments → v < 2 * length segments → AreRows streets rows
+    → row ≡ get_or rows (v / 2) row → street ≡ get_or streets row.street street
+    → street_at streets row.street ≡ street
+street-read streets rows segments v row street e h are r s =
+    let in_range : (get_or rows (v / 2) row).street < length streets = are.in_range (v / 2) row (omega (arith, length-rows streets rows segments e)) in
+    let has_street : row.street < length streets = subst (λ (x : Row). x.street < length streets) (sym r) in_range in
+    ap (λ (o : Option Street). unwrap_or o (record { name = []; speed = 0; forward = false; backward = false })) (slice_get_read streets (length streets) row.street street refl has_street s)
+
+-- where each segment's speed is in its range, each vertex's is
+pub speed-in_range : (segments : List Segment) (v n : ℕ) → All (λ s. IsSpeed s.street.speed) segments
+    → option_map (λ x. x.speed) (slice_get (vertices segments) v) ≡ Some n → IsSpeed n
+speed-in_range [] v n all e = cc
+speed-in_range (s ∷ segments) zero n all e = subst IsSpeed (same_Some s.street.speed n e) (all 0 s (omega arith))
+speed-in_range (s ∷ segments) (suc zero) n all e = subst IsSpeed (same_Some s.street.speed n e) (all 0 s (omega arith))
+speed-in_range (s ∷ segments) (suc (suc v)) n all e = speed-in_range segments v n (λ k d h. all (suc k) d (omega arith)) e

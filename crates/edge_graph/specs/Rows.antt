@@ -1,0 +1,23 @@
+-- The list of segments that rows of flat lists stand for.
+use Rattle.std.specs.Prelude.{ℕ, ◌<◌, ◌≤◌, ◌^◌, List, [], map, length, false, All, unwrap_or}
+use Rattle.std.specs.List.{slice_get}
+use Rattle.edge_graph.specs.Segment.{Segment}
+use Rattle.edge_graph.specs.declared.roads.Row.{Row}
+use Rattle.edge_graph.specs.declared.streets.Street.{Street}
+
+-- the street of a number; one that is closed stands past the end
+abbrev pub street_at : List Street → ℕ → Street
+street_at streets i = unwrap_or (slice_get streets i) (record { name = []; speed = 0; forward = false; backward = false })
+
+-- the segment of a row
+abbrev pub segment_in : List Street → Row → Segment
+segment_in streets row = record { tail = row.tail; head = row.head; from = row.from; to = row.to; street = street_at streets row.street }
+
+-- the segments of all rows
+abbrev pub segments_in : List Street → List Row → List Segment
+segments_in streets rows = map (segment_in streets) rows
+
+-- each row has a street, and the rows are few
+pub record AreRows (streets : List Street) (rows : List Row) : Type 0 where
+  pub in_range : All (λ row. row.street < length streets) rows
+  pub few : length rows ≤ 2 ^ 22

@@ -1,0 +1,25 @@
+//! Why a network is not built.
+
+ghost use Rattle.std.specs.Prelude.{◌≡◌};
+ghost use Rattle.edge_graph.specs.declared.build_faults.BuildFault.TheVariants.{Memory};
+
+use std::alloc::AllocError;
+
+/// Why a network was not built. The limits are this project's own.
+#[derive(Clone, Copy, Debug, PartialEq, Eq)]
+pub enum BuildFault {
+    /// There are more than 2^22 segments.
+    TooManySegments,
+    /// There are more than 2^26 turns.
+    TooManyTurns,
+    /// Memory ran out.
+    Memory,
+}
+
+impl From<AllocError> for BuildFault {
+    ghost from_gives = { λ _ fault. fault ≡ Memory };
+
+    fn from(_error: AllocError) -> BuildFault {
+        BuildFault::Memory
+    }
+}

@@ -1,0 +1,157 @@
+//! Road networks.
+
+ghost use Rattle.std.specs.Prelude.{◌≡◌, ◌*◌, ◌^◌, ◌<◌, ◌≤◌, IfOk, IfErr, OnOk, Some, length, option_map};
+ghost use Rattle.std.specs.List.{slice_get};
+ghost use Rattle.edge_graph.specs.BuildCause.{IsBuildFault, IsWithinLimits};
+ghost use Rattle.edge_graph.specs.NetworkView.{graph_of, network_of, vertices_of};
+ghost use Rattle.edge_graph.specs.Turn.{exits};
+ghost use Rattle.geo_integer.specs.Position.{position_of};
+ghost use Rattle.geo_integer.specs.Project.{position_at};
+ghost use Rattle.way_profile.specs.Vehicle.{IsSpeed};
+
+use crate::build_faults::BuildFault;
+use crate::roads::Roads;
+use geo_integer::point_at;
+use road_base::{Object, Place, Point};
+use search_graph::Graph;
+use std::alloc::Global;
+use std::marker::Model;
+use way_profile::Profile;
+
+/// The road network of one vehicle. Contracts see the segments and the vehicle's profile.
+#[derive(Drop)]
+pub struct Network {
+    roads: Roads,
+    exits: Vec<u32>,
+    graph: Graph,
+    profile: Profile,
+}
+
+impl Model for Network {
+    ghost use Rattle.edge_graph.specs.NetworkView.{NetworkView};
+
+    ghost Value = { NetworkView };
+
+    ghost use Rattle.edge_graph.specs.NetworkParts.{AreNetworkParts};
+
+    ghost view = { λ n. record { segments = n.roads; profile = n.profile } };
+
+    ghost invariant = { λ n. AreNetworkParts n.roads n.exits.items n.graph n.profile };
+}
+
+impl Network {
+    /// The network of the roads among these objects that the vehicle of the profile may use.
+    pub fn build(
+        alloc: Global,
+        objects: &[Object],
+        profile: &Profile,
+    ) -> Result<Network, BuildFault>
+        ensures ok { IfOk result (λ network. network ≡ network_of objects.now profile.now) }
+        ensures limits { OnOk result (IsWithinLimits (network_of objects.now profile.now)) }
+        ensures err { IfErr result (IsBuildFault (network_of objects.now profile.now)) }
+    {
+        Err(BuildFault::Memory)
+    }
+
+    /// How many segments there are. They are numbered from 0: way by way in ascending order of the ways'
+    /// ids, and in a way in the order of its nodes.
+    pub fn segments(&self) -> u32
+        ensures value { result ≡ length self.now.segments }
+        ensures few { result ≤ 2 ^ 22 }
+    {
+        self.roads.len()
+    }
+
+    /// The id of the node where vertex `v` begins. Vertex 2s is segment s in the order of its way, vertex
+    /// 2s + 1 the same segment the other way round.
+    pub fn tail(&self, v: u32) -> i64
+        requires { v < 2 * length self.now.segments }
+        ensures { option_map (λ x. x.tail) (slice_get (vertices_of self.now) v) ≡ Some result }
+    {
+        self.roads.tail(v)
+    }
+
+    /// The id of the node where vertex `v` ends.
+    pub fn head(&self, v: u32) -> i64
+        requires { v < 2 * length self.now.segments }
+        ensures { option_map (λ x. x.head) (slice_get (vertices_of self.now) v) ≡ Some result }
+    {
+        self.roads.head(v)
+    }
+
+    /// The `name` of the way of vertex `v`, or an empty text.
+    pub fn name(&self, v: u32) -> &str
+        requires { v < 2 * length self.now.segments }
+        ensures { option_map (λ x. x.name) (slice_get (vertices_of self.now) v) ≡ Some result.now }
+    {
+        self.roads.name(v)
+    }
+
+    /// Whether the vehicle may use vertex `v`.
+    pub fn permitted(&self, v: u32) -> bool
+        requires { v < 2 * length self.now.segments }
+        ensures { option_map (λ x. x.permitted) (slice_get (vertices_of self.now) v) ≡ Some result }
+    {
+        self.roads.permitted(v)
+    }
+
+    /// The vehicle's speed on vertex `v` in thousandths of km/h.
+    pub fn speed(&self, v: u32) -> u32
+        requires { v < 2 * length self.now.segments }
+        ensures value { option_map (λ x. x.speed) (slice_get (vertices_of self.now) v) ≡ Some result }
+        ensures in_range { IsSpeed result }
+    {
+        self.roads.speed(v)
+    }
+
+    /// How many permitted vertices leave the head of vertex `v`, the other direction of its own segment
+    /// not counted.
+    pub fn exits(&self, v: u32) -> u32
+        requires { v < 2 * length self.now.segments }
+        ensures { result ≡ exits (vertices_of self.now) v }
+    {
+        self.exits[v as usize]
+    }
+
+    /// The points where a segment begins and ends, in the order of its way.
+    pub fn ends(&self, segment: u32) -> (Point, Point)
+        requires { segment < length self.now.segments }
+        ensures { option_map (λ s. (s.from, s.to)) (slice_get self.now.segments segment) ≡ Some result }
+    {
+        self.roads.ends(segment)
+    }
+
+    /// The point at a place, rounded to the nearest microdegree.
+    pub fn point(&self, place: Place) -> Point
+        requires segment { place.segment < length self.now.segments }
+        requires at { place.at ≤ 1024 }
+        ensures { option_map (λ s. position_at (position_of s.from) (position_of s.to) place.at) (slice_get self.now.segments place.segment) ≡ Some (position_of result) }
+    {
+        let (from, to) = self.roads.ends(place.segment);
+        point_at(from, to, place.at)
+    }
+
+    /// How many turns there are.
+    pub fn turns(&self) -> u32
+        ensures value { result ≡ length (graph_of self.now).arcs }
+        ensures few { result ≤ 2 ^ 26 }
+    {
+        self.graph.arcs()
+    }
+
+    /// The graph of the vertices, whose arcs are the turns: arc i is turn i. The turns are numbered from 0
+    /// by the vertex that they leave and then by the one that they enter.
+    pub fn graph(&self) -> &Graph
+        ensures value { result.now ≡ graph_of self.now }
+        ensures limits { IsWithinLimits self.now }
+    {
+        &self.graph
+    }
+
+    /// The profile of the vehicle.
+    pub fn profile(&self) -> &Profile
+        ensures { result.now ≡ self.now.profile }
+    {
+        &self.profile
+    }
+}

@@ -1,0 +1,16 @@
+//! What the segments of one way have in common.
+
+use road_base::Text;
+
+/// A way that the vehicle may use in some direction, as its segments know it.
+#[derive(Drop)]
+pub struct Street {
+    /// the way's `name`, or empty
+    pub name: Text,
+    /// thousandths of km/h
+    pub speed: u32,
+    /// in the order of the way's nodes
+    pub forward: bool,
+    /// against it
+    pub backward: bool,
+}
