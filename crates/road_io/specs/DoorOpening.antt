@@ -1,5 +1,5 @@
 -- What is told of the opening of doors, and of their coming back.
-use Rattle.std.specs.Prelude.{◌≡◌, ℕ, ◌+◌, ◌-◌, ◌<◌, ◌≤◌, ◌⊎◌, false, List, [], ◌∷◌, ◌++◌, length, All, sum_by, Option, None, Some, Result, Ok, Err, option_map, ⊤}
+use Rattle.std.specs.Prelude.{◌≡◌, ℕ, ◌+◌, ◌-◌, ◌<◌, ◌≤◌, false, List, [], ◌∷◌, ◌++◌, length, All, sum_by, Option, None, Some, Result, Ok, Err, option_map, ⊤}
 use Rattle.road_io.specs.declared.failures.DoorsFault.{DoorsFault}
 use Rattle.road_io.specs.declared.failures.DoorsFault.TheVariants.{Failed, Memory}
 use Rattle.road_io.specs.Faults.{Rose}

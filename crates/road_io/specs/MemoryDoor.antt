@@ -1,5 +1,5 @@
 -- What a door in memory tells.
-use Rattle.std.specs.Prelude.{ℕ, false, Some, map, vec_len}
+use Rattle.std.specs.Prelude.{false, Some, map, vec_len}
 use Rattle.road_io.specs.declared.memory_doors.MemDoor.{MemDoor}
 use Rattle.road_io.specs.Doorway.{DoorView}
 use Rattle.road_io.specs.MemoryStates.{conn_transcript}

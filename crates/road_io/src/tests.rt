@@ -1,6 +1,9 @@
 //! What no clause says: that the calls succeed with ample memory, and how the forms in memory cut and
 //! fail.
 
+ghost use Rattle.std.specs.Prelude.{All, IfOk};
+ghost use Rattle.road_io.specs.MemoryStates.{IsUnused};
+
 use crate::{
     Closer, Conn, Door, Doors, DoorsFault, Failed, FileFault, Files, Gate, MemConn, MemDoor,
     MemFiles, MemSink, MemSource, NoDoors, OpenGate, Opened, Sink, Source, SteadyFiles, SteadySink,
@@ -127,12 +130,23 @@ fn an_open_gate_holds_nobody_and_no_doors_never_open(rt: HostRuntime) {
     }
 }
 
+fn one_connection(alloc: Global) -> Result<Vec<MemConn>, AllocError>
+    ensures { IfOk result (λ v. All IsUnused v.items) }
+{
+    let input = MemSource::of(
+        Vec::from_slice(alloc, b"GET")?,
+        Vec::new(alloc),
+        Vec::new(alloc),
+    );
+    let output = MemSink::of(alloc, 10, Vec::new(alloc))?;
+    let connections = vec![in alloc; MemConn::of(input, output)]?;
+    Ok(connections)
+}
+
 #[test]
 fn a_door_ends_once_its_connections_are_used_up(rt: HostRuntime) -> Result<(), AllocError> {
     let alloc = rt.alloc();
-    let mut waiting = Vec::new(alloc);
-    waiting.push(MemConn::of(source(alloc, b"GET", &[], &[])?, sink(alloc, 10, &[])?))?;
-    let mut door = MemDoor::of(alloc, waiting, Vec::new(alloc))?;
+    let mut door = MemDoor::of(alloc, one_connection(alloc)?, Vec::new(alloc))?;
     let first = door.next();
     assert!(rt; matches!(&first, Ok(Some(_))));
     if let Ok(Some(mut conn)) = first {
