@@ -13,6 +13,8 @@ mod along;
 mod finish;
 mod found;
 mod queries;
+#[cfg(test)]
+mod tests;
 
 pub use found::{Found, Numbers, SearchFault};
 pub use queries::least_from;
