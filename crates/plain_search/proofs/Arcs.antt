@@ -1,13 +1,12 @@
 -- The steps of a search over a graph are the moves of its walks.
-use Rattle.std.proofs.Common.{◌≡◌, ℕ, ◌+◌, ◌^◌, ◌<◌, ◌≤◌, ◌⊎◌, inl, inr, List, length, Some, arith, refl, sym, ◌∙◌, ap, subst}
-use Rattle.std.specs.List.{slice_get}
+use Rattle.std.proofs.Common.{◌≡◌, ℕ, ◌+◌, ◌^◌, ◌<◌, inl, inr, List, length, Some, arith, sym, ◌∙◌, subst}
 use Rattle.std.proofs.lemmas.Option.{same_Some, slice_get_within}
-use Rattle.search_graph.specs.Costs.{CostOps, CostLaws, NoDearer}
+use Rattle.search_graph.specs.Costs.{CostOps, CostLaws}
 use Rattle.search_graph.specs.Digraph.{Digraph, Weighting, IsOpen}
 use Rattle.search_graph.specs.Walks.{Walk, IsMove, Paying}
 use Rattle.search_graph.specs.Weighted.{IsWeighting}
 use Rattle.search_graph.proofs.Chains.{Chain-map}
-use Rattle.step_search.specs.Spaces.{Space, HasHop, StepBy, Path, IsSpace}
+use Rattle.step_search.specs.Spaces.{HasHop, StepBy, Path, IsSpace}
 use Rattle.plain_search.specs.ArcSpace.{arc_space}
 
 module _ {C : Type 0} (ops : CostOps C) (g : Digraph) (w : Weighting C) where

@@ -1,5 +1,5 @@
 -- From a cheapest path to a target's vertex to a cheapest walk to the target: its cost takes the place of the vertex's.
-use Rattle.std.proofs.Common.{◌≡◌, ℕ, ◌+◌, ◌^◌, ◌<◌, ◌≤◌, List, [], ◌∷◌, ◌++◌, length, Some, arith, refl, sym, ◌∙◌, ap, subst}
+use Rattle.std.proofs.Common.{◌≡◌, ℕ, ◌+◌, ◌^◌, List, [], ◌∷◌, ◌++◌, arith, refl, sym, ◌∙◌, ap, subst}
 use Rattle.std.specs.List.{Contains}
 use Rattle.search_graph.specs.declared.ends.Start.{Start}
 use Rattle.search_graph.specs.declared.ends.Target.{Target}
@@ -9,7 +9,7 @@ use Rattle.search_graph.specs.Walks.{IsBetween, IsLeastWalk, NoneBetween, IsMove
 use Rattle.search_graph.specs.Weighted.{IsWeighting}
 use Rattle.search_graph.proofs.Order.{plus_le, plus_le_left, plus_le_back, same_from_le}
 use Rattle.search_graph.proofs.Chains.{Chain-valid, Chain-from_zero, Chain-to_more}
-use Rattle.step_search.specs.Spaces.{HasHop, IsSpace}
+use Rattle.step_search.specs.Spaces.{HasHop}
 use Rattle.step_search.specs.Paths.{AreStarts, IsPathTo, IsLeastPath, NoPathTo}
 use Rattle.plain_search.specs.ArcSpace.{arc_space}
 use Rattle.plain_search.proofs.Arcs.{IsSpace-arcs, open_cost, move_from_hop, hop_from_move, walk_from_path, path_from_walk}

@@ -1,5 +1,5 @@
 -- The arcs of a graph as the steps of a search.
-use Rattle.std.specs.Prelude.{◌≡◌, ℕ, Some}
+use Rattle.std.specs.Prelude.{◌≡◌, Some}
 use Rattle.std.specs.List.{slice_get}
 use Rattle.search_graph.specs.Costs.{CostOps}
 use Rattle.search_graph.specs.Digraph.{Digraph, Weighting, IsArc, IsOpen, Leaves}

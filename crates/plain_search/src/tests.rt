@@ -2,12 +2,10 @@ ghost use Rattle.std.specs.Prelude.{◌≡◌, ◌<◌, ◌≤◌, ℕ, length, 
 ghost use Rattle.search_graph.specs.Weighted.{IsWeighting};
 ghost use Rattle.search_graph.specs.Durations.{durlen_ops};
 
+use crate::{Found, SearchFault, least_from};
+use search_graph::{DurLen, Graph, Start, Target, Weights, small_weights};
 use std::alloc::{AllocError, Global};
 use std::process::Abort;
-
-use search_graph::{DurLen, Graph, Start, Target, Weights, small_weights};
-
-use crate::{Found, SearchFault, least_from};
 
 /// Two ways from 0 to 4, by 2 or straight; a ring 0, 1, 2; two arcs from 1 to 2; 3 is closed; nothing leads to 5 and 6.
 const ARCS: [(u32, u32); 10] = [
@@ -33,18 +31,16 @@ fn weights(alloc: Global, graph: &Graph) -> Result<Weights<DurLen>, AllocError>
     requires { (graph.now.vertices ≡ 7) × (length graph.now.arcs ≡ 10) }
     ensures { IfOk result (IsWeighting durlen_ops graph.now) }
 {
-    let vertex = vec![
-        in alloc;
+    let vertex = vec![in alloc;
         Some(cost(10, 100)),
         Some(cost(5, 50)),
         Some(cost(20, 30)),
         None,
         Some(cost(7, 10)),
         Some(cost(1, 1)),
-        Some(cost(3, 3))
+        Some(cost(3, 3)),
     ]?;
-    let arc = vec![
-        in alloc;
+    let arc = vec![in alloc;
         cost(2, 1),
         cost(4, 2),
         cost(6, 5),
@@ -54,7 +50,7 @@ fn weights(alloc: Global, graph: &Graph) -> Result<Weights<DurLen>, AllocError>
         cost(40, 1),
         cost(0, 9),
         cost(1, 1),
-        cost(4, 1)
+        cost(4, 1),
     ]?;
     Ok(small_weights(graph, vertex, arc))
 }
@@ -88,7 +84,11 @@ fn check(rt: &impl Abort, found: &[Option<Found<DurLen>>], want: &[Option<(DurLe
 fn cheapest_walks_in_a_small_graph(rt: HostRuntime) -> Result<(), SearchFault> {
     let graph = Graph::of(rt.alloc(), 7, &ARCS).expect(&rt, "a graph");
     let weights = weights(rt.alloc(), &graph)?;
-    let starts = [start(0, cost(8, 0)), start(5, cost(30, 0)), start(3, cost(0, 0))];
+    let starts = [
+        start(0, cost(8, 0)),
+        start(5, cost(30, 0)),
+        start(3, cost(0, 0)),
+    ];
     let targets = [
         target(4, cost(2, 2)),
         target(0, cost(3, 3)),

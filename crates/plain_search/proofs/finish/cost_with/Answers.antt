@@ -1,6 +1,4 @@
 -- The vertex's cost is a part of the path's, and what is left is what a walk pays before its target.
-use Rattle.std.proofs.Common.{◌≡◌, ℕ, subst, sym}
-use Rattle.search_graph.specs.Walks.{IsLeastWalk}
 use Rattle.plain_search.proofs.Targets.{path_parts, rest_units, IsLeastWalk-from_path}
 use Rattle.plain_search.proofs.finish.cost_with.Goals as goal
 

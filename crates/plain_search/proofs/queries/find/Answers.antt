@@ -1,5 +1,4 @@
 -- Where no path leads to the target's vertex, no walk leads to the target.
-use Rattle.std.proofs.Common.{◌≡◌, ℕ}
 use Rattle.plain_search.proofs.Targets.{NoneBetween-from_path}
 use Rattle.plain_search.proofs.queries.find.Goals as goal
 

@@ -1,6 +1,6 @@
 -- A graph with its weights is a space, and each turn answers one target more.
-use Rattle.std.proofs.Common.{◌≡◌, ℕ, ◌+◌, ◌<◌, ◌++◌, ◌∷◌, [], List, Some, get_or, length, length-append, inl, inr, arith, sym, ◌∙◌, ap, subst}
-use Rattle.std.specs.List.{slice_get, Contains}
+use Rattle.std.proofs.Common.{◌≡◌, ℕ, ◌<◌, ◌++◌, ◌∷◌, [], List, Some, get_or, length, length-append, inl, inr, arith, sym, ◌∙◌, ap, subst}
+use Rattle.std.specs.List.{slice_get}
 use Rattle.std.proofs.lemmas.Option.{same_Some}
 use Rattle.search_graph.proofs.Gets.{get_is, get_push}
 use Rattle.plain_search.specs.Answers.{IsFound}

@@ -1,5 +1,4 @@
 -- `out` lists the arcs that leave the vertex.
-use Rattle.std.proofs.Common.{◌≡◌, ℕ, Some}
 use Rattle.plain_search.proofs.along.AlongSteps.arcs.Goals as goal
 
 pub returns-clause-named : goal.returns-clause-named

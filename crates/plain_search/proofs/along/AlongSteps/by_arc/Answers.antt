@@ -1,5 +1,5 @@
 -- An arc and a vertex are within 2^28 units each.
-use Rattle.std.proofs.Common.{◌≡◌, ℕ, ◌+◌, ◌^◌, ◌≤◌, Some, arith}
+use Rattle.std.proofs.Common.{◌+◌, ◌^◌, arith}
 use Rattle.plain_search.proofs.along.AlongSteps.by_arc.Goals as goal
 
 pub plus-cost-requires : goal.plus-cost-requires
