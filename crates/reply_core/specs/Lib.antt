@@ -1,0 +1,9 @@
+pub mod Answers
+pub mod Candidates
+pub mod Ends
+pub mod Legs
+pub mod Permitted
+pub mod Places
+pub mod Request
+pub mod Snapped
+pub mod Texts
