@@ -12,6 +12,8 @@ mod dijkstra;
 mod hops;
 mod labels;
 mod queue;
+#[cfg(test)]
+mod tests;
 
 pub use dijkstra::{Reached, Search, least};
 pub use hops::{Hop, Steps};

@@ -1,0 +1,41 @@
+-- The hops of the ring cost at most one unit, so that its paths fit.
+use Rattle.std.proofs.Common.{◌≡◌, ◌≢◌, ℕ, ◌+◌, ◌*◌, ◌%◌, ◌^◌, ◌<◌, ◌≤◌, inl, inr, arith}
+use Rattle.search_graph.specs.declared.costs.DurLen.{DurLen}
+use Rattle.search_graph.specs.Durations.{durlen_ops, durlen_laws}
+use Rattle.search_graph.proofs.ShortChains.{Chain-short}
+use Rattle.step_search.specs.Spaces.{Space, HasHop}
+use Rattle.step_search.proofs.tests.the_cheapest_way_round_leaves_out_the_closed_vertex.Goals as goal
+
+abbrev ring : Space DurLen
+ring = record {
+  vertices = 6;
+  May = λ v. (v < 6) × (v ≢ 3);
+  Name = λ u i. i ≡ 0;
+  Arc = λ u i v c. (i ≡ 0) × (v ≡ (u + 1) % 6) × (v ≢ 3) × (c.duration ≡ 3) × (c.length ≡ 1);
+  row = λ u. 1;
+  Row = λ u j v c. (j ≡ 0) × (v ≡ (u + 2) % 6) × (v ≢ 3) × (c.duration ≡ 5) × (c.length ≡ 2);
+}
+
+below_six : (v w : ℕ) → v ≡ w % 6 → v < 6
+below_six v w e = omega arith
+
+within_one : (a n : ℕ) → a ≡ n → n ≤ 5 → a ≤ 1 * 2 ^ 32
+within_one a n e h = omega arith
+
+head_below : (u v : ℕ) (s : DurLen) → HasHop ring u v s → v < 6
+head_below u v s h = elim h [ inl k ↦ below_six v (u + 1) k.1.1 | inr k ↦ below_six v (u + 2) k.2.1 ]
+
+hop_within : (u v : ℕ) (s : DurLen) → HasHop ring u v s → durlen_ops.units s 1
+hop_within u v s h = elim h [
+  | inl k ↦ (within_one s.duration 3 k.1.3 (omega arith), within_one s.length 1 k.1.4 (omega arith))
+  | inr k ↦ (within_one s.duration 5 k.2.3 (omega arith), within_one s.length 2 k.2.4 (omega arith))
+]
+
+pub least-requires-clause-space : goal.least-requires-clause-space
+least-requires-clause-space g c = record {
+  heads = head_below;
+  hop_units = λ u v s h. durlen_laws.units_more s 1 (2 ^ 29) (hop_within u v s h) (omega arith);
+  path_units = λ u z d vs may p.
+      let r = Chain-short durlen_laws {Hop = HasHop ring} (λ u v s h. tt) 6 1 head_below hop_within u z d vs may.0 p in
+      (r.0, r.1, r.2, r.3, durlen_laws.units_more r.1 (6 * 1) (2 ^ 28) r.4 (omega arith));
+}
