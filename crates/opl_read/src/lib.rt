@@ -1,0 +1,17 @@
+//! Reads map data of OpenStreetMap in OPL, "object per line" (https://osmcode.org/opl-file-format): a text
+//! to its objects, or its first faulty line.
+#![tactic(auto)]
+
+mod fields;
+mod line_faults;
+mod line_text;
+mod lines;
+mod points;
+mod reading;
+mod seen_ids;
+
+pub use line_faults::{FaultKind, LineFault, ReadFault};
+pub use reading::read;
+
+#[cfg(test)]
+mod tests;
