@@ -1,0 +1,23 @@
+use Rattle.std.proofs.Common.{ℕ, ◌≤◌, List, length, drop, map}
+use Rattle.cell_partition.specs.declared.spot.Spot.{Spot}
+use Rattle.cell_partition.specs.Bounds.{parts_at}
+use Rattle.cell_partition.proofs.Kept.{IsCut}
+use Rattle.cell_partition.proofs.cutting.cells.Given as goal
+
+-- the parts that lie at the bounds
+abbrev pub ghost-halve_each : goal.ghost-halve_each
+ghost-halve_each a = parts_at a.bounds.now a.spots.now
+
+-- the vertices of the parts that lie at the bounds
+abbrev pub ghost-of : goal.ghost-of
+ghost-of a = parts_at a.bounds.items (map (λ (spot : Spot). spot.vertex) a.spots.now)
+
+-- the levels from this limit on are cut
+abbrev pub invariant-loop-rest : goal.invariant-loop-rest
+invariant-loop-rest l = record {
+  within : l.rest ≤ length l.limits;
+  cut : IsCut l.midpoints (drop l.rest l.limits) l.spots l.bounds.items l.levels.items;
+}
+
+abbrev pub decreases-loop-rest : goal.decreases-loop-rest
+decreases-loop-rest l = l.rest

@@ -1,0 +1,5 @@
+pub mod Spots
+pub mod Bounds
+pub mod Partition
+pub mod Halving
+pub mod Levels

@@ -1,0 +1,76 @@
+//! The cells of all levels.
+ghost use Rattle.std.specs.Prelude.{◌≡◌, ◌<◌, ◌≤◌, length};
+ghost use Rattle.cell_partition.specs.Bounds.{cell_at};
+ghost use Rattle.cell_partition.specs.Partition.{Partition, level_at, number_of, IsKept};
+
+use crate::level::Level;
+use std::marker::Model;
+
+/// A nested partition of vertices into cells, in levels that count from 1. Vertices
+/// and the cells of a level count from 0.
+///
+/// Each vertex stands in one cell of each level, and two vertices that share a cell
+/// share one of every level above. A level costs eight bytes a vertex and four a cell.
+#[derive(Drop)]
+pub struct Cells {
+    pub(crate) vertices: u32,
+    pub(crate) levels: Vec<Level>,
+}
+
+impl Model for Cells {
+    ghost use Rattle.cell_partition.specs.Partition.{Partition};
+    ghost use Rattle.cell_partition.specs.Levels.{partition_of, AreKept};
+
+    ghost Value = { Partition };
+
+    ghost view = { λ c. partition_of c.vertices c.levels.items };
+
+    ghost invariant = { λ c. AreKept c.vertices c.levels.items };
+}
+
+impl Cells {
+    /// How many vertices there are.
+    pub fn vertices(&self) -> u32
+        ensures { result ≡ self.now.vertices }
+    {
+        self.vertices
+    }
+
+    /// How many levels there are.
+    pub fn levels(&self) -> u32
+        ensures { result ≡ length self.now.levels }
+    {
+        self.levels.len() as u32
+    }
+
+    /// How many cells a level has.
+    pub fn count(&self, level: u32) -> u32
+        requires above { 1 ≤ level }
+        requires below { level ≤ length self.now.levels }
+        ensures { result ≡ length (level_at self.now level) }
+    {
+        self.levels[level as usize - 1].count(self.vertices)
+    }
+
+    /// The cell of a vertex in a level.
+    pub fn cell(&self, level: u32, vertex: u32) -> u32
+        requires above { 1 ≤ level }
+        requires below { level ≤ length self.now.levels }
+        requires inside { vertex < self.now.vertices }
+        ensures number { result ≡ number_of (level_at self.now level) vertex }
+        ensures kept { IsKept self.now }
+    {
+        self.levels[level as usize - 1].numbers[vertex as usize]
+    }
+
+    /// The vertices of a cell of a level, in the order of the last cut.
+    pub fn members(&self, level: u32, cell: u32) -> &[u32]
+        requires above { 1 ≤ level }
+        requires below { level ≤ length self.now.levels }
+        requires inside { cell < length (level_at self.now level) }
+        ensures members { result.now ≡ cell_at (level_at self.now level) cell }
+        ensures kept { IsKept self.now }
+    {
+        self.levels[level as usize - 1].members(self.vertices, cell)
+    }
+}

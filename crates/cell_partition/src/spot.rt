@@ -1,0 +1,75 @@
+//! Vertices at their midpoints, and the axis along which they spread more.
+ghost use Rattle.std.specs.Prelude.{◌≡◌};
+
+/// A vertex at its midpoint.
+#[derive(Clone, Copy)]
+pub struct Spot {
+    pub vertex: u32,
+    pub longitude: i32,
+    pub latitude: i32,
+}
+
+/// One of the two coordinates.
+#[derive(Clone, Copy)]
+pub enum Axis {
+    Longitude,
+    Latitude,
+}
+
+impl Spot {
+    ghost use Rattle.cell_partition.specs.Spots.{along};
+
+    /// The coordinate along this axis.
+    pub fn along(&self, axis: Axis) -> i32
+        ensures { result ≡ along axis self.now }
+    {
+        match axis {
+            Axis::Longitude => self.longitude,
+            Axis::Latitude => self.latitude,
+        }
+    }
+}
+
+impl Axis {
+    ghost use Rattle.cell_partition.specs.Spots.{greatest, least, width, wider_axis};
+
+    // The greatest coordinate along this axis.
+    fn greatest(self, spots: &[Spot]) -> i32
+        ensures { result ≡ greatest self spots.now }
+    {
+        let mut most = i32::MIN;
+        for spot in spots {
+            most = most.max(spot.along(self));
+        }
+        most
+    }
+
+    // The least coordinate along this axis.
+    fn least(self, spots: &[Spot]) -> i32
+        ensures { result ≡ least self spots.now }
+    {
+        let mut most = i32::MAX;
+        for spot in spots {
+            most = most.min(spot.along(self));
+        }
+        most
+    }
+
+    // How far the spots lie apart along this axis.
+    fn width(self, spots: &[Spot]) -> i64
+        ensures { result ≡ width self spots.now }
+    {
+        i64::from(self.greatest(spots)) - i64::from(self.least(spots))
+    }
+
+    /// The axis along which the spots lie further apart, longitude on equal widths.
+    pub fn wider(spots: &[Spot]) -> Axis
+        ensures { result ≡ wider_axis spots.now }
+    {
+        if Axis::Longitude.width(spots) < Axis::Latitude.width(spots) {
+            Axis::Latitude
+        } else {
+            Axis::Longitude
+        }
+    }
+}
