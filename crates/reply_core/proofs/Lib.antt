@@ -1,3 +1,4 @@
+pub mod AnswerLemmas
 pub mod CheapestLemmas
 pub mod Cuts
 pub mod EndLemmas

@@ -15,11 +15,11 @@ use Rattle.reply_core.specs.Candidates.{IsCandidate, IsFirstCandidate, IsFirstBe
 use Rattle.reply_core.specs.declared.snap.Candidate.{Candidate}
 
 -- the spot on a segment by its ends
-spot-by : (x : Segment) (at : ℕ) → spot_on x at ≡ position_at (position_of x.from) (position_of x.to) at
+pub spot-by : (x : Segment) (at : ℕ) → spot_on x at ≡ position_at (position_of x.from) (position_of x.to) at
 unfolding spot_on
 spot-by x at = refl
 
-nearest-by : (x : Segment) (from : Position) → nearest_on x from ≡ place_of from (position_of x.from) (position_of x.to)
+pub nearest-by : (x : Segment) (from : Position) → nearest_on x from ≡ place_of from (position_of x.from) (position_of x.to)
 unfolding nearest_on
 nearest-by x from = refl
 

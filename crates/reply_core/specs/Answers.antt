@@ -40,6 +40,14 @@ pub record IsWaypoint (segments : List Segment) (from : Position) (place : Place
   pub is_spot : spot ≡ spot_on segment place.at
   pub is_text : text ≡ waypoint_text (distance_of from spot) segment.street.name spot.lon spot.lat
 
+-- the text tells of a route of this cost between two places
+pub record IsRouteText (segments : List Segment) (number : ℕ) (from : Position) (first : Place) (to : Position) (last : Place) (cost : DurLen) (text : List ℕ) : Type 0 where
+  pub first_text : List ℕ
+  pub is_first : IsWaypoint segments from first first_text
+  pub last_text : List ℕ
+  pub is_last : IsWaypoint segments to last last_text
+  pub is_text : text ≡ found_text number cost first_text last_text
+
 -- an answer with one walk that is a least route between the two places, and with the text of exactly its cost
 pub record IsFoundAnswer (network : NetworkView) (w : Weighting DurLen) (number : ℕ) (line : List ℕ) (answer : Answer) : Type 0 where
   pub first : Place
@@ -50,11 +58,7 @@ pub record IsFoundAnswer (network : NetworkView) (w : Weighting DurLen) (number 
   pub cost : DurLen
   pub least : IsLeastRoute (graph_of network) w first last walk cost
   pub walks : answer.walks ≡ walk ∷ []
-  pub first_text : List ℕ
-  pub is_first : IsWaypoint network.segments placed.from first first_text
-  pub last_text : List ℕ
-  pub is_last : IsWaypoint network.segments placed.to last last_text
-  pub text : answer.text ≡ found_text number cost first_text last_text
+  pub text : IsRouteText network.segments number placed.from first placed.to last cost answer.text
 
 -- the line asks for a route, but no segment may be driven along
 abbrev pub IsUnplaced : NetworkView → Weighting DurLen → List ℕ → Type 0
@@ -74,3 +78,7 @@ IsAnswerOf code.Ok network w number line answer = IsFoundAnswer network w number
 -- the answer is one to the line
 abbrev pub IsAnswer : NetworkView → Weighting DurLen → ℕ → List ℕ → Answer → Type 0
 IsAnswer network w number line answer = IsAnswerOf answer.code network w number line answer
+
+-- the answer is one to each line that asks for a route between these two positions
+abbrev pub AnswersRequest : NetworkView → Weighting DurLen → ℕ → Position → Position → Answer → Type 0
+AnswersRequest network w number from to answer = (line : List ℕ) → IsRequest line from to → IsAnswer network w number line answer
