@@ -1,0 +1,4 @@
+use Rattle.polyline_text.proofs.decoding.+value_in.Given as goal
+
+abbrev pub decreases-value_in : goal.decreases-value_in
+decreases-value_in l = l.groups
