@@ -5,3 +5,5 @@ pub mod Segment
 pub mod Turn
 pub mod Vertex
 pub mod Rows
+pub mod Located
+pub mod Fans

@@ -1,7 +1,10 @@
 -- The list of segments that rows of flat lists stand for.
-use Rattle.std.specs.Prelude.{ℕ, ◌<◌, ◌≤◌, ◌^◌, List, [], map, length, false, All, unwrap_or}
+use Rattle.std.specs.Prelude.{◌≡◌, ℕ, ℤ, ◌++◌, Option, ◌<◌, ◌≤◌, ◌^◌, List, [], map, length, false, All, unwrap_or}
 use Rattle.std.specs.List.{slice_get}
-use Rattle.edge_graph.specs.Segment.{Segment}
+use Rattle.road_base.specs.declared.coordinates.Point.{Point}
+use Rattle.road_base.specs.declared.osm_objects.Object.{Object}
+use Rattle.edge_graph.specs.Located.{segments_on}
+use Rattle.edge_graph.specs.Segment.{Segment, segments_along}
 use Rattle.edge_graph.specs.declared.roads.Row.{Row}
 use Rattle.edge_graph.specs.declared.streets.Street.{Street}
 
@@ -21,3 +24,13 @@ segments_in streets rows = map (segment_in streets) rows
 pub record AreRows (streets : List Street) (rows : List Row) : Type 0 where
   pub in_range : All (λ row. row.street < length streets) rows
   pub few : length rows ≤ 2 ^ 22
+
+-- the new rows are the old ones and those along these nodes, all of one street
+pub record AddsRows (location : ℤ → Option Point) (street : ℕ) (ids : List ℤ) (old new : List Row) : Type 0 where
+  pub segments : (streets : List Street) → segments_in streets new ≡ segments_in streets old ++ segments_along location (street_at streets street) ids
+  pub in_range : (n : ℕ) → street < n → All (λ row. row.street < n) old → All (λ row. row.street < n) new
+
+-- the rows of streets and the places of their ways
+pub record AreRowsOf (location : ℤ → Option Point) (objects : List Object) (streets : List Street) (places : List ℕ) (rows : List Row) : Type 0 where
+  pub segments : segments_in streets rows ≡ segments_on location objects streets places
+  pub in_range : All (λ row. row.street < length streets) rows

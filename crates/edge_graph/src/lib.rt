@@ -3,9 +3,13 @@
 #![tactic(auto)]
 
 mod build_faults;
+mod fans;
 mod networks;
+mod node_locations;
 mod roads;
+mod routes;
 mod streets;
+mod turn_lists;
 
 pub use build_faults::BuildFault;
 pub use networks::Network;

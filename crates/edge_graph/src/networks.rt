@@ -1,20 +1,27 @@
 //! Road networks.
 
-ghost use Rattle.std.specs.Prelude.{◌≡◌, ◌*◌, ◌^◌, ◌<◌, ◌≤◌, IfOk, IfErr, OnOk, Some, length, option_map};
+ghost use Rattle.std.specs.Prelude.{◌≡◌, ◌*◌, ◌^◌, ◌<◌, ◌≤◌, IfOk, IfErr, OnOk, Some, All, length, option_map};
 ghost use Rattle.std.specs.List.{slice_get};
 ghost use Rattle.edge_graph.specs.BuildCause.{IsBuildFault, IsWithinLimits};
 ghost use Rattle.edge_graph.specs.NetworkView.{graph_of, network_of, vertices_of};
-ghost use Rattle.edge_graph.specs.Turn.{exits};
+ghost use Rattle.edge_graph.specs.Turn.{exits, turns};
+ghost use Rattle.edge_graph.specs.Vertex.{vertices};
+ghost use Rattle.edge_graph.specs.Segment.{segments};
+ghost use Rattle.edge_graph.specs.Fans.{AreExits, AreFans};
 ghost use Rattle.geo_integer.specs.Position.{position_of};
 ghost use Rattle.geo_integer.specs.Project.{position_at};
 ghost use Rattle.way_profile.specs.Vehicle.{IsSpeed};
 
 use crate::build_faults::BuildFault;
+use crate::fans::{Fans, fans_of};
+use crate::node_locations::locations_of;
 use crate::roads::Roads;
+use crate::routes::{are_few, routes_of};
+use crate::turn_lists::{exit_counts, turn_list, turns_are_few};
 use geo_integer::point_at;
 use road_base::{Object, Place, Point};
 use search_graph::Graph;
-use std::alloc::Global;
+use std::alloc::{AllocError, Global};
 use std::marker::Model;
 use way_profile::Profile;
 
@@ -39,6 +46,42 @@ impl Model for Network {
     ghost invariant = { λ n. AreNetworkParts n.roads n.exits.items n.graph n.profile };
 }
 
+// The segments of the roads that the vehicle may use.
+fn roads_of(alloc: Global, objects: &[Object], profile: &Profile) -> Result<Roads, BuildFault>
+    ensures ok { IfOk result (λ roads. roads ≡ segments objects.now profile.now) }
+    ensures speeds { OnOk result (All (λ s. IsSpeed s.street.speed) (segments objects.now profile.now)) }
+    ensures few { OnOk result (length (segments objects.now profile.now) ≤ 2 ^ 22) }
+    ensures err { IfErr result (IsBuildFault (network_of objects.now profile.now)) }
+{
+    let locations = locations_of(alloc, objects)?;
+    let routes = routes_of(alloc, objects, profile)?;
+    if !are_few(objects, &routes, &locations) {
+        return Err(BuildFault::TooManySegments);
+    }
+    let roads = Roads::of(alloc, objects, routes, &locations)?;
+    Ok(roads)
+}
+
+// The graph of the turns. Each turn is from a vertex to a vertex, so nothing but memory can be wanting.
+fn turn_graph(
+    alloc: Global,
+    roads: &Roads,
+    fans: &Fans,
+    counts: &[u32],
+) -> Result<Graph, AllocError>
+    requires fans { AreFans (vertices roads.now) 0 fans.now.next.items fans.now.by_node }
+    requires counts { AreExits (vertices roads.now) counts.now }
+    requires few { length (turns (vertices roads.now)) ≤ 2 ^ 26 }
+    ensures vertices { IfOk result (λ graph. graph.vertices ≡ 2 * length roads.now) }
+    ensures arcs { IfOk result (λ graph. graph.arcs ≡ turns (vertices roads.now)) }
+{
+    let list = turn_list(alloc, roads, fans, counts)?;
+    match Graph::of(alloc, 2 * roads.len(), &list) {
+        Ok(graph) => Ok(graph),
+        Err(_) => Err(AllocError),
+    }
+}
+
 impl Network {
     /// The network of the roads among these objects that the vehicle of the profile may use.
     pub fn build(
@@ -50,7 +93,20 @@ impl Network {
         ensures limits { OnOk result (IsWithinLimits (network_of objects.now profile.now)) }
         ensures err { IfErr result (IsBuildFault (network_of objects.now profile.now)) }
     {
-        Err(BuildFault::Memory)
+        let roads = roads_of(alloc, objects, profile)?;
+        let fans = fans_of(alloc, &roads)?;
+        let exits = exit_counts(alloc, &roads, &fans)?;
+        if !turns_are_few(&roads, &exits) {
+            return Err(BuildFault::TooManyTurns);
+        }
+        let graph = turn_graph(alloc, &roads, &fans, &exits)?;
+        let profile = profile.try_clone(alloc)?;
+        Ok(Network {
+            roads,
+            exits,
+            graph,
+            profile,
+        })
     }
 
     /// How many segments there are. They are numbered from 0: way by way in ascending order of the ways'

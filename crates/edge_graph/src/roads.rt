@@ -1,11 +1,16 @@
 //! The segments of a network, in flat lists.
 
-ghost use Rattle.std.specs.Prelude.{◌≡◌, ◌*◌, ◌^◌, ◌<◌, ◌≤◌, length, Some, option_map};
+ghost use Rattle.std.specs.Prelude.{◌≡◌, ◌*◌, ◌^◌, ◌<◌, ◌≤◌, length, Some, option_map, All, IfOk, OnOk};
 ghost use Rattle.std.specs.List.{slice_get};
+ghost use Rattle.edge_graph.specs.Located.{located, segments_on};
+ghost use Rattle.edge_graph.specs.Rows.{AddsRows, AreRowsOf};
 ghost use Rattle.edge_graph.specs.Vertex.{vertices};
 
+use crate::node_locations::{Locations, segment_ends};
+use crate::routes::{Routes, nodes_of};
 use crate::streets::Street;
-use road_base::Point;
+use road_base::{Object, Point};
+use std::alloc::{AllocError, Global};
 use std::marker::Model;
 
 /// A segment, by the number of its street.
@@ -15,7 +20,7 @@ pub struct Row {
     pub head: i64,
     pub from: Point,
     pub to: Point,
-    pub street: u32,
+    pub street: usize,
 }
 
 /// The segments of a network: 40 bytes each, and those of a street its name and its use once.
@@ -39,7 +44,67 @@ impl Model for Roads {
     ghost invariant = { λ r. AreRows r.streets.items r.rows.items };
 }
 
+// Adds the segments along these nodes of the way of a street.
+fn push_along(
+    rows: &mut Vec<Row>,
+    locations: &Locations,
+    street: usize,
+    ids: &[i64],
+) -> Result<(), AllocError>
+    ensures { OnOk result (AddsRows (located locations.now) street ids.now rows.old.items rows.new.items) }
+{
+    for i in 1..ids.len() {
+        if let Some((from, to)) = segment_ends(locations, ids[i - 1], ids[i]) {
+            rows.push(Row {
+                tail: ids[i - 1],
+                head: ids[i],
+                from,
+                to,
+                street,
+            })?;
+        }
+    }
+    Ok(())
+}
+
+// The rows of all routes.
+fn rows_of(
+    alloc: Global,
+    objects: &[Object],
+    routes: &Routes,
+    locations: &Locations,
+) -> Result<Vec<Row>, AllocError>
+    requires in_range { All (λ place. place < length objects.now) routes.now.places.items }
+    requires as_many { length routes.now.streets.items ≡ length routes.now.places.items }
+    ensures { IfOk result (λ rows. AreRowsOf (located locations.now) objects.now routes.now.streets.items routes.now.places.items rows.items) }
+{
+    let mut rows = Vec::new(alloc);
+    for (street, place) in routes.places.iter().enumerate() {
+        push_along(&mut rows, locations, street, nodes_of(objects, *place))?;
+    }
+    Ok(rows)
+}
+
 impl Roads {
+    /// The segments of these routes, of which there are no more than a network may have.
+    pub fn of(
+        alloc: Global,
+        objects: &[Object],
+        routes: Routes,
+        locations: &Locations,
+    ) -> Result<Roads, AllocError>
+        requires in_range { All (λ place. place < length objects.now) routes.places.items }
+        requires as_many { length routes.streets.items ≡ length routes.places.items }
+        requires few { length (segments_on (located locations.now) objects.now routes.streets.items routes.places.items) ≤ 2 ^ 22 }
+        ensures { IfOk result (λ roads. roads ≡ segments_on (located locations.now) objects.now routes.streets.items routes.places.items) }
+    {
+        let rows = rows_of(alloc, objects, &routes, locations)?;
+        Ok(Roads {
+            streets: routes.streets,
+            rows,
+        })
+    }
+
     /// How many segments there are.
     pub fn len(&self) -> u32
         ensures value { result ≡ length self.now }
@@ -80,7 +145,7 @@ impl Roads {
         requires { v < 2 * length self.now }
         ensures { option_map (λ x. x.permitted) (slice_get (vertices self.now) v) ≡ Some result }
     {
-        let street = &self.streets[self.rows[v as usize / 2].street as usize];
+        let street = &self.streets[self.rows[v as usize / 2].street];
         if v % 2 == 0 {
             street.forward
         } else {
@@ -93,9 +158,7 @@ impl Roads {
         requires { v < 2 * length self.now }
         ensures { option_map (λ x. x.name) (slice_get (vertices self.now) v) ≡ Some result.now }
     {
-        self.streets[self.rows[v as usize / 2].street as usize]
-            .name
-            .as_str()
+        self.streets[self.rows[v as usize / 2].street].name.as_str()
     }
 
     /// The vehicle's speed on vertex `v` in thousandths of km/h.
@@ -103,6 +166,6 @@ impl Roads {
         requires { v < 2 * length self.now }
         ensures { option_map (λ x. x.speed) (slice_get (vertices self.now) v) ≡ Some result }
     {
-        self.streets[self.rows[v as usize / 2].street as usize].speed
+        self.streets[self.rows[v as usize / 2].street].speed
     }
 }

@@ -1,0 +1,112 @@
+//! The ways of a map that the vehicle may use, in the order of their ids.
+
+ghost use Rattle.std.specs.Prelude.{◌≡◌, ◌<◌, ◌≤◌, ◌^◌, ◌↔◌, ◌||◌, IfOk, IsTrue, All, length, [], OnOk};
+ghost use Rattle.std.specs.BTreeMap.{values};
+ghost use Rattle.edge_graph.specs.Located.{AreRoutes, StandAt, located, nodes_at, segments_on};
+ghost use Rattle.edge_graph.specs.Segment.{ways_by_id, street_of};
+
+use crate::node_locations::{Locations, count_along};
+use crate::streets::Street;
+use road_base::{Object, Text, Way};
+use std::alloc::{AllocError, Global};
+use std::collections::BTreeMap;
+use way_profile::{Profile, WayUse};
+
+/// The most segments that a network may have.
+pub const MOST_SEGMENTS: usize = 4_194_304;
+
+/// The streets, and for each the place of its way among the objects.
+#[derive(Drop)]
+pub struct Routes {
+    pub streets: Vec<Street>,
+    pub places: Vec<usize>,
+}
+
+// The places of the ways among the objects, in ascending order of the ways' ids.
+fn way_places(alloc: Global, objects: &[Object]) -> Result<Vec<usize>, AllocError>
+    ensures { IfOk result (λ places. StandAt objects.now places.items (ways_by_id objects.now)) }
+{
+    let mut ways = BTreeMap::new(alloc);
+    for i in (0..objects.len()).rev() {
+        if let Object::Way(way) = &objects[i] {
+            ways.insert(way.id, i)?;
+        }
+    }
+    values_of(alloc, ways)
+}
+
+// The values of a map, in ascending order of their keys.
+fn values_of(alloc: Global, map: BTreeMap<i64, usize>) -> Result<Vec<usize>, AllocError>
+    ensures { IfOk result (λ places. places.items ≡ values map) }
+{
+    map.into_values().collect(alloc)
+}
+
+// What a way that may be used so is to its segments.
+fn street(alloc: Global, usage: WayUse, way: &Way) -> Result<Street, AllocError>
+    ensures { IfOk result (λ street. street ≡ street_of usage way.now) }
+{
+    let name = match way.tags.get("name") {
+        Some(name) => name,
+        None => "",
+    };
+    Ok(Street {
+        name: Text::copy_of(alloc, name)?,
+        speed: usage.speed,
+        forward: usage.forward,
+        backward: usage.backward,
+    })
+}
+
+// Whether a way may be used in some direction.
+fn is_usable(usage: WayUse) -> bool
+    ensures { result ≡ (usage.forward || usage.backward) }
+{
+    usage.forward || usage.backward
+}
+
+/// The ways that the vehicle may use in some direction.
+pub fn routes_of(alloc: Global, objects: &[Object], profile: &Profile) -> Result<Routes, AllocError>
+    ensures { IfOk result (λ r. AreRoutes objects.now profile.now (ways_by_id objects.now) r.streets.items r.places.items) }
+{
+    let mut streets = Vec::new(alloc);
+    let mut places = Vec::new(alloc);
+    let all = way_places(alloc, objects)?;
+    for place in &all {
+        if let Object::Way(way) = &objects[*place] {
+            let usage = profile.way(&way.tags);
+            if is_usable(usage) {
+                streets.push(street(alloc, usage, way)?)?;
+                places.push(*place)?;
+            }
+        }
+    }
+    Ok(Routes { streets, places })
+}
+
+/// The ids of the nodes of the way at a place among the objects.
+pub fn nodes_of(objects: &[Object], place: usize) -> &[i64]
+    requires { place < length objects.now }
+    ensures { result.now ≡ nodes_at objects.now place }
+{
+    match &objects[place] {
+        Object::Way(way) => way.nodes.as_slice(),
+        _ => &[],
+    }
+}
+
+/// Whether there are no more segments than a network may have.
+pub fn are_few(objects: &[Object], routes: &Routes, locations: &Locations) -> bool
+    requires in_range { All (λ place. place < length objects.now) routes.now.places.items }
+    requires as_many { length routes.now.streets.items ≡ length routes.now.places.items }
+    ensures { IsTrue result ↔ (length (segments_on (located locations.now) objects.now routes.now.streets.items routes.now.places.items) ≤ 2 ^ 22) }
+{
+    let mut count = 0;
+    for place in &routes.places {
+        count += count_along(locations, nodes_of(objects, *place));
+        if count > MOST_SEGMENTS {
+            return false;
+        }
+    }
+    true
+}
