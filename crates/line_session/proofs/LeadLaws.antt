@@ -1,0 +1,265 @@
+-- How what is told of an input goes on, byte by byte and piece by piece.
+use Rattle.std.proofs.Common.{◌≡◌, ℕ, ◌+◌, ◌-◌, ◌^◌, ◌<◌, ◌≤◌, min, false, ◌==◌, Result, Ok, Err, OnErr, get_or, drop, add-one, take-suc, take-append-drop, List, [], ◌∷◌, ◌++◌, length, take, refl, sym, ap, ◌∙◌, subst, inl, inr, append_assoc, append-nil, arith, length-append, length-take}
+use Rattle.std.specs.Io.KnownBytes.{Consumes, IsAtEnd}
+use Rattle.std.specs.Str.Lines.{lines, strip_carriage_return}
+use Rattle.search_graph.specs.declared.costs.DurLen.{DurLen}
+use Rattle.search_graph.specs.Digraph.{Weighting}
+use Rattle.edge_graph.specs.NetworkView.{NetworkView}
+use Rattle.reply_core.specs.Answers.{IsAnswerOf}
+use Rattle.reply_core.specs.Texts.{busy_text}
+use Rattle.reply_core.specs.declared.answers.Answer.{Answer}
+use Rattle.reply_core.specs.declared.answers.Code.{Code}
+use Rattle.reply_core.specs.declared.answers.Code.TheVariants as code
+use Rattle.road_io.specs.Told.{appends_none, appends_then, front_none, front_of_first, front_of_second}
+use Rattle.line_session.specs.Leading.{AddsAll, AddsFront, Goes, GoesStopped, Leads, NoNewline, TakenSoFar, TellsAll, TellsFront}
+use Rattle.line_session.specs.Outside.{InputView, OutputView, Took}
+use Rattle.line_session.specs.Publication.{IsReply, Publication}
+use Rattle.line_session.specs.Stopping.{ToldAll, ToldPart}
+use Rattle.line_session.specs.Told.{Adds, IsToldFront, Told, newline}
+use Rattle.line_session.proofs.LineLaws.{lines_at, lines_last, long_lines}
+use Rattle.line_session.proofs.TakingLaws.{content_all, content_rest, content_some, took_all, took_end, took_none, took_piece}
+
+-- an answer to a line that is too long is one to any other such line
+answer_of_long : (c : Code) (network : NetworkView) (w : Weighting DurLen) (number : ℕ) (line other : List ℕ) (answer : Answer) → 8192 < length line → 8192 < length other → IsAnswerOf c network w number line answer → IsAnswerOf c network w number other answer
+answer_of_long code.BadRequest network w number line other answer long long_other is =
+    ((λ from to asked. let within : length other ≤ 8192 = asked.within in absurd (omega arith)), is.1)
+answer_of_long code.NoSegment network w number line other answer long long_other is =
+    let within : length line ≤ 8192 = is.0.2.within in absurd (omega arith)
+answer_of_long code.NoRoute network w number line other answer long long_other is =
+    let within : length line ≤ 8192 = is.0.2.asked.within in absurd (omega arith)
+answer_of_long code.Ok network w number line other answer long long_other is =
+    let within : length line ≤ 8192 = is.placed.asked.within in absurd (omega arith)
+
+-- two lines that are too long add the same
+adds_long : (last next : Publication) (line other text : List ℕ) → 8192 < length line → 8192 < length other → Adds last line text next → Adds last other text next
+adds_long last next [] other text long long_other adds = absurd (omega arith)
+adds_long last next (b ∷ line) [] text long long_other adds = absurd (omega arith)
+adds_long last next (b ∷ line) (c ∷ other) text long long_other (inl answers) =
+    inl (answers.0, (answers.1.0, answer_of_long answers.1.0.code last.network last.weights last.number (b ∷ line) (c ∷ other) answers.1.0 long long_other answers.1.1, answers.1.2), answers.2, answers.3)
+adds_long last next (b ∷ line) (c ∷ other) text long long_other (inr busy) = inr busy
+
+told_long : (last : Publication) (line other : List ℕ) (more : List (List ℕ)) (out : List ℕ) → 8192 < length line → 8192 < length other → Told last (line ∷ more) out → Told last (other ∷ more) out
+told_long last line other more out long long_other told =
+    (told.0, told.1, told.2, adds_long last told.1 line other told.0 long long_other told.3, told.4, told.5)
+
+told_first : (last : Publication) (line : List ℕ) (more : List (List ℕ)) (text out : List ℕ) → Adds last line text last → Told last more out → Told last (line ∷ more) (text ++ out)
+told_first last line more text out adds told = (text, last, out, adds, refl, told)
+
+-- something is told of any lines
+told_total : (last : Publication) (all : List (List ℕ)) → (out : List ℕ) × Told last all out
+told_total last [] = ([], refl)
+told_total last ([] ∷ more) = let rest = told_total last more in (rest.0, told_first last [] more [] rest.0 (refl, refl) rest.1)
+told_total last ((b ∷ line) ∷ more) =
+    let rest = told_total last more in
+    ((busy_text ++ newline) ++ rest.0, told_first last (b ∷ line) more (busy_text ++ newline) rest.0 (inr (refl, refl)) rest.1)
+
+lead_start : (last : Publication) (all : List ℕ) → Leads last all [] all
+lead_start last all = record { leads = λ out told. told }
+
+lead_then : (last : Publication) (all first mid second rest : List ℕ) → Leads last all first mid → Leads last mid second rest → Leads last all (first ++ second) rest
+lead_then last all first mid second rest one two = record {
+  leads = λ out told. subst (λ (xs : List ℕ). Told last (lines all) xs) (sym (append_assoc first second out)) (one.leads (second ++ out) (two.leads out told));
+}
+
+-- a newline ends the line that is held
+lead_line : (last : Publication) (held more text : List ℕ) → NoNewline held → Adds last (strip_carriage_return held) text last → Leads last (held ++ (10 ∷ more)) text more
+lead_line last held more text none adds = record {
+  leads = λ out told. subst (λ (all : List (List ℕ)). Told last all (text ++ out)) (sym (lines_at held more none)) (told_first last (strip_carriage_return held) (lines more) text out adds told);
+}
+
+-- a byte more is dropped where many are held
+lead_long : (last : Publication) (held : List ℕ) (b : ℕ) (more : List ℕ) → NoNewline held → (b == 10) ≡ false → 8194 ≤ length held → Leads last (held ++ (b ∷ more)) [] (held ++ more)
+lead_long last held b more none other long = record {
+  leads = λ out told.
+      let split = long_lines held b more none other (omega arith) in
+      let first : 8192 < length split.without = omega (arith, split.long_without) in
+      let second : 8192 < length split.within = omega (arith, split.long_within) in
+      subst (λ (all : List (List ℕ)). Told last all out) (sym split.lines_within)
+      (told_long last split.without split.within split.rest out first second
+      (subst (λ (all : List (List ℕ)). Told last all out) split.lines_without told));
+}
+
+-- a byte was a newline, was held, or was dropped
+pub goes_line : (last : Publication) (held line rest : List ℕ) (b : ℕ) (before after : OutputView) → NoNewline held → b ≡ 10 → line ≡ strip_carriage_return held → rest ≡ [] → AddsAll last line before after → Goes last held (b ∷ []) before after rest
+goes_line last held line rest b before after none newline_is line_is rest_is adds =
+    let adds_line = subst (λ (xs : List ℕ). Adds last xs adds.0 last) line_is adds.1 in
+    let goes : Goes last held (10 ∷ []) before after [] = record { text = adds.0; put = adds.2; leads = λ more. lead_line last held more adds.0 none adds_line } in
+    subst (λ (xs : List ℕ). Goes last held (b ∷ []) before after xs) (sym rest_is)
+    (subst (λ (byte : ℕ). Goes last held (byte ∷ []) before after []) (sym newline_is) goes)
+
+pub goes_held : (last : Publication) (held : List ℕ) (b : ℕ) (view : OutputView) → Goes last held (b ∷ []) view view (held ++ (b ∷ []))
+goes_held last held b view = record {
+  text = [];
+  put = appends_none view.written;
+  leads = λ more. subst (λ (xs : List ℕ). Leads last xs [] ((held ++ (b ∷ [])) ++ more)) (append_assoc held (b ∷ []) more) (lead_start last ((held ++ (b ∷ [])) ++ more));
+}
+
+pub goes_dropped : (last : Publication) (held : List ℕ) (b : ℕ) (view : OutputView) → NoNewline held → (b == 10) ≡ false → 8194 ≤ length held → Goes last held (b ∷ []) view view held
+goes_dropped last held b view none other long = record { text = []; put = appends_none view.written; leads = λ more. lead_long last held b more none other long }
+
+-- the reply to a line was cut off
+pub stopped_line : (last : Publication) (held line : List ℕ) (b : ℕ) (before after : OutputView) → NoNewline held → b ≡ 10 → line ≡ strip_carriage_return held → AddsFront last line before after → GoesStopped last held (b ∷ []) before after
+stopped_line last held line b before after none newline_is line_is adds =
+    let adds_line = subst (λ (xs : List ℕ). Adds last xs adds.0 last) line_is adds.1 in
+    let stopped : GoesStopped last held (10 ∷ []) before after = record {
+      part = adds.2.0;
+      put = adds.2.2;
+      front = λ more.
+          let out = told_total last (lines more) in
+          (adds.0 ++ out.0, (lead_line last held more adds.0 none adds_line).leads out.0 out.1, front_of_first adds.2.0 adds.0 out.0 adds.2.1);
+    } in
+    subst (λ (byte : ℕ). GoesStopped last held (byte ∷ []) before after) (sym newline_is) stopped
+
+-- pieces, one behind the other
+pub goes_start : (last : Publication) (held : List ℕ) (view : OutputView) → Goes last held [] view view held
+goes_start last held view = record { text = []; put = appends_none view.written; leads = λ more. lead_start last (held ++ more) }
+
+pub goes_then : (last : Publication) (held first mid second rest : List ℕ) (before middle after : OutputView) → Goes last held first before middle mid → Goes last mid second middle after rest → Goes last held (first ++ second) before after rest
+goes_then last held first mid second rest before middle after one two = record {
+  text = one.text ++ two.text;
+  put = appends_then before.written middle.written after.written one.text two.text one.put two.put;
+  leads = λ more. subst (λ (xs : List ℕ). Leads last (held ++ xs) (one.text ++ two.text) (rest ++ more)) (sym (append_assoc first second more))
+      (lead_then last (held ++ (first ++ (second ++ more))) one.text (mid ++ (second ++ more)) two.text (rest ++ more) (one.leads (second ++ more)) (two.leads more));
+}
+
+pub goes_stopped : (last : Publication) (held first mid second : List ℕ) (before middle after : OutputView) → Goes last held first before middle mid → GoesStopped last mid second middle after → GoesStopped last held (first ++ second) before after
+goes_stopped last held first mid second before middle after one two = record {
+  part = one.text ++ two.part;
+  put = appends_then before.written middle.written after.written one.text two.part one.put two.put;
+  front = λ more.
+      let told = two.front more in
+      subst (λ (xs : List ℕ). IsToldFront last (held ++ xs) (one.text ++ two.part)) (sym (append_assoc first second more))
+      (one.text ++ told.0, (one.leads (second ++ more)).leads told.0 told.1, front_of_second two.part one.text told.0 told.2);
+}
+
+pub stopped_longer : (last : Publication) (held piece more : List ℕ) (before after : OutputView) → GoesStopped last held piece before after → GoesStopped last held (piece ++ more) before after
+stopped_longer last held piece more before after stopped = record {
+  part = stopped.part;
+  put = stopped.put;
+  front = λ rest. subst (λ (xs : List ℕ). IsToldFront last (held ++ xs) stopped.part) (sym (append_assoc piece more rest)) (stopped.front (more ++ rest));
+}
+
+-- one byte of a piece more
+pub goes_byte : (last : Publication) (held mid rest piece : List ℕ) (index : ℕ) (before middle after : OutputView) → index < length piece → Goes last held (take index piece) before middle mid → Goes last mid (get_or piece index 0 ∷ []) middle after rest → Goes last held (take (index + 1) piece) before after rest
+goes_byte last held mid rest piece index before middle after bound one two =
+    subst (λ (xs : List ℕ). Goes last held xs before after rest) (sym (ap (λ (n : ℕ). take n piece) (add-one index) ∙ take-suc piece index 0 bound))
+    (goes_then last held (take index piece) mid (get_or piece index 0 ∷ []) rest before middle after one two)
+
+pub stopped_byte : (last : Publication) (held mid piece : List ℕ) (index : ℕ) (before middle after : OutputView) → index < length piece → Goes last held (take index piece) before middle mid → GoesStopped last mid (get_or piece index 0 ∷ []) middle after → GoesStopped last held piece before after
+stopped_byte last held mid piece index before middle after bound one two =
+    let front = goes_stopped last held (take index piece) mid (get_or piece index 0 ∷ []) before middle after one two in
+    let taken : GoesStopped last held (take (index + 1) piece) before after =
+    subst (λ (xs : List ℕ). GoesStopped last held xs before after) (sym (ap (λ (n : ℕ). take n piece) (add-one index) ∙ take-suc piece index 0 bound)) front in
+    subst (λ (xs : List ℕ). GoesStopped last held xs before after) (take-append-drop (index + 1) piece)
+    (stopped_longer last held (take (index + 1) piece) (drop (index + 1) piece) before after taken)
+
+-- what a line adds that is not empty
+pub adds_reply : (last : Publication) (line reply : List ℕ) → 0 < length line → IsReply last line reply → Adds last line (reply ++ newline) last
+adds_reply last [] reply some is = absurd (omega arith)
+adds_reply last (b ∷ line) reply some is = inl (reply, is, refl, refl)
+
+pub adds_busy : (last : Publication) (line : List ℕ) → 0 < length line → Adds last line (busy_text ++ newline) last
+adds_busy last [] some = absurd (omega arith)
+adds_busy last (b ∷ line) some = inr (refl, refl)
+
+-- what is left behind the last newline
+tells_last : (last : Publication) (held text : List ℕ) → NoNewline held → Adds last held text last → Told last (lines held) text
+tells_last last [] text none adds = adds.0
+tells_last last (b ∷ held) text none adds =
+    subst (λ (all : List (List ℕ)). Told last all text) (sym (lines_last (b ∷ held) none (omega arith)))
+    (text, last, [], adds, sym (append-nil text), refl)
+
+pub tells_all : (last : Publication) (held line : List ℕ) (before after : OutputView) → NoNewline held → line ≡ held → AddsAll last line before after → TellsAll last held before after
+tells_all last held line before after none line_is adds =
+    (adds.0, tells_last last held adds.0 none (subst (λ (xs : List ℕ). Adds last xs adds.0 last) line_is adds.1), adds.2)
+
+pub tells_front : (last : Publication) (held line : List ℕ) (before after : OutputView) → NoNewline held → line ≡ held → AddsFront last line before after → TellsFront last held before after
+tells_front last held line before after none line_is adds =
+    (adds.0, tells_last last held adds.0 none (subst (λ (xs : List ℕ). Adds last xs adds.0 last) line_is adds.1), adds.2)
+
+-- before the first piece, and after one more
+pub so_far_none : (last : Publication) (input : InputView) (output : OutputView) → TakenSoFar last input input output output [] 0
+so_far_none last input output = record { taken = []; length_is = refl; took = took_none input; goes = goes_start last [] output }
+
+pub so_far_piece : (last : Publication) (first mid now : InputView) (before middle after : OutputView) (held rest piece : List ℕ) (taken count : ℕ) → TakenSoFar last first mid before middle held taken → Consumes mid.left now.left (take count piece) → count ≤ length piece → now.taken ≡ min (mid.taken + count) (2 ^ 64 - 1) → Goes last held (take count piece) middle after rest → TakenSoFar last first now before after rest (taken + count)
+so_far_piece last first mid now before middle after held rest piece taken count so_far given bound counted goes = record {
+  taken = so_far.taken ++ take count piece;
+  length_is = omega (arith, length-append so_far.taken (take count piece), length-take count piece, so_far.length_is);
+  took = took_piece first mid now so_far.taken piece count so_far.took given bound counted;
+  goes = goes_then last [] so_far.taken held (take count piece) rest before middle after so_far.goes goes;
+}
+
+-- where nothing comes after, what is told of the rest ends what is told of all
+ended : (last : Publication) (held taken text out : List ℕ) → Leads last (taken ++ []) text (held ++ []) → Told last (lines held) out → Told last (lines taken) (text ++ out)
+ended last held taken text out leads told =
+    subst (λ (xs : List ℕ). Told last (lines xs) (text ++ out)) (append-nil taken)
+    (leads.leads out (subst (λ (xs : List ℕ). Told last (lines xs) out) (sym (append-nil held)) told))
+
+-- at the end of the input
+pub told_all : (last : Publication) (first mid now : InputView) (before middle after : OutputView) (held piece : List ℕ) (taken count : ℕ) → TakenSoFar last first mid before middle held taken → taken < 2 ^ 63 → count ≡ 0 → Consumes mid.left now.left (take count piece) → now.taken ≡ min (mid.taken + count) (2 ^ 64 - 1) → IsAtEnd now.left → TellsAll last held middle after → ToldAll last first now before after
+told_all last first mid now before middle after held piece taken count so_far short none given counted at_end tells = record {
+  input = so_far.taken;
+  took = took_end first mid now so_far.taken piece count so_far.took none given counted;
+  at_end = at_end;
+  short = omega (arith, so_far.length_is);
+  text = so_far.goes.text ++ tells.0;
+  told = ended last held so_far.taken so_far.goes.text tells.0 (so_far.goes.leads []) tells.1;
+  put = appends_then before.written middle.written after.written so_far.goes.text tells.0 so_far.goes.put tells.2;
+}
+
+-- at the end of the input the last reply was cut off
+pub part_last : (last : Publication) (first mid now : InputView) (before middle after : OutputView) (held piece : List ℕ) (taken count : ℕ) → TakenSoFar last first mid before middle held taken → count ≡ 0 → Consumes mid.left now.left (take count piece) → now.taken ≡ min (mid.taken + count) (2 ^ 64 - 1) → IsAtEnd now.left → TellsFront last held middle after → ToldPart last first before after
+part_last last first mid now before middle after held piece taken count so_far none given counted at_end tells =
+    let took = took_end first mid now so_far.taken piece count so_far.took none given counted in
+    record {
+      input = so_far.taken;
+      is_input = content_all first.left now.left so_far.taken took.given at_end;
+      part = so_far.goes.text ++ tells.2.0;
+      front = (so_far.goes.text ++ tells.0, ended last held so_far.taken so_far.goes.text tells.0 (so_far.goes.leads []) tells.1, front_of_second tells.2.0 so_far.goes.text tells.0 tells.2.1);
+      put = appends_then before.written middle.written after.written so_far.goes.text tells.2.0 so_far.goes.put tells.2.2;
+    }
+
+-- between two pieces
+pub part_between : (last : Publication) (first mid : InputView) (before middle : OutputView) (held : List ℕ) (taken : ℕ) → TakenSoFar last first mid before middle held taken → ToldPart last first before middle
+part_between last first mid before middle held taken so_far =
+    let rest = content_rest first.left mid.left so_far.taken so_far.took.given in
+    let out = told_total last (lines (held ++ rest.0)) in
+    record {
+      input = so_far.taken ++ rest.0;
+      is_input = rest.1;
+      part = so_far.goes.text;
+      front = (so_far.goes.text ++ out.0, (so_far.goes.leads rest.0).leads out.0 out.1, (out.0, refl));
+      put = so_far.goes.put;
+    }
+
+-- in a piece
+pub part_within : (last : Publication) (first mid now : InputView) (before middle after : OutputView) (held piece : List ℕ) (taken count : ℕ) → TakenSoFar last first mid before middle held taken → Consumes mid.left now.left (take count piece) → count ≤ length piece → now.taken ≡ min (mid.taken + count) (2 ^ 64 - 1) → GoesStopped last held (take count piece) middle after → ToldPart last first before after
+part_within last first mid now before middle after held piece taken count so_far given bound counted stopped =
+    let took = took_piece first mid now so_far.taken piece count so_far.took given bound counted in
+    let rest = content_rest first.left now.left (so_far.taken ++ take count piece) took.given in
+    let all = goes_stopped last [] so_far.taken held (take count piece) before middle after so_far.goes stopped in
+    record {
+      input = (so_far.taken ++ take count piece) ++ rest.0;
+      is_input = rest.1;
+      part = all.part;
+      front = all.front rest.0;
+      put = all.put;
+    }
+
+-- before the first piece
+pub part_none : (last : Publication) (input : InputView) (output : OutputView) → ToldPart last input output output
+part_none last input output =
+    let all = content_some input.left in
+    let out = told_total last (lines all.0) in
+    record { input = all.0; is_input = all.1; part = []; front = (out.0, out.1, front_none out.0); put = appends_none output.written }
+
+-- where 2^63 bytes were taken, they were taken in a call
+pub took_long : (last : Publication) (first now : InputView) (before after : OutputView) (held : List ℕ) (taken : ℕ) → TakenSoFar last first now before after held taken → 2 ^ 63 ≤ taken → (bytes : List ℕ) × Took first now bytes × (2 ^ 63 ≤ length bytes)
+took_long last first now before after held taken so_far long =
+    let many : 2 ^ 63 ≤ length so_far.taken = omega (arith, so_far.length_is) in
+    (so_far.taken, took_all first now so_far.taken so_far.took (omega arith), many)
+
+-- what holds at a failure
+pub on_err_given : {T E P : Type 0} (r : Result T E) → P → OnErr r P
+on_err_given (Ok x) holds = tt
+on_err_given (Err e) holds = holds

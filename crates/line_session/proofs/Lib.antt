@@ -1,0 +1,3 @@
+pub mod LeadLaws
+pub mod LineLaws
+pub mod TakingLaws

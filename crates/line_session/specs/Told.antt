@@ -1,0 +1,32 @@
+-- What is told of the lines of an input (this project's rule): one reply a line, each with a newline,
+-- under the last publication before it.
+use Rattle.std.specs.Prelude.{◌≡◌, ℕ, List, [], ◌∷◌, ◌++◌, ◌⊎◌}
+use Rattle.std.specs.Str.Lines.{lines}
+use Rattle.road_io.specs.Told.{IsFront}
+use Rattle.reply_core.specs.Texts.{busy_text}
+use Rattle.line_session.specs.Publication.{Publication, IsReply}
+
+abbrev pub newline : List ℕ
+newline = 10 ∷ []
+
+-- the reply to a line under the last publication, and the last publication after it
+abbrev pub Answers : Publication → List ℕ → List ℕ → Publication → Type 0
+Answers last line text next = (reply : List ℕ) × IsReply last line reply × (text ≡ reply ++ newline) × (next ≡ last)
+
+-- there was no memory for the reply
+abbrev pub IsBusy : Publication → List ℕ → Publication → Type 0
+IsBusy last text next = (text ≡ busy_text ++ newline) × (next ≡ last)
+
+-- what a line adds to the output: nothing where it is empty
+abbrev pub Adds : Publication → List ℕ → List ℕ → Publication → Type 0
+Adds last [] text next = (text ≡ []) × (next ≡ last)
+Adds last (b ∷ line) text next = Answers last (b ∷ line) text next ⊎ IsBusy last text next
+
+-- the lines, in order, add these bytes to the output
+abbrev pub Told : Publication → List (List ℕ) → List ℕ → Type 0
+Told last [] out = out ≡ []
+Told last (line ∷ more) out = (text : List ℕ) × (next : Publication) × (rest : List ℕ) × Adds last line text next × (out ≡ text ++ rest) × Told next more rest
+
+-- this is a front of what is told of an input
+abbrev pub IsToldFront : Publication → List ℕ → List ℕ → Type 0
+IsToldFront first input part = (out : List ℕ) × Told first (lines input) out × IsFront part out
