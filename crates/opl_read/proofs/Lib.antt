@@ -1,6 +1,8 @@
 pub mod Earth
-pub mod Letters
+pub mod Entries
+pub mod FieldLaws
 pub mod LineSteps
-pub mod Refs
+pub mod PartLaws
 pub mod SeenLaws
 pub mod Splitting
+pub mod LineLaws

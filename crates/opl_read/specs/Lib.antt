@@ -1,5 +1,7 @@
+pub mod Content
+pub mod Cutting
 pub mod Faults
-pub mod Fields
+pub mod LineParts
 pub mod LineText
 pub mod Objects
 pub mod Points

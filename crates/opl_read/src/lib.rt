@@ -2,8 +2,10 @@
 //! to its objects, or its first faulty line.
 #![tactic(auto)]
 
-mod fields;
+mod content;
+mod cutting;
 mod line_faults;
+mod line_parts;
 mod line_text;
 mod lines;
 mod points;

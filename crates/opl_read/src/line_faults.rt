@@ -2,6 +2,7 @@
 
 ghost use Rattle.std.specs.Prelude.{◌≡◌};
 ghost use Rattle.opl_read.specs.declared.line_faults.ReadFault.TheVariants.{Memory};
+ghost use Rattle.opl_read.specs.declared.line_faults.LineError.TheVariants.{OutOfMemory};
 
 use std::alloc::{AllocError, AllocFailed};
 
@@ -51,5 +52,28 @@ impl<T: Drop> From<AllocFailed<T>> for ReadFault {
 
     fn from(_error: AllocFailed<T>) -> ReadFault {
         ReadFault::Memory
+    }
+}
+
+// Why a line or a part of it was not read.
+#[derive(Clone, Copy, Debug, PartialEq, Eq)]
+pub(crate) enum LineError {
+    Fault(FaultKind),
+    OutOfMemory,
+}
+
+impl From<AllocError> for LineError {
+    ghost from_gives = { λ _ e. e ≡ OutOfMemory };
+
+    fn from(_error: AllocError) -> LineError {
+        LineError::OutOfMemory
+    }
+}
+
+impl<T: Drop> From<AllocFailed<T>> for LineError {
+    ghost from_gives = { λ _ e. e ≡ OutOfMemory };
+
+    fn from(_error: AllocFailed<T>) -> LineError {
+        LineError::OutOfMemory
     }
 }

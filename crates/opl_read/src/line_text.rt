@@ -1,152 +1,98 @@
 //! What one line stands for.
 
-ghost use Rattle.std.specs.Prelude.{◌≡◌, ◌==◌, ◌∷◌, [], IfOk, option_copied, option_map, codes};
-ghost use Rattle.std.specs.List.{slice_split};
-ghost use Rattle.std.specs.Option.{option_and_then};
-ghost use Rattle.decimal_text.specs.Decimal.{microdegrees_of};
+ghost use Rattle.std.specs.Prelude.{◌≡◌, ◌<◌, ◌==◌, Ok, IfOk, IfErr, slice_index};
 ghost use Rattle.decimal_text.specs.ObjectId.{id_of};
-ghost use Rattle.opl_read.specs.Fields.{behind, node_refs};
-ghost use Rattle.opl_read.specs.LineText.{line_of, or_bad_field, object_of, node_of, way_of, ended, highway_of, or_else};
+ghost use Rattle.opl_read.specs.Cutting.{fields_of};
+ghost use Rattle.opl_read.specs.Faults.{IsLineErrorOf};
+ghost use Rattle.opl_read.specs.LineText.{line_of, of_text, with_first_field, with_id, without_ending, without_last};
 
-use crate::fields::{behind, is_highway_value, node_refs, split_once};
-use crate::points::point_at;
-use decimal_text::{id, microdegrees};
-use road_base::{Ids, Node, Object, Tags, Text, Way};
-use std::alloc::{AllocError, Global};
+use crate::cutting::first_field;
+use crate::line_faults::{FaultKind, LineError};
+use crate::line_parts::parts_of;
+use decimal_text::id;
+use road_base::{Kind, Object};
+use std::alloc::Global;
 
-// The object of a line with its newline, or None where the line is of no such form.
+// The object of a line with its newline, or None where the line has none.
 #[tactic(auto, unfolding(crate::specs::LineText::line_of))]
-pub(crate) fn object_on(alloc: Global, line: &[u8]) -> Result<Option<Object>, AllocError>
-    ensures { IfOk result (λ object. or_bad_field object ≡ line_of line.now) }
+pub(crate) fn object_on(alloc: Global, line: &[u8]) -> Result<Option<Object>, LineError>
+    ensures object { IfOk result (λ object. line_of line.now ≡ Ok object) }
+    ensures fault { IfErr result (IsLineErrorOf (line_of line.now)) }
 {
-    match ended(line) {
-        Some(text) => object_of(alloc, text),
+    match std::str::from_utf8(without_ending(line)) {
+        Ok(text) => object_in(alloc, text),
+        Err(_) => Err(LineError::Fault(FaultKind::NotUtf8)),
+    }
+}
+
+// A line without its newline and a carriage return before that.
+fn without_ending(line: &[u8]) -> &[u8]
+    ensures { result.now ≡ without_ending line.now }
+{
+    without_last(b'\r', without_last(b'\n', line))
+}
+
+fn without_last(last: u8, text: &[u8]) -> &[u8]
+    requires { 0 < last }
+    ensures { result.now ≡ without_last last text.now }
+{
+    if !text.is_empty() && text[text.len() - 1] == last {
+        &text[..text.len() - 1]
+    } else {
+        text
+    }
+}
+
+fn object_in(alloc: Global, text: &str) -> Result<Option<Object>, LineError>
+    ensures object { IfOk result (λ object. of_text text.now ≡ Ok object) }
+    ensures fault { IfErr result (IsLineErrorOf (of_text text.now)) }
+{
+    if is_comment(text) {
+        return Ok(None);
+    }
+    match first_field(text) {
+        Some((first, behind)) => object_behind(alloc, first, behind),
         None => Ok(None),
     }
 }
 
-// A line's text without the newline that ends it.
-fn ended(line: &[u8]) -> Option<&[u8]>
-    ensures { option_copied result ≡ ended line.now }
+fn is_comment(text: &str) -> bool
+    ensures { result ≡ (slice_index text.now 0 == 35) }
 {
-    if !line.is_empty() && line[line.len() - 1] == b'\n' {
-        Some(&line[..line.len() - 1])
-    } else {
-        None
+    match text.as_bytes().first() {
+        Some(first) => *first == b'#',
+        None => false,
     }
 }
 
-fn object_of(alloc: Global, text: &[u8]) -> Result<Option<Object>, AllocError>
-    ensures { IfOk result (λ object. object ≡ object_of (slice_split (λ b. b == 32) text.now)) }
+// The object that the first field names, with the fields behind it.
+fn object_behind(alloc: Global, first: &str, behind: &str) -> Result<Option<Object>, LineError>
+    ensures object { IfOk result (λ object. with_first_field first.now (fields_of behind.now) ≡ Ok object) }
+    ensures fault { IfErr result (IsLineErrorOf (with_first_field first.now (fields_of behind.now))) }
 {
-    let Some((first, rest)) = split_once(text, b' ') else {
+    let Some((letter, number)) = first.as_bytes().split_first() else {
         return Ok(None);
     };
-    let Some((second, third)) = split_once(rest, b' ') else {
-        return Ok(None);
-    };
-    match split_once(third, b' ') {
-        Some(_) => Ok(None),
-        None => object_of_three(alloc, first, second, third),
+    match *letter {
+        b'n' => object_with(alloc, Kind::Node, number, behind),
+        b'w' => object_with(alloc, Kind::Way, number, behind),
+        b'r' | b'c' => Ok(None),
+        _ => Err(LineError::Fault(FaultKind::BadKind)),
     }
 }
 
-fn object_of_three(
+fn object_with(
     alloc: Global,
-    first: &[u8],
-    second: &[u8],
-    third: &[u8],
-) -> Result<Option<Object>, AllocError>
-    ensures { IfOk result (λ object. object ≡ or_else (node_of first.now second.now third.now) (way_of first.now second.now third.now)) }
+    kind: Kind,
+    number: &[u8],
+    behind: &str,
+) -> Result<Option<Object>, LineError>
+    ensures object { IfOk result (λ object. with_id kind (id_of number.now) (fields_of behind.now) ≡ Ok object) }
+    ensures fault { IfErr result (IsLineErrorOf (with_id kind (id_of number.now) (fields_of behind.now))) }
 {
-    match node_of(alloc, first, second, third) {
-        Some(node) => Ok(Some(node)),
-        None => way_of(alloc, first, second, third),
-    }
-}
-
-fn node_of(alloc: Global, first: &[u8], second: &[u8], third: &[u8]) -> Option<Object>
-    ensures { result ≡ node_of first.now second.now third.now }
-{
-    let id = id_behind(b"n", first)?;
-    let lon = degrees_behind(b"x", second)?;
-    let lat = degrees_behind(b"y", third)?;
-    let point = point_at(lon, lat)?;
-    Some(Object::Node(Node {
-        id,
-        point: Some(point),
-        tags: Tags::of(Vec::new(alloc)),
-    }))
-}
-
-fn id_behind(front: &[u8], text: &[u8]) -> Option<i64>
-    ensures { result ≡ option_and_then id_of (behind front.now text.now) }
-{
-    match behind(front, text) {
-        Some(number) => id(number),
-        None => None,
-    }
-}
-
-fn degrees_behind(front: &[u8], text: &[u8]) -> Option<i64>
-    ensures { result ≡ option_and_then microdegrees_of (behind front.now text.now) }
-{
-    match behind(front, text) {
-        Some(number) => microdegrees(number),
-        None => None,
-    }
-}
-
-fn way_of(
-    alloc: Global,
-    first: &[u8],
-    second: &[u8],
-    third: &[u8],
-) -> Result<Option<Object>, AllocError>
-    ensures { IfOk result (λ object. object ≡ way_of first.now second.now third.now) }
-{
-    let Some(id) = id_behind(b"w", first) else {
-        return Ok(None);
+    let Some(id) = id(number) else {
+        return Err(LineError::Fault(FaultKind::BadNumber));
     };
-    let Some(value) = highway_behind(second) else {
-        return Ok(None);
-    };
-    let Some(nodes) = nodes_behind(alloc, third)? else {
-        return Ok(None);
-    };
-    let tags = highway_tag(alloc, value)?;
-    let nodes = Ids::of(nodes);
-    Ok(Some(Object::Way(Way { id, tags, nodes })))
-}
-
-// The value of the tag `highway`.
-fn highway_behind(field: &[u8]) -> Option<&str>
-    ensures { option_copied result ≡ option_and_then highway_of (behind (codes "Thighway=") field.now) }
-{
-    let value = behind(b"Thighway=", field)?;
-    if is_highway_value(value) {
-        match std::str::from_utf8(value) {
-            Ok(text) => Some(text),
-            Err(_) => None,
-        }
-    } else {
-        None
-    }
-}
-
-fn nodes_behind(alloc: Global, field: &[u8]) -> Result<Option<Vec<i64>>, AllocError>
-    ensures { IfOk result (λ found. option_map (λ ids. ids.items) found ≡ option_and_then node_refs (behind (codes "N") field.now)) }
-{
-    match behind(b"N", field) {
-        Some(entries) => node_refs(alloc, entries),
-        None => Ok(None),
-    }
-}
-
-fn highway_tag(alloc: Global, value: &str) -> Result<Tags, AllocError>
-    ensures { IfOk result (λ tags. tags ≡ (codes "highway", value.now) ∷ []) }
-{
-    let key = Text::copy_of(alloc, "highway")?;
-    let value = Text::copy_of(alloc, value)?;
-    Ok(Tags::of(vec![in alloc; (key, value)]?))
+    let parts = parts_of(alloc, kind, behind)?;
+    Ok(parts.into_object(kind, id))
 }

@@ -3,7 +3,7 @@
 ghost use Rattle.std.specs.Prelude.{◌≡◌, ◌∷◌, ◌<◌, length};
 ghost use Rattle.opl_read.specs.Objects.{lines_of};
 
-use crate::fields::position_of;
+use crate::cutting::position_of;
 
 // The first line of a text with its newline, and what follows it.
 pub(crate) fn first_line(text: &[u8]) -> (&[u8], &[u8])

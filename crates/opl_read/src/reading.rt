@@ -5,7 +5,7 @@ ghost use Rattle.opl_read.specs.Faults.{IsFaultOf};
 ghost use Rattle.opl_read.specs.Objects.{opl_objects, AreDistinct};
 ghost use Rattle.opl_read.specs.declared.line_faults.ReadFault.TheVariants.{Line};
 
-use crate::line_faults::{FaultKind, LineFault, ReadFault};
+use crate::line_faults::{FaultKind, LineError, LineFault, ReadFault};
 use crate::line_text::object_on;
 use crate::lines::first_line;
 use crate::seen_ids::SeenIds;
@@ -13,12 +13,18 @@ use road_base::Object;
 use std::alloc::Global;
 
 /// The objects of a text in OPL, "object per line" (https://osmcode.org/opl-file-format), in file order.
-/// Each line ends with a newline and is either a node, `n<id> x<longitude> y<latitude>` in decimal
-/// degrees, or a way, `w<id> Thighway=<value> Nn<id>,n<id>,..` with a value of lower-case letters and
-/// `_` and at least two nodes; one blank stands between two fields.
 ///
-/// A line of another form is a `BadField`, and one with the kind and id of an earlier object a
-/// `Duplicate`; the first faulty line is told. Want of memory may come at any time.
+/// Lines end with a newline, which the last may lack, or with a carriage return and a newline. Comments,
+/// which begin with `#`, empty lines, changesets (`c`) and so far relations (`r`) are passed over, and so
+/// are objects with `dD`. A node `n<id>` may have the fields `v d c t i u T x y`, a way `w<id>` the fields
+/// `v d c t i u T N`, each once and in any order, parted by blanks or tabs. Coordinates are decimal
+/// degrees; a node without both has no location.
+///
+/// The first faulty line is told, counted from 1, and what its first fault from the left is: `NotUtf8`,
+/// `BadKind` for a first field of another letter, `BadNumber` for an id or a coordinate out of its form or
+/// range, `BadEscape` for a `%` in a tag, since escapes are not read yet, `BadField` for a field that isn't
+/// of its form, doesn't belong to the object or stands twice, and `Duplicate`, the last, for a second
+/// object of one kind and id. Want of memory may come at any time.
 pub fn read(alloc: Global, bytes: &[u8]) -> Result<Vec<Object>, ReadFault>
     ensures objects { IfOk result (λ objects. opl_objects bytes.now ≡ Ok objects.items) }
     ensures distinct { IfOk result (λ objects. AreDistinct objects.items) }
@@ -31,14 +37,19 @@ pub fn read(alloc: Global, bytes: &[u8]) -> Result<Vec<Object>, ReadFault>
     while !rest.is_empty() {
         let (line, more) = first_line(rest);
         number += 1;
-        let Some(object) = object_on(alloc, line)? else {
-            return Err(fault(number, FaultKind::BadField));
+        let found = match object_on(alloc, line) {
+            Ok(found) => found,
+            Err(LineError::Fault(kind)) => return Err(fault(number, kind)),
+            Err(LineError::OutOfMemory) => return Err(ReadFault::Memory),
+        };
+        rest = more;
+        let Some(object) = found else {
+            continue;
         };
         if !seen.insert(&object)? {
             return Err(fault(number, FaultKind::Duplicate));
         }
         objects.push(object)?;
-        rest = more;
     }
     Ok(objects)
 }

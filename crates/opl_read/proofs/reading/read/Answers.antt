@@ -2,7 +2,7 @@
 use Rattle.std.proofs.Common.{◌≡◌, ◌+◌, List, [], ◌∷◌, ◌++◌, true, false, Some, Ok, sym, ap, ◌∙◌, subst, arith, rules}
 use Rattle.std.specs.List.{list_any}
 use Rattle.road_base.specs.declared.osm_objects.Object.{Object}
-use Rattle.opl_read.specs.LineText.{line_of, or_bad_field}
+use Rattle.opl_read.specs.LineText.{line_of}
 use Rattle.opl_read.specs.Objects.{AreDistinct, is_same, lines_of, objects_after}
 use Rattle.opl_read.specs.Seen.{has_seen}
 use Rattle.opl_read.proofs.LineSteps.{objects_after-more, objects_after-start, AreDistinct-push, not_there}
@@ -28,7 +28,7 @@ loop-rest-preserved c =
     let more = c.first_line.result.1.now in
     let invariant = c.loop-rest.invariant in
     let pushed : c.push.new.self.items ≡ objects ++ object ∷ [] = c.in_ok-push.ensures.items in
-    let here : line_of line ≡ Ok (Some object) = sym c.in_ok-object.ensures ∙ ap or_bad_field c.in-Some.is in
+    let here : line_of line ≡ Ok (Some object) = c.in-Ok.ensures.object ∙ ap Ok c.in-Some.is in
     let added : c.in_ok-insert.field-0 ≡ true = search rules in
     let fresh : list_any (λ earlier. is_same earlier object) objects ≡ false =
     sym (invariant.seen object) ∙ not_there c.in_ok-insert.field-0 (has_seen c.loop-rest.seen object) c.in_ok-insert.ensures.added added

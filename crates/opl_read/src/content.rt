@@ -1,0 +1,117 @@
+//! What the contents of fields stand for.
+
+ghost use Rattle.std.specs.Prelude.{◌≡◌, Ok, IfOk, IfErr, codes, ◌==◌};
+ghost use Rattle.std.specs.List.{before_first};
+ghost use Rattle.std.specs.Str.{byte};
+ghost use Rattle.opl_read.specs.Content.{tag_of, tags_of, ref_of, refs_of, coordinate_of, deleted_of};
+ghost use Rattle.opl_read.specs.Faults.{IsLineErrorOf};
+
+use crate::cutting::{parted_at, position_of};
+use crate::line_faults::{FaultKind, LineError};
+use decimal_text::{id, microdegrees};
+use road_base::{Ids, Tags, Text};
+use std::alloc::Global;
+
+// The tags of a field `T`.
+pub(crate) fn tags_of(alloc: Global, content: &str) -> Result<Tags, LineError>
+    ensures tags { IfOk result (λ tags. tags_of content.now ≡ Ok tags) }
+    ensures fault { IfErr result (IsLineErrorOf (tags_of content.now)) }
+{
+    let mut tags = Vec::new(alloc);
+    if content.is_empty() {
+        return Ok(Tags::of(tags));
+    }
+    let mut rest = content;
+    while let Some((entry, more)) = parted_at(rest, b',') {
+        tags.push(tag_of(alloc, entry)?)?;
+        rest = more;
+    }
+    tags.push(tag_of(alloc, rest)?)?;
+    Ok(Tags::of(tags))
+}
+
+fn tag_of(alloc: Global, entry: &str) -> Result<(Text, Text), LineError>
+    ensures tag { IfOk result (λ tag. tag_of entry.now ≡ Ok tag) }
+    ensures fault { IfErr result (IsLineErrorOf (tag_of entry.now)) }
+{
+    let Some((key, value)) = parted_at(entry, b'=') else {
+        return Err(LineError::Fault(FaultKind::BadField));
+    };
+    if parted_at(entry, b'%').is_some() {
+        return Err(LineError::Fault(FaultKind::BadEscape));
+    }
+    let key = Text::copy_of(alloc, key)?;
+    let value = Text::copy_of(alloc, value)?;
+    Ok((key, value))
+}
+
+// The ids of a field `N`.
+pub(crate) fn refs_of(alloc: Global, content: &str) -> Result<Ids, LineError>
+    ensures refs { IfOk result (λ ids. refs_of content.now ≡ Ok ids) }
+    ensures fault { IfErr result (IsLineErrorOf (refs_of content.now)) }
+{
+    let mut ids = Vec::new(alloc);
+    if content.is_empty() {
+        return Ok(Ids::of(ids));
+    }
+    let mut rest = content;
+    while let Some((entry, more)) = parted_at(rest, b',') {
+        ids.push(ref_of(entry)?)?;
+        rest = more;
+    }
+    ids.push(ref_of(rest)?)?;
+    Ok(Ids::of(ids))
+}
+
+fn ref_of(entry: &str) -> Result<i64, LineError>
+    ensures id { IfOk result (λ id. ref_of entry.now ≡ Ok id) }
+    ensures fault { IfErr result (IsLineErrorOf (ref_of entry.now)) }
+{
+    let text = entry.as_bytes();
+    if !text.starts_with(b"n") {
+        return Err(LineError::Fault(FaultKind::BadField));
+    }
+    match id(before_x(&text[1..])) {
+        Some(id) => Ok(id),
+        None => Err(LineError::Fault(FaultKind::BadNumber)),
+    }
+}
+
+// What stands before the first `x`, or all.
+fn before_x(text: &[u8]) -> &[u8]
+    ensures { result.now ≡ before_first (λ b. b == byte "x") text.now }
+{
+    match position_of(text, b'x') {
+        Some(at) => &text[..at],
+        None => text,
+    }
+}
+
+// The coordinate of a field `x` or `y`.
+pub(crate) fn coordinate_of(greatest: u64, content: &str) -> Result<Option<i64>, LineError>
+    ensures value { IfOk result (λ value. coordinate_of greatest content.now ≡ Ok value) }
+    ensures fault { IfErr result (IsLineErrorOf (coordinate_of greatest content.now)) }
+{
+    if content.is_empty() {
+        return Ok(None);
+    }
+    match microdegrees(content.as_bytes()) {
+        Some(value) if value.unsigned_abs() <= greatest => Ok(Some(value)),
+        Some(_) => Err(LineError::Fault(FaultKind::BadNumber)),
+        None => Err(LineError::Fault(FaultKind::BadField)),
+    }
+}
+
+// Whether a field `d` says that the object is deleted.
+pub(crate) fn deleted_of(content: &str) -> Result<bool, LineError>
+    ensures deleted { IfOk result (λ deleted. deleted_of content.now ≡ Ok deleted) }
+    ensures fault { IfErr result (IsLineErrorOf (deleted_of content.now)) }
+{
+    if content == "D" {
+        Ok(true)
+    } else if content == "V" {
+        Ok(false)
+    } else {
+        Err(LineError::Fault(FaultKind::BadField))
+    }
+}

@@ -1,0 +1,70 @@
+//! Lines cut into fields, and fields into entries.
+
+ghost use Rattle.std.specs.Prelude.{◌≡◌, ◌∷◌, [], ◌<◌, ◌≤◌, ◌==◌, false, MatchOption, IfSome, IsNone, is_some, length, position, slice_index};
+ghost use Rattle.std.specs.List.{slice_split, before_first, after_first};
+ghost use Rattle.opl_read.specs.Cutting.{has, is_blank, fields_of, IsFirstField};
+
+// What stands before and after the first of these bytes.
+pub(crate) fn parted_at(text: &str, byte: u8) -> Option<(&str, &str)>
+    requires { byte < 128 }
+    ensures none { IsNone result → slice_split (λ b. b == byte) text.now ≡ text.now ∷ [] }
+    ensures parts { IfSome result (λ parts. slice_split (λ b. b == byte) text.now ≡ parts.0.now ∷ slice_split (λ b. b == byte) parts.1.now) }
+    ensures found { is_some result ≡ has byte text.now }
+    ensures before { IfSome result (λ parts. parts.0.now ≡ before_first (λ b. b == byte) text.now) }
+    ensures after { IfSome result (λ parts. parts.1.now ≡ after_first (λ b. b == byte) text.now) }
+    ensures shorter { IfSome result (λ parts. length parts.1.now < length text.now) }
+{
+    match position_of(text.as_bytes(), byte) {
+        Some(at) => Some((&text[..at], &text[at + 1..])),
+        None => None,
+    }
+}
+
+// Where the first of these bytes stands.
+pub(crate) fn position_of(text: &[u8], byte: u8) -> Option<usize>
+    ensures { result ≡ position (λ b. b == byte) text.now }
+{
+    text.iter().position(|b| *b == byte)
+}
+
+// The first field, and what stands behind it, or None where there is no field.
+pub(crate) fn first_field(text: &str) -> Option<(&str, &str)>
+    ensures { MatchOption result (fields_of text.now ≡ []) (λ found. IsFirstField text.now found.0.now found.1.now) }
+{
+    let rest = past_blanks(text);
+    if rest.is_empty() {
+        return None;
+    }
+    match blank_in(rest.as_bytes()) {
+        Some(at) => Some((&rest[..at], &rest[at + 1..])),
+        None => Some((rest, "")),
+    }
+}
+
+fn blank_in(text: &[u8]) -> Option<usize>
+    ensures { result ≡ position is_blank text.now }
+{
+    text.iter().position(|b| *b == b' ' || *b == b'\t')
+}
+
+// The text without the blanks at its front.
+fn past_blanks(text: &str) -> &str
+    ensures fields { fields_of result.now ≡ fields_of text.now }
+    ensures front { is_blank (slice_index result.now 0) ≡ false }
+    ensures shorter { length result.now ≤ length text.now }
+{
+    let mut rest = text;
+    while begins_with_blank(rest) {
+        rest = &rest[1..];
+    }
+    rest
+}
+
+fn begins_with_blank(text: &str) -> bool
+    ensures { result ≡ is_blank (slice_index text.now 0) }
+{
+    match text.as_bytes().first() {
+        Some(first) => *first == b' ' || *first == b'\t',
+        None => false,
+    }
+}

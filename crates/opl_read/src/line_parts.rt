@@ -1,0 +1,185 @@
+//! What the fields of a line say of its object.
+
+ghost use Rattle.std.specs.Prelude.{◌≡◌, ◌∷◌, Ok, IfOk, IfErr, IfNone, IfSome};
+ghost use Rattle.opl_read.specs.Content.{mapped};
+ghost use Rattle.opl_read.specs.Cutting.{fields_of, has};
+ghost use Rattle.opl_read.specs.Faults.{IsLineErrorOf};
+ghost use Rattle.opl_read.specs.LineParts.{no_parts, letters_of, with_content, with_field, with_fields, with_letter, HasNoLetter, location_of, kept_object};
+
+use crate::content::{coordinate_of, deleted_of, refs_of, tags_of};
+use crate::cutting::first_field;
+use crate::line_faults::{FaultKind, LineError};
+use crate::points::point_at;
+use road_base::{Ids, Kind, Node, Object, Point, Tags, Way};
+use std::alloc::Global;
+use std::marker::Model;
+
+const GREATEST_LONGITUDE: u64 = 180_000_000;
+
+const GREATEST_LATITUDE: u64 = 90_000_000;
+
+// The letters of the fields so far, and what they say.
+#[derive(Drop)]
+pub(crate) struct Parts {
+    letters: Vec<u8>,
+    tags: Tags,
+    nodes: Ids,
+    lon: Option<i64>,
+    lat: Option<i64>,
+    deleted: bool,
+}
+
+impl Model for Parts {
+    ghost use Rattle.opl_read.specs.LineParts.{LineParts};
+
+    ghost Value = { LineParts };
+
+    ghost view = { λ p. record { letters = p.letters.items; tags = p.tags; nodes = p.nodes; lon = p.lon; lat = p.lat; deleted = p.deleted } };
+}
+
+// The parts that the fields of a text make.
+pub(crate) fn parts_of(alloc: Global, kind: Kind, text: &str) -> Result<Parts, LineError>
+    ensures parts { IfOk result (λ parts. with_fields kind no_parts (fields_of text.now) ≡ Ok parts) }
+    ensures fault { IfErr result (IsLineErrorOf (with_fields kind no_parts (fields_of text.now))) }
+{
+    let mut parts = no_parts(alloc);
+    let mut rest = text;
+    while let Some((field, more)) = first_field(rest) {
+        parts = with_field(alloc, kind, parts, field)?;
+        rest = more;
+    }
+    Ok(parts)
+}
+
+fn no_parts(alloc: Global) -> Parts
+    ensures { result ≡ no_parts }
+{
+    Parts {
+        letters: Vec::new(alloc),
+        tags: Tags::of(Vec::new(alloc)),
+        nodes: Ids::of(Vec::new(alloc)),
+        lon: None,
+        lat: None,
+        deleted: false,
+    }
+}
+
+fn with_field(alloc: Global, kind: Kind, parts: Parts, field: &str) -> Result<Parts, LineError>
+    ensures parts { IfOk result (λ more. with_field kind parts field.now ≡ Ok more) }
+    ensures fault { IfErr result (IsLineErrorOf (with_field kind parts field.now)) }
+{
+    let Some((letter, content)) = split_letter(field) else {
+        return Err(LineError::Fault(FaultKind::BadField));
+    };
+    if !may_have(kind, letter) {
+        return Err(LineError::Fault(FaultKind::BadField));
+    }
+    if parts.has(letter) {
+        return Err(LineError::Fault(FaultKind::BadField));
+    }
+    with_allowed(alloc, letter, content, parts)
+}
+
+// The letter of a field, which is ASCII, and its content.
+fn split_letter(field: &str) -> Option<(u8, &str)>
+    ensures none { IfNone result (HasNoLetter field.now) }
+    ensures parts { IfSome result (λ found. field.now ≡ found.0 ∷ found.1.now) }
+{
+    let bytes = field.as_bytes();
+    if bytes.is_empty() || bytes[0] >= 128 {
+        return None;
+    }
+    Some((bytes[0], &field[1..]))
+}
+
+// The parts with a field that may be there.
+fn with_allowed(alloc: Global, letter: u8, content: &str, parts: Parts) -> Result<Parts, LineError>
+    ensures parts { IfOk result (λ more. mapped (with_letter letter) (with_content letter content.now parts) ≡ Ok more) }
+    ensures fault { IfErr result (IsLineErrorOf (mapped (with_letter letter) (with_content letter content.now parts))) }
+{
+    let mut parts = with_content(alloc, letter, content, parts)?;
+    parts.letters.push(letter)?;
+    Ok(parts)
+}
+
+// Whether an object of this kind may have a field of this letter.
+fn may_have(kind: Kind, letter: u8) -> bool
+    ensures { result ≡ has letter (letters_of kind) }
+{
+    match kind {
+        Kind::Node => b"vdctiuTxy".contains(&letter),
+        Kind::Way => b"vdctiuTN".contains(&letter),
+        Kind::Relation => false,
+    }
+}
+
+fn with_content(alloc: Global, letter: u8, content: &str, parts: Parts) -> Result<Parts, LineError>
+    ensures parts { IfOk result (λ more. with_content letter content.now parts ≡ Ok more) }
+    ensures fault { IfErr result (IsLineErrorOf (with_content letter content.now parts)) }
+{
+    let mut parts = parts;
+    match letter {
+        b'T' => {
+            parts.tags = tags_of(alloc, content)?;
+            Ok(parts)
+        }
+        b'N' => {
+            parts.nodes = refs_of(alloc, content)?;
+            Ok(parts)
+        }
+        b'x' => {
+            parts.lon = coordinate_of(GREATEST_LONGITUDE, content)?;
+            Ok(parts)
+        }
+        b'y' => {
+            parts.lat = coordinate_of(GREATEST_LATITUDE, content)?;
+            Ok(parts)
+        }
+        b'd' => {
+            parts.deleted = deleted_of(content)?;
+            Ok(parts)
+        }
+        _ => Ok(parts),
+    }
+}
+
+impl Parts {
+    // Whether a field of this letter was there.
+    fn has(&self, letter: u8) -> bool
+        ensures { result ≡ has letter self.now.letters }
+    {
+        self.letters.contains(&letter)
+    }
+
+    // The object of a kind and an id, none where it is deleted.
+    pub(crate) fn into_object(self, kind: Kind, id: i64) -> Option<Object>
+        ensures { result ≡ kept_object kind id self }
+    {
+        if self.deleted {
+            return None;
+        }
+        match kind {
+            Kind::Node => Some(Object::Node(Node {
+                id,
+                point: location(self.lon, self.lat),
+                tags: self.tags,
+            })),
+            Kind::Way => Some(Object::Way(Way {
+                id,
+                tags: self.tags,
+                nodes: self.nodes,
+            })),
+            Kind::Relation => None,
+        }
+    }
+}
+
+// The point of two coordinates, where both are there.
+fn location(lon: Option<i64>, lat: Option<i64>) -> Option<Point>
+    ensures { result ≡ location_of lon lat }
+{
+    match (lon, lat) {
+        (Some(lon), Some(lat)) => point_at(lon, lat),
+        _ => None,
+    }
+}
