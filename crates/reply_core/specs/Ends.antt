@@ -8,7 +8,7 @@ use Rattle.search_graph.specs.declared.ends.Start.{Start}
 use Rattle.search_graph.specs.declared.ends.Target.{Target}
 use Rattle.search_graph.specs.Digraph.{Weighting}
 use Rattle.search_graph.specs.Durations.{durlen_ops}
-use Rattle.reply_core.specs.Places.{pos, before, without}
+use Rattle.reply_core.specs.Places.{parts_along, before, without}
 
 -- what is made of the cost of a vertex, if there is such a vertex and it is open
 abbrev pub made : {E : Type 0} → (DurLen → E) → Option (Option DurLen) → Option E
@@ -17,11 +17,11 @@ made make _ = None
 
 -- a start at p along vertex v, which costs c: what is left of it behind p is paid
 abbrev pub start_at : Place → ℕ → DurLen → Start DurLen
-start_at p v c = record { vertex = v; cost = without c (before c (pos p v)) }
+start_at p v c = record { vertex = v; cost = without c (before c (parts_along p v)) }
 
 -- a target at q along vertex v: what lies of it before q is paid
 abbrev pub target_at : Place → ℕ → DurLen → Target DurLen
-target_at q v c = record { vertex = v; cost = before c (pos q v) }
+target_at q v c = record { vertex = v; cost = before c (parts_along q v) }
 
 -- what is made of both directions of a segment, of those that are open
 abbrev pub made_of : {E : Type 0} → (ℕ → DurLen → E) → Weighting DurLen → ℕ → List E

@@ -11,7 +11,7 @@ use Rattle.search_graph.specs.Costs.{NoDearer}
 use Rattle.search_graph.specs.Digraph.{Digraph, Weighting, IsOpen}
 use Rattle.search_graph.specs.Durations.{durlen_ops}
 use Rattle.search_graph.specs.Walks.{IsBetween}
-use Rattle.reply_core.specs.Places.{IsDirection, pos, before, without}
+use Rattle.reply_core.specs.Places.{IsDirection, parts_along, before, without}
 
 -- `walk` is the open vertex v alone, a direction of both places' segment on which p lies no farther on than
 -- q; it costs what the part between the two costs
@@ -20,9 +20,9 @@ pub record IsAlong (w : Weighting DurLen) (p q : Place) (v : ℕ) (walk : List �
   pub is_open : IsOpen w v cost
   pub begins : IsDirection p.segment v
   pub ends : IsDirection q.segment v
-  pub ahead : pos p v ≤ pos q v
+  pub ahead : parts_along p v ≤ parts_along q v
   pub is_walk : walk ≡ v ∷ []
-  pub is_cost : d ≡ without (before cost (pos q v)) (before cost (pos p v))
+  pub is_cost : d ≡ without (before cost (parts_along q v)) (before cost (parts_along p v))
 
 -- `walk` is one vertex alone
 abbrev pub IsAlongOne : Weighting DurLen → Place → Place → List ℕ → DurLen → Type 0
@@ -30,11 +30,11 @@ IsAlongOne w p q walk d = (v : ℕ) × IsAlong w p q v walk d
 
 -- a walk begins at p along vertex v: what is left of v behind p is paid
 abbrev pub IsStart : Weighting DurLen → Place → Start DurLen → Type 0
-IsStart w p s = (c : DurLen) × IsOpen w s.vertex c × IsDirection p.segment s.vertex × (s.cost ≡ without c (before c (pos p s.vertex)))
+IsStart w p s = (c : DurLen) × IsOpen w s.vertex c × IsDirection p.segment s.vertex × (s.cost ≡ without c (before c (parts_along p s.vertex)))
 
 -- a walk ends at q along vertex v: what lies of v before q is paid
 abbrev pub IsTarget : Weighting DurLen → Place → Target DurLen → Type 0
-IsTarget w q t = (c : DurLen) × IsOpen w t.vertex c × IsDirection q.segment t.vertex × (t.cost ≡ before c (pos q t.vertex))
+IsTarget w q t = (c : DurLen) × IsOpen w t.vertex c × IsDirection q.segment t.vertex × (t.cost ≡ before c (parts_along q t.vertex))
 
 -- `walk` is two or more open vertices, from a direction of p's segment by permitted turns to a direction of
 -- q's; it costs what is left of the first behind p, all turns, the whole of the vertices in the middle, and

@@ -8,8 +8,8 @@ abbrev pub IsDirection : ℕ → ℕ → Type 0
 IsDirection s v = (v ≡ 2 * s) ⊎ (v ≡ 2 * s + 1)
 
 -- how far along vertex v, a direction of its segment, the place lies, in 1024ths
-abbrev pub pos : Place → ℕ → ℕ
-pos p v = if v % 2 == 0 then p.at else 1024 - p.at
+abbrev pub parts_along : Place → ℕ → ℕ
+parts_along p v = if v % 2 == 0 then p.at else 1024 - p.at
 
 -- what the first n 1024ths of a vertex cost, rounded down in each part
 abbrev pub before : DurLen → ℕ → DurLen

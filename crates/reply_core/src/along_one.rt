@@ -4,7 +4,7 @@ ghost use Rattle.std.specs.Prelude.{◌≡◌, ◌+◌, ◌*◌, ◌^◌, ◌<�
 ghost use Rattle.search_graph.specs.Durations.{durlen_ops};
 ghost use Rattle.reply_core.specs.Legs.{IsLeastOf};
 ghost use Rattle.reply_core.specs.Permitted.{IsAlong, IsAlongOne};
-ghost use Rattle.reply_core.specs.Places.{IsDirection, IsPlaceOf, before, pos, without};
+ghost use Rattle.reply_core.specs.Places.{IsDirection, IsPlaceOf, before, parts_along, without};
 
 use crate::cheapest::cheaper;
 use metric_make::BaseMetric;
@@ -17,9 +17,9 @@ use std::alloc::{AllocError, Global};
 const PARTS: u32 = 1024;
 
 /// How far along a direction of its segment a place lies, in 1024ths.
-pub(crate) fn position_along(place: Place, vertex: u32) -> u32
+pub(crate) fn parts_along(place: Place, vertex: u32) -> u32
     requires { place.at ≤ 1024 }
-    ensures value { result ≡ pos place vertex }
+    ensures value { result ≡ parts_along place vertex }
     ensures bound { result ≤ 1024 }
 {
     if vertex % 2 == 0 {
@@ -78,8 +78,8 @@ fn along(
     requires to { to.at ≤ 1024 }
     ensures { IfOk result (IsLeastOf (IsAlong base.now.weights from to vertex)) }
 {
-    let first = position_along(from, vertex);
-    let last = position_along(to, vertex);
+    let first = parts_along(from, vertex);
+    let last = parts_along(to, vertex);
     let Some(cost) = base.vertex(vertex) else {
         return Ok(None);
     };

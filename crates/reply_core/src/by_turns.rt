@@ -9,7 +9,7 @@ ghost use Rattle.reply_core.specs.Legs.{IsLeastOf};
 ghost use Rattle.reply_core.specs.Permitted.{IsByTurns};
 ghost use Rattle.reply_core.specs.Places.{IsPlaceOf};
 
-use crate::along_one::{before, position_along};
+use crate::along_one::{before, parts_along};
 use crate::cheapest::cheapest;
 use metric_make::BaseMetric;
 use plain_search::{Found, SearchFault, least_from};
@@ -87,7 +87,7 @@ fn start(base: &BaseMetric, place: Place, vertex: u32) -> Option<Start<DurLen>>
     ensures small { IfSome result (IsSmallStart (length base.now.weights.vertex)) }
 {
     let cost = base.vertex(vertex)?;
-    let passed = before(cost, position_along(place, vertex));
+    let passed = before(cost, parts_along(place, vertex));
     let cost = DurLen {
         duration: cost.duration - passed.duration,
         length: cost.length - passed.length,
@@ -103,6 +103,6 @@ fn target(base: &BaseMetric, place: Place, vertex: u32) -> Option<Target<DurLen>
     ensures small { IfSome result (IsSmallTarget (length base.now.weights.vertex)) }
 {
     let cost = base.vertex(vertex)?;
-    let cost = before(cost, position_along(place, vertex));
+    let cost = before(cost, parts_along(place, vertex));
     Some(Target { vertex, cost })
 }
