@@ -22,8 +22,11 @@ abbrev pub vertex_cost : Vertex → Option DurLen
 vertex_cost v = cost_at (length_of (position_of v.from) (position_of v.to)) v
 
 -- what a turn costs: the penalty of turning back where it goes back onto its own segment, else nothing
+abbrev pub cost_of_turn : (penalty : ℕ) → ℕ × ℕ → DurLen
+cost_of_turn penalty turn = record { duration = if turn.1 == opposite turn.0 then penalty else 0; length = 0 }
+
 abbrev pub turn_cost : ProfileView → ℕ × ℕ → DurLen
-turn_cost profile turn = record { duration = if turn.1 == opposite turn.0 then profile.u_turn_penalty else 0; length = 0 }
+turn_cost profile turn = cost_of_turn profile.u_turn_penalty turn
 
 -- what the metric of a network is to those who use it
 pub record MetricView : Type 0 where

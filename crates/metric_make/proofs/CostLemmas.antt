@@ -1,0 +1,88 @@
+-- What the vertices and turns of a network cost, one by one.
+use Rattle.std.proofs.Common.{◌≡◌, ℕ, ℤ, suc, ◌+◌, ◌*◌, ◌/◌, ◌<◌, ◌+ℤ◌, ◌-ℤ◌, pos, max, List, [], ◌∷◌, ◌++◌, length, drop, map, Option, Some, arith, refl, sym, ap, ◌∙◌, append_assoc}
+use Rattle.std.specs.Prelude.{option_map, unsigned_abs}
+use Rattle.std.specs.Int.{int_div_euclid}
+use Rattle.std.specs.List.{slice_get}
+use Rattle.std.proofs.lemmas.Int.{ints}
+use Rattle.std.proofs.lemmas.Option.{same_Some}
+use Rattle.geo_integer.specs.Plane.{cosine_of, length_of, plane_between, squared}
+use Rattle.geo_integer.specs.Position.{Position, position_of}
+use Rattle.geo_integer.specs.Root.{root_of}
+use Rattle.road_base.specs.declared.coordinates.Point.{Point}
+use Rattle.search_graph.specs.declared.costs.DurLen.{DurLen}
+use Rattle.search_graph.proofs.Gets.{get_some}
+use Rattle.edge_graph.specs.Segment.{Segment}
+use Rattle.edge_graph.specs.Vertex.{against, along, vertices}
+use Rattle.edge_graph.proofs.VertexLemmas.{vertices-even, vertices-odd}
+use Rattle.edge_graph.proofs.WayLemmas.{drop-get}
+use Rattle.metric_make.specs.MetricOf.{cost_at, cost_of_turn, vertex_cost}
+
+apart-same : (x y : ℤ) → unsigned_abs (x -ℤ y) ≡ unsigned_abs (y -ℤ x)
+apart-same x y = omega (arith, ints)
+
+sum-same : (x y : ℤ) → x +ℤ y ≡ y +ℤ x
+sum-same x y = omega (arith, ints)
+
+-- the plane value from the differences of longitude and latitude and the sum of the latitudes
+abbrev plane_by : ℕ → ℕ → ℤ → ℕ
+plane_by dx dy sum = squared (dx * cosine_of (int_div_euclid sum (pos 2))) + squared (dy * 65536)
+
+plane_between-same : (a b : Position) → plane_between a b ≡ plane_between b a
+plane_between-same a b =
+    ap (λ (n : ℕ). plane_by n (unsigned_abs (b.lat -ℤ a.lat)) (a.lat +ℤ b.lat)) (apart-same b.lon a.lon)
+    ∙ ap (λ (n : ℕ). plane_by (unsigned_abs (a.lon -ℤ b.lon)) n (a.lat +ℤ b.lat)) (apart-same b.lat a.lat)
+    ∙ ap (plane_by (unsigned_abs (a.lon -ℤ b.lon)) (unsigned_abs (a.lat -ℤ b.lat))) (sum-same a.lat b.lat)
+
+-- a segment is as long one way as the other
+pub length_of-same : (a b : Position) → length_of a b ≡ length_of b a
+length_of-same a b = ap (λ (n : ℕ). max 1 (root_of n * 111195 / 6553600000)) (plane_between-same a b)
+
+-- the costs of both directions of one more segment
+pub segment-step : (segments : List Segment) (s decimetres : ℕ) (from to : Point) (costs new : List (Option DurLen)) (one other : Option DurLen) (total : List (Option DurLen)) → s < length segments
+    → option_map {U = Point × Point} (λ x. (x.from, x.to)) (slice_get segments s) ≡ Some (from, to)
+    → decimetres ≡ length_of (position_of from) (position_of to)
+    → option_map (cost_at decimetres) (slice_get (vertices segments) (2 * s)) ≡ Some one
+    → option_map (cost_at decimetres) (slice_get (vertices segments) (2 * s + 1)) ≡ Some other
+    → new ≡ (costs ++ one ∷ []) ++ other ∷ []
+    → costs ++ map vertex_cost (vertices (drop s segments)) ≡ total
+    → new ++ map vertex_cost (vertices (drop (s + 1) segments)) ≡ total
+segment-step segments s decimetres from to costs new one other total lt ends long first second both so_far =
+    let g = get_some segments s lt in
+    let x = g.0 in
+    let up : suc s ≡ s + 1 = omega arith in
+    let ends_are : (x.from, x.to) ≡ (from, to) = same_Some _ _ (sym (ap (option_map {U = Point × Point} (λ (y : Segment). (y.from, y.to))) g.1) ∙ ends) in
+    let from_is : x.from ≡ from = ap (λ (e : Point × Point). e.0) ends_are in
+    let to_is : x.to ≡ to = ap (λ (e : Point × Point). e.1) ends_are in
+    let long_is : decimetres ≡ length_of (position_of x.from) (position_of x.to) =
+    long ∙ ap (λ (p : Point). length_of (position_of p) (position_of to)) (sym from_is) ∙ ap (λ (p : Point). length_of (position_of x.from) (position_of p)) (sym to_is) in
+    let one_is : one ≡ vertex_cost (along x) =
+    same_Some _ _ (sym first ∙ ap (option_map (cost_at decimetres)) (vertices-even segments s x (2 * s) g.1 refl)) ∙ ap (λ (n : ℕ). cost_at n (along x)) long_is in
+    let other_is : other ≡ vertex_cost (against x) =
+    same_Some _ _ (sym second ∙ ap (option_map (cost_at decimetres)) (vertices-odd segments s x (2 * s + 1) g.1 refl))
+    ∙ ap (λ (n : ℕ). cost_at n (against x)) (long_is ∙ length_of-same (position_of x.from) (position_of x.to)) in
+    let rest = map vertex_cost (vertices (drop (s + 1) segments)) in
+    let front : map vertex_cost (vertices (drop s segments)) ≡ vertex_cost (along x) ∷ vertex_cost (against x) ∷ rest =
+    ap (λ (l : List Segment). map vertex_cost (vertices l)) (drop-get segments s x g.1 ∙ ap (λ (k : ℕ). x ∷ drop k segments) up) in
+    ap (λ (l : List (Option DurLen)). l ++ rest) both
+    ∙ append_assoc (costs ++ one ∷ []) (other ∷ []) rest
+    ∙ append_assoc costs (one ∷ []) (other ∷ rest)
+    ∙ ap (λ (o : Option DurLen). costs ++ o ∷ other ∷ rest) one_is
+    ∙ ap (λ (o : Option DurLen). costs ++ vertex_cost (along x) ∷ o ∷ rest) other_is
+    ∙ ap (λ (l : List (Option DurLen)). costs ++ l) (sym front)
+    ∙ so_far
+
+-- the cost of one more turn
+pub turn-step : (arcs : List (ℕ × ℕ)) (i penalty from to : ℕ) (costs new : List DurLen) (cost : DurLen) (total : List DurLen)
+    → slice_get arcs i ≡ Some (from, to) → cost ≡ cost_of_turn penalty (from, to) → new ≡ costs ++ cost ∷ []
+    → costs ++ map (cost_of_turn penalty) (drop i arcs) ≡ total
+    → new ++ map (cost_of_turn penalty) (drop (i + 1) arcs) ≡ total
+turn-step arcs i penalty from to costs new cost total at is added so_far =
+    let up : suc i ≡ i + 1 = omega arith in
+    let rest = map (cost_of_turn penalty) (drop (i + 1) arcs) in
+    let front : map (cost_of_turn penalty) (drop i arcs) ≡ cost_of_turn penalty (from, to) ∷ rest =
+    ap (λ (l : List (ℕ × ℕ)). map (cost_of_turn penalty) l) (drop-get arcs i (from, to) at ∙ ap (λ (k : ℕ). (from, to) ∷ drop k arcs) up) in
+    ap (λ (l : List DurLen). l ++ rest) added
+    ∙ append_assoc costs (cost ∷ []) rest
+    ∙ ap (λ (c : DurLen). costs ++ c ∷ rest) is
+    ∙ ap (λ (l : List DurLen). costs ++ l) (sym front)
+    ∙ so_far
