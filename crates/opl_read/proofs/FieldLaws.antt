@@ -1,6 +1,6 @@
 -- The first field of a text, blanks before it, and places in a text that begin a character.
 use Rattle.std.proofs.Common.{◌≡◌, ℕ, zero, suc, ◌+◌, ◌<◌, ◌≤◌, Bool, true, false, not, eqb, cond, List, [], ◌∷◌, length, take, drop, get_or, filter, sym, ◌∙◌, ap, Some, None, arith, position, inl, inr, length-take, length-drop}
-use Rattle.std.specs.List.{slice_split, onto_first}
+use Rattle.std.specs.List.{slice_split}
 use Rattle.std.specs.Str.{IsCharBoundary, IsUtf8}
 use Rattle.std.proofs.lemmas.Bool.{eqb-true, false≢true, or_cases, ne_eqb}
 use Rattle.std.proofs.lemmas.Str.{IsCharBoundary-after_ascii}
@@ -26,12 +26,7 @@ blank_is_ascii b h = elim (or_cases (eqb b 32) (eqb b 9) h) [
 abbrev is_some_field : List ℕ → Bool
 is_some_field field = not (eqb (length field) 0)
 
--- a blank in front makes no field
-pub fields_of-blank : (text : List ℕ) → is_blank (get_or text 0 0) ≡ true → fields_of (drop 1 text) ≡ fields_of text
-fields_of-blank [] h = cc
-fields_of-blank (b ∷ text) h =
-    ap (λ (t : Bool). filter is_some_field (cond t ([] ∷ slice_split is_blank text) (onto_first b (slice_split is_blank text)))) (sym h)
-
+-- a text that begins with a blank has it
 pub blank_within : (text : List ℕ) → is_blank (get_or text 0 0) ≡ true → 0 < length text
 blank_within [] h = cc
 blank_within (b ∷ text) h = omega arith
@@ -66,7 +61,3 @@ field_alone text whole same size some h = record {
   some = some;
   shorter = omega arith;
 }
-
-pub no_field : (text whole : List ℕ) → fields_of text ≡ fields_of whole → length text ≡ 0 → fields_of whole ≡ []
-no_field [] whole same none = sym same
-no_field (b ∷ text) whole same none = absurd (omega arith)

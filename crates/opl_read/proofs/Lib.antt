@@ -2,7 +2,6 @@ pub mod Earth
 pub mod Entries
 pub mod FieldLaws
 pub mod LineSteps
-pub mod PartLaws
 pub mod SeenLaws
 pub mod Splitting
 pub mod LineLaws

@@ -1,5 +1,5 @@
 -- One line more.
-use Rattle.std.proofs.Common.{◌≡◌, ℕ, ◌+◌, ◌<◌, Bool, true, false, not, cond, List, [], ◌∷◌, ◌++◌, length, get_or, refl, sym, ◌∙◌, ap, Some, None, Ok, inl, inr}
+use Rattle.std.proofs.Common.{◌≡◌, ℕ, ◌+◌, ◌<◌, Bool, true, false, not, cond, List, [], ◌∷◌, ◌++◌, length, get_or, refl, sym, ◌∙◌, ap, Some, Ok, inl, inr}
 use Rattle.std.proofs.lemmas.Bool.{cases_Bool, false≢true}
 use Rattle.std.specs.List.{list_any}
 use Rattle.std.proofs.lemmas.List.Quantifiers.{all_pairs_push}
@@ -36,9 +36,3 @@ AreDistinct-push objects object distinct fresh =
 pub not_there : (added there : Bool) → added ≡ not there → added ≡ true → there ≡ false
 not_there added true e was_added = cc
 not_there added false e was_added = refl
-
--- a line with no object
-pub objects_after-none : (before : ℕ) (objects : List Object) (lines : List (List ℕ)) (line : List ℕ) (more : List (List ℕ))
-    → lines ≡ line ∷ more → line_of line ≡ Ok None → objects_after before objects lines ≡ objects_after (before + 1) objects more
-objects_after-none before objects lines line more split here =
-    ap (objects_after before objects) split ∙ ap (λ r. after_line before objects r (λ kept. objects_after (before + 1) kept more)) here
