@@ -1,0 +1,4 @@
+pub mod Commands
+pub mod Ending
+pub mod LoadCause
+pub mod Loading
