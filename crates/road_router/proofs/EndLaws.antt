@@ -26,7 +26,7 @@ closes_then before middle after part line put later (inr more) =
 
 -- a line behind a front of what is told
 pub begun_then : (first : Publication) (input : InputView) (before middle after : OutputView) (line : List ℕ)
-  → ToldPart first input before middle → before.faults ≤ middle.faults → Closes middle after line → BegunFrom first input before after line
+    → ToldPart first input before middle → before.faults ≤ middle.faults → Closes middle after line → BegunFrom first input before after line
 begun_then first input before middle after line told later closes = record {
   input = told.input;
   is_input = told.is_input;
@@ -43,11 +43,11 @@ names_then (Some told) (Some held) (Some now) names none more = more ∙ ap (λ 
 
 -- where the second file is not read, the run ends for it
 pub unread_second : (code : Status) (fault : FileFault) (first middle last : FilesView) (input : InputView) (before after : OutputView) (map settings : List ℕ)
-  → (fault ≡ file.Failed → (code ≡ status.Outside) × Closes before after (cannot_read settings))
-  → (fault ≡ file.Memory → (code ≡ status.Memory) × Closes before after memory_line)
-  → AppendsNames first.failed_names middle.failed_names [] → (fault ≡ file.Failed → AppendsNames middle.failed_names last.failed_names (settings ∷ []))
-  → first.faults ≤ middle.faults → (fault ≡ file.Failed → Rose middle.faults last.faults)
-  → Ends code (outside first input before) (outside last input after) map settings
+    → (fault ≡ file.Failed → (code ≡ status.Outside) × Closes before after (cannot_read settings))
+    → (fault ≡ file.Memory → (code ≡ status.Memory) × Closes before after memory_line)
+    → AppendsNames first.failed_names middle.failed_names [] → (fault ≡ file.Failed → AppendsNames middle.failed_names last.failed_names (settings ∷ []))
+    → first.faults ≤ middle.faults → (fault ≡ file.Failed → Rose middle.faults last.faults)
+    → Ends code (outside first input before) (outside last input after) map settings
 unread_second code file.Failed first middle last input before after map settings failed memory none told later rose =
     let h = failed refl in
     subst (λ (c : Status). Ends c (outside first input before) (outside last input after) map settings) (sym h.0) (inl (record {

@@ -95,8 +95,14 @@ fn publish(alloc: Global, objects: &[Object], profile: &Profile) -> Result<Publi
                 base,
             })
         }
-        Err(BuildFault::TooManySegments) => Err(LoadFault::Refused(Text::copy_of(alloc, "too many segments\n")?)),
-        Err(BuildFault::TooManyTurns) => Err(LoadFault::Refused(Text::copy_of(alloc, "too many turns\n")?)),
+        Err(BuildFault::TooManySegments) => Err(LoadFault::Refused(Text::copy_of(
+            alloc,
+            "too many segments\n",
+        )?)),
+        Err(BuildFault::TooManyTurns) => Err(LoadFault::Refused(Text::copy_of(
+            alloc,
+            "too many turns\n",
+        )?)),
         Err(BuildFault::Memory) => Err(LoadFault::Memory),
     }
 }

@@ -19,9 +19,8 @@ use real_streams::{Reading, Writing};
 use road_base::Status;
 use road_io::{NoDoors, OpenGate};
 use running::run;
-use std::env;
-use std::io;
 use std::process::ExitCode;
+use std::{env, io};
 
 fn main(rt: HostRuntime) -> ExitCode {
     let words = match words(&rt) {

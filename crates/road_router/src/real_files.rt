@@ -2,8 +2,7 @@
 
 use road_io::{FileFault, Files};
 use std::alloc::Global;
-use std::fs;
-use std::io;
+use std::{fs, io};
 
 /// Files by the paths of the system.
 #[derive(Drop)]

@@ -17,7 +17,8 @@ use road_io::{Doors, Failed, FileFault, Files, Gate, Sink, Source, put_all};
 use std::alloc::Global;
 
 /// The usage line.
-const USAGE: &[u8] = b"usage: road_router check OPL SETTINGS | ask OPL SETTINGS | serve OPL SETTINGS --listen A --control B [--workers N] [--segment-speed-file F] [--turn-penalty-file F] | town N | drill N\n";
+const USAGE: &[u8] =
+    b"usage: road_router check OPL SETTINGS | ask OPL SETTINGS | serve OPL SETTINGS --listen A --control B [--workers N] [--segment-speed-file F] [--turn-penalty-file F] | town N | drill N\n";
 
 /// The line for want of memory outside of a reply.
 const MEMORY: &[u8] = b"out of memory\n";

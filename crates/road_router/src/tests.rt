@@ -5,19 +5,22 @@ use road_base::{Status, Text};
 use road_io::{MemFiles, MemSink, MemSource, NoDoors, OpenGate};
 use std::alloc::{AllocError, Global};
 
-const TOWN: &[u8] = b"n1 x0 y0\nn2 x0 y0.001\nn3 x0.001 y0.001\nw10 Thighway=residential Nn1,n2,n3\n";
+const TOWN: &[u8] =
+    b"n1 x0 y0\nn2 x0 y0.001\nn3 x0.001 y0.001\nw10 Thighway=residential Nn1,n2,n3\n";
 
 const SETTINGS: &[u8] =
     b"name = \"car\"\nvehicle = \"motorcar\"\nu_turn_penalty = 200\n\n[speeds]\nresidential = 40\n";
 
 const LINE: &[u8] = b"GET /route/v1/car/0,0;0.001,0.001?overview=false\n";
 
-const REPLY: &[u8] = b"{\"code\":\"Ok\",\"data_version\":\"0\",\"routes\":[{\"distance\":222.2,\"duration\":19.8,\"weight\":19.8,\"weight_name\":\"duration\",\"legs\":[{\"distance\":222.2,\"duration\":19.8,\"weight\":19.8,\"summary\":\"\",\"steps\":[]}]}],\"waypoints\":[{\"distance\":0.0,\"name\":\"\",\"location\":[0.000000,0.000000]},{\"distance\":0.0,\"name\":\"\",\"location\":[0.001000,0.001000]}]}\n";
+const REPLY: &[u8] =
+    b"{\"code\":\"Ok\",\"data_version\":\"0\",\"routes\":[{\"distance\":222.2,\"duration\":19.8,\"weight\":19.8,\"weight_name\":\"duration\",\"legs\":[{\"distance\":222.2,\"duration\":19.8,\"weight\":19.8,\"summary\":\"\",\"steps\":[]}]}],\"waypoints\":[{\"distance\":0.0,\"name\":\"\",\"location\":[0.000000,0.000000]},{\"distance\":0.0,\"name\":\"\",\"location\":[0.001000,0.001000]}]}\n";
 
 const BAD: &[u8] = b"{\"code\":\"BadRequest\"}\n";
 
 // A run of `ask` over a map, settings and an input that comes in pieces of this size; a size of 0 is no
 // limit. The output has this much room.
+#[derive(Clone, Copy)]
 struct Case<'a> {
     map: &'a [u8],
     settings: &'a [u8],
@@ -112,7 +115,10 @@ fn lines_are_answered_one_by_one(rt: HostRuntime) -> Result<(), AllocError> {
         (b"", b""),
         (b"\n\r\n\n", b""),
         (b"GET /\r\n", BAD),
-        (b"GET /\nTRAFFIC - -", b"{\"code\":\"BadRequest\"}\n{\"code\":\"BadRequest\"}\n"),
+        (
+            b"GET /\nTRAFFIC - -",
+            b"{\"code\":\"BadRequest\"}\n{\"code\":\"BadRequest\"}\n",
+        ),
         (b"\r", BAD),
     ];
     for (input, expected) in cases {
@@ -139,12 +145,18 @@ fn each_status_has_its_line(rt: HostRuntime) -> Result<(), AllocError> {
     let (status, output) = ask(&rt, nameless)?;
     assert_eq!(rt; status, Status::Refused);
     assert_eq!(rt; output.as_bytes(), b"settings Missing speeds\n".as_slice());
-    let (status, output) = run_words(&rt, Case::over_town(LINE), &["ask", "town.opl", "none.toml"])?;
+    let (status, output) = run_words(
+        &rt,
+        Case::over_town(LINE),
+        &["ask", "town.opl", "none.toml"],
+    )?;
     assert_eq!(rt; status, Status::Outside);
     assert_eq!(rt; output.as_bytes(), b"cannot read none.toml\n".as_slice());
     let (status, output) = run_words(&rt, Case::over_town(LINE), &["ask", "town.opl"])?;
     assert_eq!(rt; status, Status::Words);
-    assert!(rt; output.as_bytes().starts_with(b"usage: road_router check OPL SETTINGS | ask OPL SETTINGS"));
+    assert!(rt;
+        output.as_bytes().starts_with(b"usage: road_router check OPL SETTINGS | ask OPL SETTINGS")
+    );
     Ok(())
 }
 
@@ -168,6 +180,9 @@ fn a_map_without_roads_has_no_place(rt: HostRuntime) -> Result<(), AllocError> {
     };
     let (status, output) = ask(&rt, case)?;
     assert_eq!(rt; status, Status::Ok);
-    assert_eq!(rt; output.as_bytes(), b"{\"code\":\"NoSegment\",\"data_version\":\"0\",\"message\":\"coordinate 0\"}\n".as_slice());
+    assert_eq!(rt;
+        output.as_bytes(),
+        b"{\"code\":\"NoSegment\",\"data_version\":\"0\",\"message\":\"coordinate 0\"}\n".as_slice()
+    );
     Ok(())
 }

@@ -9,10 +9,10 @@ pub returns-in-Ok : goal.returns-in-Ok
 returns-in-Ok g c =
     let h = c.in-Ok.ensures.published in
     answered h.0 h.1 (subst (λ (p : Publication). EndsFrom c.answer.result p
-      (input_view (g.I.Source.left c.args.input.now) (g.I.Source.taken c.args.input.now) (g.I.Source.faults c.args.input.now))
-      (input_view (g.I.Source.left c.answer.new.input) (g.I.Source.taken c.answer.new.input) (g.I.Source.faults c.answer.new.input))
-      (output_view (g.O.Sink.written c.args.output.now) (g.O.Sink.faults c.args.output.now))
-      (output_view (g.O.Sink.written c.answer.new.output) (g.O.Sink.faults c.answer.new.output))) h.2 c.answer.ensures)
+    (input_view (g.I.Source.left c.args.input.now) (g.I.Source.taken c.args.input.now) (g.I.Source.faults c.args.input.now))
+    (input_view (g.I.Source.left c.answer.new.input) (g.I.Source.taken c.answer.new.input) (g.I.Source.faults c.answer.new.input))
+    (output_view (g.O.Sink.written c.args.output.now) (g.O.Sink.faults c.args.output.now))
+    (output_view (g.O.Sink.written c.answer.new.output) (g.O.Sink.faults c.answer.new.output))) h.2 c.answer.ensures)
 
 pub returns-in-Err-Refused : goal.returns-in-Err-Refused
 returns-in-Err-Refused g c = refused c.in-Err-Refused.line (rw c.in-Err-Refused.field-0-is at c.in-Err-Refused.ensures.fault) c.end_refused.ensures.status (subst (λ (l : List ℕ). Closes (output_view (g.O.Sink.written c.args.output.now) (g.O.Sink.faults c.args.output.now)) (output_view (g.O.Sink.written c.end_refused.new.output) (g.O.Sink.faults c.end_refused.new.output)) l) c.in-Err-Refused.line-is c.end_refused.ensures.put)

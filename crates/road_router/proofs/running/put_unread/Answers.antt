@@ -26,7 +26,7 @@ unfolding words
 returns-clause-all g c =
     rw (← c.as_bytes.ensures.value) (on_ok_weaker c.put_all-3.result
     (λ last. appends_then (g.O.Sink.written c.args.output.now) (g.O.Sink.written c.put_all.new.sink) (g.O.Sink.written c.put_all-3.new.sink) words (c.as_bytes.result.now ++ 10 ∷ []) c.in_ok-put_all.ensures.all
-      (appends_then (g.O.Sink.written c.put_all.new.sink) (g.O.Sink.written c.put_all-2.new.sink) (g.O.Sink.written c.put_all-3.new.sink) c.as_bytes.result.now (10 ∷ []) c.in_ok-put_all-2.ensures.all last))
+    (appends_then (g.O.Sink.written c.put_all.new.sink) (g.O.Sink.written c.put_all-2.new.sink) (g.O.Sink.written c.put_all-3.new.sink) c.as_bytes.result.now (10 ∷ []) c.in_ok-put_all-2.ensures.all last))
     c.put_all-3.ensures.all)
 
 pub returns-clause-part : goal.returns-clause-part
@@ -34,5 +34,5 @@ unfolding words
 returns-clause-part g c =
     rw (← c.as_bytes.ensures.value) (on_err_weaker c.put_all-3.result
     (λ last. appends_front_then (g.O.Sink.written c.args.output.now) (g.O.Sink.written c.put_all.new.sink) (g.O.Sink.written c.put_all-3.new.sink) words (c.as_bytes.result.now ++ 10 ∷ []) c.in_ok-put_all.ensures.all
-      (appends_front_then (g.O.Sink.written c.put_all.new.sink) (g.O.Sink.written c.put_all-2.new.sink) (g.O.Sink.written c.put_all-3.new.sink) c.as_bytes.result.now (10 ∷ []) c.in_ok-put_all-2.ensures.all last))
+    (appends_front_then (g.O.Sink.written c.put_all.new.sink) (g.O.Sink.written c.put_all-2.new.sink) (g.O.Sink.written c.put_all-3.new.sink) c.as_bytes.result.now (10 ∷ []) c.in_ok-put_all-2.ensures.all last))
     c.put_all-3.ensures.part)

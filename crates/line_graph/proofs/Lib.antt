@@ -1,3 +1,0 @@
-pub mod Picked
-pub mod Meeting
-pub mod Turning
