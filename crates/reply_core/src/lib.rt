@@ -29,4 +29,6 @@ pub use line_answers::line_answer;
 pub use reply_texts::{BAD_REQUEST, BUSY};
 
 #[cfg(test)]
+mod answer_tests;
+#[cfg(test)]
 mod tests;

@@ -34,5 +34,5 @@ returns c =
     cheapest-least g w c.args.from c.args.to c.deref-2.result.now c.in_ok-found.found.items targets c.in_ok-found.ensures.one_each
     (λ k t answer h i.
     subst (λ (x : List (Start DurLen)). IsFound durlen_ops g w x t answer) starts
-    (subst (λ (x : Weighting DurLen). IsFound durlen_ops g x c.deref.result.now t answer) c.weights.ensures (c.in_ok-found.ensures.least k t answer h i)))
+    (subst (λ (x : Weighting DurLen). IsFound durlen_ops g x c.deref.result.now t answer) c.weights.ensures.value (c.in_ok-found.ensures.least k t answer h i)))
     c.cheapest.result c.cheapest.ensures
