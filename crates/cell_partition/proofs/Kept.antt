@@ -1,11 +1,10 @@
 -- What the levels of a partition keep.
-use Rattle.std.proofs.Common.{◌≡◌, ℕ, ℤ, ◌+◌, ◌-◌, ◌<◌, ◌≤◌, Bool, true, false, ◌||◌, cond, eqb, List, [], ◌∷◌, ◌++◌, length, take, drop, map, get_or, All, Contains, refl, sym, ap, ◌∙◌, subst, arith, zero, suc, add-one, zero-add, length-append, inl, inr, ◌⊎◌, ⊎_elim}
-use Rattle.std.specs.List.{list_any, count_by}
+use Rattle.std.proofs.Common.{◌≡◌, ℕ, ℤ, ◌+◌, ◌-◌, ◌<◌, ◌≤◌, Bool, true, false, ◌||◌, cond, eqb, List, [], ◌∷◌, ◌++◌, length, drop, map, get_or, All, refl, sym, ap, ◌∙◌, subst, arith, zero, suc, add-one, zero-add, ⊎_elim}
 use Rattle.std.specs.List.Sorted.{IsPermutation, IsStrictlyIncreasing}
 use Rattle.std.proofs.lemmas.Bool.{cases_lt}
 use Rattle.std.proofs.lemmas.Bool.Decides.{nat_tests}
 use Rattle.std.proofs.lemmas.List.{append-nil, map-append, length-map, get_or-map, drop_more}
-use Rattle.std.proofs.lemmas.List.Elements.{All-head, All-tail, All-cons, All-nil, Contains-get_or}
+use Rattle.std.proofs.lemmas.List.Elements.{All-tail, All-cons, All-nil, Contains-get_or}
 use Rattle.std.proofs.lemmas.List.Folds.{list_any-append}
 use Rattle.std.proofs.lemmas.List.Sums.{sum_by-cons}
 use Rattle.std.proofs.lemmas.List.Sorted.{IsPermutation-map, list_any-IsPermutation, sum_by-IsPermutation, length_permutation}
@@ -13,12 +12,12 @@ use Rattle.cell_partition.specs.declared.spot.Spot.{Spot}
 use Rattle.cell_partition.specs.declared.level.Level.{Level}
 use Rattle.cell_partition.specs.Spots.{spots_from, spots_of}
 use Rattle.cell_partition.specs.Bounds.{joined, ends, bounds_of, parts_at}
-use Rattle.cell_partition.specs.Partition.{Partition, number_of, numbers_from, level_at, IsPartition, IsKept, IsNested, AreNumbered}
+use Rattle.cell_partition.specs.Partition.{Partition, number_of, numbers_from, level_at, IsPartition, IsKept, AreNumbered}
 use Rattle.cell_partition.specs.Halving.{IsHalved, AreHalved, AreLevels, parts_above, vertices_of, IsHalvedBy}
 use Rattle.cell_partition.specs.Levels.{cells_of, IsLevel, partition_of, AreKept}
 use Rattle.cell_partition.proofs.Parts.{joined-append, joined-map, parts_at-bounds_of}
-use Rattle.cell_partition.proofs.Numbers.{has, times, has_contains, number_inside, number_member, number_only, number_here, number_later, number-append_inside, number-append_outside, has_joined, has_joined_at, cases, or_rest, or_false}
-use Rattle.cell_partition.proofs.Halves.{halved_same, each_same, AreSpread, spread_above, spread_few}
+use Rattle.cell_partition.proofs.Numbers.{has, times, has_contains, number_inside, number_member, number_only, number_here, number_later, number-append_inside, number-append_outside, has_joined_at, cases, or_rest}
+use Rattle.cell_partition.proofs.Halves.{halved_same, AreSpread, spread_above, spread_few}
 
 -- the spots have the vertices in order
 vertices-spots : (first : ℕ) (midpoints : List (ℤ × ℤ)) → map (λ (spot : Spot). spot.vertex) (spots_from first midpoints) ≡ numbers_from first (length midpoints)

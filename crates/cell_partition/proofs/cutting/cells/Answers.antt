@@ -1,9 +1,7 @@
-use Rattle.std.proofs.Common.{◌≡◌, ℕ, ◌+◌, ◌-◌, ◌<◌, ◌≤◌, All, List, ◌∷◌, length, drop, get_or, sym, subst, ◌∙◌, arith}
+use Rattle.std.proofs.Common.{◌≡◌, ℕ, ◌+◌, ◌-◌, ◌<◌, ◌≤◌, List, ◌∷◌, length, drop, get_or, sym, subst, ◌∙◌, arith}
 use Rattle.std.proofs.lemmas.List.{drop_all}
-use Rattle.cell_partition.specs.declared.spot.Spot.{Spot}
 use Rattle.cell_partition.specs.declared.level.Level.{Level}
 use Rattle.cell_partition.specs.Bounds.{joined, bounds_of, parts_at}
-use Rattle.cell_partition.specs.Levels.{AreKept}
 use Rattle.cell_partition.proofs.Kept.{IsCut, Halves, cut_start, cut_ready, cut_length, all_drop, level_ready, cut_more, cut_kept}
 use Rattle.cell_partition.proofs.cutting.cells.Goals as goal
 

@@ -1,4 +1,4 @@
-use Rattle.std.proofs.Common.{ℕ, ◌≤◌, List, length, drop, map}
+use Rattle.std.proofs.Common.{◌≤◌, length, drop, map}
 use Rattle.cell_partition.specs.declared.spot.Spot.{Spot}
 use Rattle.cell_partition.specs.Bounds.{parts_at}
 use Rattle.cell_partition.proofs.Kept.{IsCut}

@@ -1,7 +1,7 @@
-use Rattle.std.proofs.Common.{◌≡◌, ◌≤◌, ◌<◌, [], ◌∷◌, length, sym, refl, arith, rules}
+use Rattle.std.proofs.Common.{◌≤◌, ◌<◌, [], ◌∷◌, length, sym, refl, arith}
 use Rattle.std.proofs.lemmas.List.{append-nil}
 use Rattle.std.proofs.lemmas.Result.{on_ok_weaker}
-use Rattle.cell_partition.specs.Halving.{IsHalved, small}
+use Rattle.cell_partition.specs.Halving.{small}
 use Rattle.cell_partition.proofs.Halves.{halves_joined}
 use Rattle.cell_partition.proofs.halving.+halve.Goals as goal
 

@@ -1,7 +1,7 @@
-use Rattle.std.proofs.Common.{◌≡◌, ℕ, ◌+◌, ◌-◌, ◌<◌, ◌≤◌, List, [], ◌++◌, length, take, drop, get_or, refl, sym, ap, ◌∙◌, subst, arith}
+use Rattle.std.proofs.Common.{◌≡◌, ℕ, ◌+◌, ◌-◌, ◌<◌, ◌≤◌, List, [], ◌++◌, length, drop, get_or, refl, sym, ap, ◌∙◌, subst, arith}
 use Rattle.std.proofs.lemmas.List.{append-nil, take_all, drop_all}
 use Rattle.cell_partition.specs.declared.spot.Spot.{Spot}
-use Rattle.cell_partition.specs.Bounds.{joined, bounds_of}
+use Rattle.cell_partition.specs.Bounds.{joined}
 use Rattle.cell_partition.specs.Halving.{AreHalved}
 use Rattle.cell_partition.proofs.Parts.{between_bounds, length-bounds}
 use Rattle.cell_partition.proofs.Halves.{each_more}

@@ -1,4 +1,4 @@
-use Rattle.std.proofs.Common.{◌≡◌, ℕ, ◌+◌, ◌-◌, ◌≤◌, List, ◌++◌, length, take, drop}
+use Rattle.std.proofs.Common.{◌≡◌, ◌-◌, ◌≤◌, List, ◌++◌, take, drop}
 use Rattle.cell_partition.specs.declared.spot.Spot.{Spot}
 use Rattle.cell_partition.specs.Bounds.{joined, bounds_of}
 use Rattle.cell_partition.specs.Halving.{AreHalved}

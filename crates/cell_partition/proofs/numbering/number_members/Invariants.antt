@@ -1,4 +1,4 @@
-use Rattle.std.proofs.Common.{◌≡◌, ℕ, eqb, true, false, take, get_or, length}
+use Rattle.std.proofs.Common.{◌≡◌, ℕ, eqb, true, false, take, get_or}
 use Rattle.std.specs.List.{list_any}
 use Rattle.cell_partition.proofs.numbering.number_members.Given as goal
 

@@ -1,4 +1,4 @@
-use Rattle.std.proofs.Common.{◌≡◌, ◌+◌, length, arith}
+use Rattle.std.proofs.Common.{arith}
 use Rattle.cell_partition.specs.Levels.{cells_of}
 use Rattle.cell_partition.proofs.Parts.{length-bounds}
 use Rattle.cell_partition.proofs.level.Level.count.Goals as goal

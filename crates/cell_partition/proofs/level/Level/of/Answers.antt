@@ -1,7 +1,6 @@
-use Rattle.std.proofs.Common.{◌≡◌, List, length, ap, ◌∙◌}
+use Rattle.std.proofs.Common.{◌≡◌, length, ap, ◌∙◌}
 use Rattle.std.proofs.lemmas.List.{length-map}
 use Rattle.cell_partition.specs.declared.spot.Spot.{Spot}
-use Rattle.cell_partition.specs.Bounds.{joined}
 use Rattle.cell_partition.proofs.Kept.{made_level}
 use Rattle.cell_partition.proofs.level.Level.of.Goals as goal
 

@@ -1,4 +1,4 @@
-use Rattle.std.proofs.Common.{◌≡◌, fold, take, pos, negsuc}
+use Rattle.std.proofs.Common.{◌≡◌, fold, take, negsuc}
 use Rattle.std.specs.Int.{int_max}
 use Rattle.cell_partition.specs.Spots.{along}
 use Rattle.cell_partition.proofs.spot.Axis.greatest.Given as goal

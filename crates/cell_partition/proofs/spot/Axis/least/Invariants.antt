@@ -1,4 +1,4 @@
-use Rattle.std.proofs.Common.{◌≡◌, fold, take, pos, negsuc}
+use Rattle.std.proofs.Common.{◌≡◌, fold, take, pos}
 use Rattle.std.specs.Int.{int_min}
 use Rattle.cell_partition.specs.Spots.{along}
 use Rattle.cell_partition.proofs.spot.Axis.least.Given as goal
