@@ -5,3 +5,6 @@
 mod base_metric;
 
 pub use base_metric::{BaseMetric, base};
+
+#[cfg(test)]
+mod tests;
