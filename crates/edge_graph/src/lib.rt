@@ -13,6 +13,3 @@ mod turn_lists;
 
 pub use build_faults::BuildFault;
 pub use networks::Network;
-
-#[cfg(test)]
-mod tests;

@@ -95,8 +95,11 @@ pub(crate) fn plane_distance(a: Point, b: Point) -> u128
     ensures value { result ≡ plane_between (position_of a) (position_of b) }
     ensures bound { result < 700000000000000000000000000 }
 {
-    let (dx, dy) = (difference(a.lon, b.lon), difference(a.lat, b.lat));
-    plane(dx, dy, middle_cosine(a, b))
+    plane(
+        difference(a.lon, b.lon),
+        difference(a.lat, b.lat),
+        middle_cosine(a, b),
+    )
 }
 
 /// The distance of two points in decimetres, rounded down.
@@ -105,7 +108,7 @@ pub fn distance(a: Point, b: Point) -> u64
     ensures bound { result < 2 ^ 29 }
 {
     let root = square_root(plane_distance(a, b));
-    root * 111_195 / 6_553_600_000
+    (root * 111_195 / 6_553_600_000) as u64
 }
 
 /// The length of the road segment between two points in decimetres: their distance, but at least 1.

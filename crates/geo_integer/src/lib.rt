@@ -11,6 +11,3 @@ mod roots;
 pub use bearings::{bearing, modifier};
 pub use lengths::{cosine, distance, length, plane};
 pub use nearest_place::{point_at, project};
-
-#[cfg(test)]
-mod tests;

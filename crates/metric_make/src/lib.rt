@@ -5,6 +5,3 @@
 mod base_metric;
 
 pub use base_metric::{BaseMetric, base};
-
-#[cfg(test)]
-mod tests;
