@@ -1,0 +1,366 @@
+#!/usr/bin/env python3
+"""Measures reading, building and routing against the baseline of this folder, in one run.
+
+usage: bench/reading.py [--program FILE] [--settings FILE] [--towns 50,100,200]
+                        [--routes N] [--repeats N] [--tangles N] [OPL ..]
+
+For each OPL file, cut to what is read today, and for each generated town of N by N nodes it prints what
+the program and `baseline.rs` take from the start to the first reply (reading and building), for reading
+alone (with settings under which no way can be used), in memory, and for N random routes after that, each
+with the ratio of the program to the baseline. Times are processor seconds, the least of the repeats,
+which alternate between the two: other work on the machine disturbs them less than time by the clock.
+What routes take is that of a whole run without its start-up; how much of it is snapping shows in as many
+routes that end where they begin.
+
+It also compares the replies of both, byte for byte, on those routes, on lines made to be hard, and on
+small maps made to be hard (tangles); it keeps the lines and the map of a difference, and ends with status
+1 where there is one.
+
+The program is the one named, or that of the environment variable ROAD_ROUTER, or else it is proved and
+built by `rt run` in crates/road_router. It needs rustc for the baseline, and GNU time. An extract is made
+by `osmium cat -f opl map.osm.pbf -o map.opl`.
+"""
+import argparse
+import math
+import os
+import random
+import re
+import shutil
+import subprocess
+import sys
+import tempfile
+
+HERE = os.path.dirname(os.path.abspath(__file__))
+CRATE = os.path.join(os.path.dirname(HERE), "crates", "road_router")
+
+# Settings of the right form under which no way can be used.
+UNUSED = 'name = "none"\nvehicle = "none"\n\n[speeds]\nno_such_road = 1\n'
+
+FRONT, BACK = "GET /route/v1/car/", "?overview=false"
+
+
+# ---- maps ----
+
+def cut(source, target):
+    """Copies OPL text without the tags that hold a `%`, since escapes are not read yet."""
+    dropped = 0
+    with open(source, encoding="utf-8", newline="\n") as lines, open(target, "w", encoding="utf-8", newline="\n") as out:
+        for line in lines:
+            fields = line.rstrip("\n").split(" ")
+            for place, field in enumerate(fields):
+                if place > 0 and field.startswith("T") and "%" in field:
+                    tags = field[1:].split(",")
+                    kept = [tag for tag in tags if "%" not in tag]
+                    dropped += len(tags) - len(kept)
+                    fields[place] = "T" + ",".join(kept)
+            out.write(" ".join(fields) + "\n")
+    return dropped
+
+
+def town(size, target):
+    """Writes a town: a grid of size by size nodes with scattered locations, a street along each row and
+    an avenue along each column; each sixth street is bigger, and of the avenues each fourth is one-way
+    up and each fourth one-way down."""
+    chance = random.Random(size)
+    with open(target, "w", encoding="ascii", newline="\n") as out:
+        for row in range(size):
+            for column in range(size):
+                lon = 13.0 + column * 0.0011 + chance.randint(-2000, 2000) * 1e-7
+                lat = 53.4 + row * 0.0008 + chance.randint(-2000, 2000) * 1e-7
+                tags = "highway=crossing" if chance.random() < 0.05 else ""
+                out.write(f"n{row * size + column + 1} v1 dV T{tags} x{lon:.7f} y{lat:.7f}\n")
+        for row in range(size):
+            kind = "secondary" if row % 6 == 0 else "residential"
+            ids = ",".join(f"n{row * size + column + 1}" for column in range(size))
+            out.write(f"w{row + 1} v1 dV Thighway={kind},name=Street-{row + 1},surface=asphalt N{ids}\n")
+        for column in range(size):
+            way = {1: ",oneway=yes", 3: ",oneway=-1"}.get(column % 4, "")
+            ids = ",".join(f"n{row * size + column + 1}" for row in range(size))
+            out.write(f"w{size + column + 1} v1 dV Thighway=residential,name=Avenue-{column + 1}{way} N{ids}\n")
+
+
+def tangle(seed, target):
+    """Writes a small map that is hard to get right, and gives the locations of its nodes: ways by odd ids,
+    dead ends, loops, one-way streets of all forms, nodes that are missing, deleted, repeated or have no
+    location, names that JSON escapes, fields in any order."""
+    chance = random.Random(seed)
+    middle = chance.choice([(0, 0), (13, 53.5), (-70.5, -33.25), (179.995, 0), (20, 89.99), (0, -89.995)])
+    ids = chance.sample(range(-50, 200), 40)
+    points, lines = [], ["# a tangle", "", " \t", "c1 k0", "r1 Ttype=restriction Mn1@via"]
+    for id in ids:
+        lon = min(180, middle[0] + chance.uniform(-0.01, 0.01))
+        lat = max(-90, min(90, middle[1] + chance.uniform(-0.01, 0.01)))
+        points.append((lon, lat))
+        digits = chance.choice([2, 3, 4, 6, 7, 9])
+        fields = [f"x{lon:.{digits}f}", f"y{lat:.{digits}f}", chance.choice(["T", "Tbarrier=gate,ref=7"]), "v3"]
+        fields.append("dD" if chance.random() < 0.05 else "dV")
+        if chance.random() < 0.1:
+            fields[chance.choice([0, 1])] = chance.choice(["x", "y"])
+            fields = fields[2:] if fields[0][0] == fields[1][0] else fields
+        chance.shuffle(fields)
+        lines.append(chance.choice(["", "", " "]) + f"n{id}" + chance.choice([" ", "\t", "  "]) + " ".join(fields))
+    names = ["A", "Gr\u00fcne-Gasse", 'say-"so"', "back\\slash", "bell\x07\x08\x0c\x1f\x7f", "a=b", "\u4e2d\u6587-\U0001f6b2", "", "c\rr"]
+    for id in chance.sample(range(-30, 90), 30):
+        tags = ["highway=" + chance.choice(["residential", "motorway", "service", "primary", "footway", "living_street"])]
+        if chance.random() < 0.6:
+            tags.append("oneway=" + chance.choice(["yes", "true", "1", "-1", "reverse", "no", "maybe", ""]))
+        if chance.random() < 0.15:
+            tags.append("junction=roundabout")
+        if chance.random() < 0.8:
+            tags.append("name=" + chance.choice(names))
+        chance.shuffle(tags)
+        tags += chance.choice([[], ["name=second", "oneway=yes", "highway=motorway"]])
+        refs = [chance.choice(ids + [777]) for _ in range(chance.choice([0, 1, 2, 2, 3, 4, 6]))]
+        refs = [ref for ref in refs for _ in range(1 if chance.random() < 0.9 else 2)]
+        entries = ",".join(f"n{ref}" + chance.choice(["", "", "x1.5y2"]) for ref in refs)
+        fields = ["T" + ",".join(tags), "N" + entries, "uSomeone", chance.choice(["dV", "dV", "dV", "dD"])]
+        chance.shuffle(fields)
+        lines.append(f"w{id} " + " ".join(fields) + chance.choice(["", " "]))
+    with open(target, "w", encoding="utf-8", newline="\n") as out:
+        out.write("".join(line + chance.choice(["\n", "\n", "\r\n"]) for line in lines))
+    return points
+
+
+# ---- requests ----
+
+def locations(path, settings):
+    """The locations of the nodes of the ways whose kind the settings name."""
+    with open(settings, encoding="utf-8") as lines:
+        kinds = set(re.findall(r"^(\w+) *=", lines.read().split("[speeds]")[-1], re.M))
+    used, nodes = set(), {}
+    with open(path, encoding="utf-8") as lines:
+        for line in lines:
+            if line.startswith("n"):
+                found = re.match(r"n(-?\d+) .*\bx(-?[\d.]+) y(-?[\d.]+)", line)
+                if found:
+                    nodes[found[1]] = (float(found[2]), float(found[3]))
+            elif line.startswith("w"):
+                kind = re.search(r"[T,]highway=(\w+)", line)
+                if kind and kind[1] in kinds:
+                    used.update(re.findall(r"[N,]n(-?\d+)", "N" + line.split(" N")[-1]))
+    return [nodes[id] for id in sorted(used) if id in nodes]
+
+
+def near(chance, point, reach, digits=6):
+    lon = point[0] + chance.uniform(-reach, reach)
+    lat = point[1] + chance.uniform(-reach, reach)
+    return f"{lon:.{digits}f},{lat:.{digits}f}"
+
+
+def random_routes(points, count, seed):
+    """Routes between random nodes, each coordinate moved by up to 200 metres."""
+    chance = random.Random(seed)
+    pairs = [(near(chance, chance.choice(points), 0.002), near(chance, chance.choice(points), 0.002)) for _ in range(count)]
+    return [f"{FRONT}{a};{b}{BACK}" for a, b in pairs]
+
+
+def standing_routes(points, count, seed):
+    """Routes that end where they begin: most of the work is to find their places."""
+    chance = random.Random(seed)
+    places = [near(chance, chance.choice(points), 0.002) for _ in range(count)]
+    return [f"{FRONT}{place};{place}{BACK}" for place in places]
+
+
+def hard_lines(points, count, seed):
+    """Short routes, routes to where they begin, coordinates on nodes, more and fewer digits, far places,
+    and lines that are no request."""
+    chance = random.Random(seed)
+    lines = []
+    for _ in range(count):
+        at, other = chance.choice(points), chance.choice(points)
+        exact = f"{at[0]:.7f},{at[1]:.7f}"
+        lines += [
+            f"{FRONT}{near(chance, at, 0.0005)};{near(chance, at, 0.0005)}{BACK}",
+            f"{FRONT}{near(chance, at, 0.00005)};{near(chance, at, 0.00005)}{BACK}",
+            f"{FRONT}{exact};{exact}{BACK}",
+            f"{FRONT}{exact};{other[0]:.7f},{other[1]:.7f}{BACK}",
+            f"{FRONT}{near(chance, at, 0.01, 9)};{near(chance, other, 0.01, 2)}{BACK}",
+        ]
+    lines += [
+        f"{FRONT}180,90;-180.0,-90.00{BACK}",
+        f"{FRONT}-0.0000005,-0;0.0000004,00.5{BACK}",
+        f"{FRONT}180.0000005,0;0,0{BACK}",
+        f"{FRONT}0,90.0000004;0,0{BACK}",
+        f"{FRONT}0,0;0,0;0,0{BACK}",
+        f"{FRONT}0,0{BACK}",
+        f"{FRONT}+1,0;0,0{BACK}",
+        f"{FRONT}1.,0;0,.0{BACK}",
+        f"{FRONT} 1,0;0,0{BACK}",
+        "",
+        "GET /",
+        "\r",
+        f"{FRONT}13.0,53.5;13.01,53.51{BACK}\r",
+    ]
+    return lines
+
+
+# ---- runs ----
+
+def timed(command, lines):
+    """One run: its processor seconds and its output. The status must be 0."""
+    with tempfile.TemporaryFile() as given, tempfile.TemporaryFile() as told:
+        given.write("".join(line + "\n" for line in lines).encode())
+        given.seek(0)
+        child = subprocess.Popen(command, stdin=given, stdout=told)
+        _, status, usage = os.wait4(child.pid, 0)
+        child.returncode = os.waitstatus_to_exitcode(status)
+        told.seek(0)
+        output = told.read()
+    if child.returncode != 0:
+        sys.exit(f"{command[0]} ended with status {child.returncode}: {output[-200:]!r}")
+    return usage.ru_utime + usage.ru_stime, output
+
+
+def least(both, repeats, lines, *words):
+    """The least time of each of both commands, in turns, and their last outputs."""
+    times, outputs = ([], []), [b"", b""]
+    for _ in range(repeats):
+        for which, command in enumerate(both):
+            seconds, outputs[which] = timed([command, "ask", *words], lines)
+            times[which].append(seconds)
+    return [min(all_of) for all_of in times], outputs
+
+
+def peak(command, lines, *words):
+    """The greatest memory of a run in megabytes, by GNU time."""
+    with tempfile.NamedTemporaryFile("r") as told:
+        text = "".join(line + "\n" for line in lines).encode()
+        subprocess.run(["/usr/bin/time", "-f", "%M", "-o", told.name, command, "ask", *words], input=text, stdout=subprocess.DEVNULL, check=True)
+        return int(told.read()) / 1024
+
+
+def differences(lines, outputs, keep):
+    """How many replies differ. The first one is shown, and the lines are kept in a file."""
+    asked = [line for line in lines if line not in ("", "\r")]
+    replies = [output.split(b"\n")[:-1] for output in outputs]
+    wrong = sum(a != b for a, b in zip(*replies)) + abs(len(replies[0]) - len(replies[1]))
+    if wrong == 0:
+        return 0
+    print(f"  {wrong} REPLIES DIFFER; the lines are in {keep}")
+    with open(keep, "w", encoding="utf-8", newline="\n") as out:
+        out.write("".join(line + "\n" for line in lines))
+    for place, (a, b) in enumerate(zip(*replies)):
+        if a != b:
+            print(f"  line     {asked[place]}\n  program  {a.decode()}\n  baseline {b.decode()}")
+            break
+    return wrong
+
+
+def codes_of(replies):
+    """How many replies there are of each code."""
+    marks = {code: f'{{"code":"{code}"'.encode() for code in ("Ok", "NoRoute", "NoSegment", "BadRequest")}
+    return ", ".join(f"{replies.count(mark)} {code}" for code, mark in marks.items())
+
+
+def figure(number):
+    """Four digits or more."""
+    return f"{number:.{max(0, 3 - int(math.log10(max(number, 1e-9))))}f}" if number >= 1 else f"{number:.4f}"
+
+
+def row(what, program, baseline, unit, rate=False):
+    ratio = program / baseline if baseline > 0 else math.nan
+    print(f"  {what:<30} {figure(program):>10} {figure(baseline):>10} {ratio:>7.2f}  {unit}{', more is better' if rate else ''}")
+
+
+def measure(name, path, both, arguments, scratch):
+    """Prints all figures for one map, and gives how many replies differ."""
+    unused = os.path.join(scratch, "unused.toml")
+    with open(unused, "w", encoding="ascii") as out:
+        out.write(UNUSED)
+    settings, repeats = arguments.settings, arguments.repeats
+    megabytes = os.path.getsize(path) / 1e6
+    count = subprocess.run([both[1], "count", path, settings], capture_output=True, text=True, check=True).stdout
+    segments, turns = map(int, count.split())
+    print(f"{name}: {megabytes:.2f} MB, {segments} segments, {turns} turns")
+    print(f"  {'':<30} {'program':>10} {'baseline':>10} {'ratio':>7}")
+    start, _ = least(both, repeats, [], path, settings)
+    reading, _ = least(both, repeats, [], path, unused)
+    row("start-up", *start, "s")
+    row("  of that reading alone", *reading, "s")
+    row("read and built", *[megabytes / t for t in start], "MB/s", True)
+    row("read alone", *[megabytes / t for t in reading], "MB/s", True)
+    building = [max(a - b, 1e-6) for a, b in zip(start, reading)]
+    scale = segments * math.log2(max(segments, 2))
+    row("building / (n log2 n)", *[t * 1e9 / scale for t in building], "ns")
+    memory = [peak(command, [], path, settings) for command in both]
+    row("peak memory at start-up", *memory, "MB")
+    row("  for each segment", *[m * 1048576 / segments for m in memory], "bytes")
+    points = locations(path, settings)
+    routes = random_routes(points, arguments.routes, 1)
+    times, outputs = least(both, max(1, repeats // 2), routes, path, settings)
+    spent = [max(t - s, 1e-6) for t, s in zip(times, start)]
+    row(f"{len(routes)} random routes", *spent, "s")
+    standing, _ = least(both, max(1, repeats // 2), standing_routes(points, arguments.routes, 3), path, settings)
+    snapping = [max(t - s, 1e-6) for t, s in zip(standing, start)]
+    row("  of that snapping, about", *snapping, "s")
+    row("  and searching, about", *[max(t - s, 1e-6) for t, s in zip(spent, snapping)], "s")
+    row("routes a second", *[len(routes) / t for t in spent], "1/s", True)
+    row("peak memory with routes", *[peak(command, routes, path, settings) for command in both], "MB")
+    hard = hard_lines(points, max(1, arguments.routes // 10), 2)
+    _, hard_outputs = least(both, 1, hard, path, settings)
+    keep = os.path.join(tempfile.gettempdir(), "reading-differs-" + re.sub(r"\W+", "-", name))
+    wrong = differences(routes, outputs, keep + ".txt") + differences(hard, hard_outputs, keep + "-hard.txt")
+    if wrong == 0:
+        print("  all replies alike, byte for byte: " + codes_of(outputs[0] + hard_outputs[0]))
+    else:
+        shutil.copy(path, keep + ".opl")
+    sys.stdout.flush()
+    return wrong
+
+
+def compare_tangles(count, both, settings, scratch):
+    """Compares the replies on so many small maps that are hard to get right."""
+    path, wrong, told = os.path.join(scratch, "tangle.opl"), 0, b""
+    for seed in range(count):
+        points = tangle(seed, path)
+        lines = random_routes(points, 40, seed) + standing_routes(points, 10, seed) + hard_lines(points, 10, seed)
+        _, outputs = least(both, 1, lines, path, settings)
+        keep = os.path.join(tempfile.gettempdir(), f"reading-differs-tangle-{seed}")
+        here = differences(lines, outputs, keep + ".txt")
+        if here > 0:
+            shutil.copy(path, keep + ".opl")
+        wrong += here
+        told += outputs[0]
+    print(f"{count} small maps made to be hard: {wrong} replies differ; {codes_of(told)}")
+    return wrong
+
+
+def built_program():
+    """Proves and builds the program where no built one is named."""
+    command = ["rt", "run", "--", "ask", "data/town.opl", "data/settings.toml"]
+    if subprocess.run(command, cwd=CRATE, stdin=subprocess.DEVNULL, stdout=sys.stderr).returncode != 0:
+        sys.exit("the program was not built; cd crates/road_router && rt run says why")
+    return os.path.join(CRATE, "out", "road_router")
+
+
+def main():
+    parser = argparse.ArgumentParser(usage=__doc__.split("usage: ")[1].split("\n\n")[0])
+    parser.add_argument("--program", default=os.environ.get("ROAD_ROUTER"))
+    parser.add_argument("--settings", default=os.path.join(HERE, "car.toml"))
+    parser.add_argument("--towns", default="50,100,200")
+    parser.add_argument("--routes", type=int, default=200)
+    parser.add_argument("--repeats", type=int, default=5)
+    parser.add_argument("--tangles", type=int, default=50)
+    parser.add_argument("maps", nargs="*")
+    arguments = parser.parse_args()
+    program = arguments.program or built_program()
+    wrong = 0
+    with tempfile.TemporaryDirectory() as scratch:
+        baseline = os.path.join(scratch, "baseline")
+        source = os.path.join(HERE, "baseline.rs")
+        subprocess.run(["rustc", "--edition", "2024", "-C", "opt-level=3", "-o", baseline, source], check=True)
+        both = [os.path.abspath(program), baseline]
+        wrong += compare_tangles(arguments.tangles, both, arguments.settings, scratch)
+        path = os.path.join(scratch, "map.opl")
+        for source in arguments.maps:
+            dropped = cut(source, path)
+            name = f"{os.path.basename(source)} without {dropped} tags that hold %"
+            wrong += measure(name, path, both, arguments, scratch)
+        for size in filter(None, arguments.towns.split(",")):
+            town(int(size), path)
+            wrong += measure(f"town {size} by {size}", path, both, arguments, scratch)
+    sys.exit(1 if wrong else 0)
+
+
+if __name__ == "__main__":
+    main()

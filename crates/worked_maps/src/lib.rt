@@ -1,0 +1,10 @@
+//! Tests over worked maps, of what no clause says: that geometry, networks and metrics come out as their
+//! definitions are meant, and are made where memory is ample.
+#![tactic(auto)]
+
+#[cfg(test)]
+mod geometry;
+#[cfg(test)]
+mod metrics;
+#[cfg(test)]
+mod networks;
