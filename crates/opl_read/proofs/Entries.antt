@@ -1,7 +1,7 @@
 -- The entries of a field, one by one.
 use Rattle.std.proofs.Common.{ℕ, eqb, List, ◌++◌, map, Result}
 use Rattle.std.specs.List.{slice_split}
-use Rattle.opl_read.specs.Content.{mapped, all_of}
+use Rattle.opl_read.specs.Faults.{mapped, all_of}
 use Rattle.opl_read.specs.declared.line_faults.FaultKind.{FaultKind}
 
 -- these values in front of what the entries of a text are

@@ -1,6 +1,8 @@
 pub mod Earth
 pub mod Entries
+pub mod Escaping
 pub mod FieldLaws
+pub mod HexDigits
 pub mod LineSteps
 pub mod SeenLaws
 pub mod Splitting

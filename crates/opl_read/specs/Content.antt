@@ -1,29 +1,20 @@
 -- What the content of a field of OPL stands for (osmcode.org/opl-file-format), or its fault.
-use Rattle.std.specs.Prelude.{ℕ, ℤ, Bool, true, false, ◌==◌, nat_le, nat_eq, List, [], ◌∷◌, length, drop, map, codes, unsigned_abs, bytes_eq, Option, Some, None, Result, Ok, Err, if◌then◌else◌}
+use Rattle.std.specs.Prelude.{ℕ, ℤ, Bool, true, false, ◌==◌, nat_le, nat_eq, List, length, drop, map, codes, unsigned_abs, bytes_eq, Option, Some, None, Result, Ok, Err, if◌then◌else◌}
 use Rattle.std.specs.List.{before_first, after_first, starts_with}
 use Rattle.std.specs.Str.{byte}
 use Rattle.decimal_text.specs.Decimal.{microdegrees_of}
 use Rattle.decimal_text.specs.ObjectId.{id_of}
 use Rattle.opl_read.specs.Cutting.{has, entries_of}
+use Rattle.opl_read.specs.Escapes.{unescaped}
+use Rattle.opl_read.specs.Faults.{mapped_both, all_of}
 use Rattle.opl_read.specs.declared.line_faults.FaultKind.{FaultKind}
-use Rattle.opl_read.specs.declared.line_faults.FaultKind.TheVariants.{BadNumber, BadEscape, BadField}
+use Rattle.opl_read.specs.declared.line_faults.FaultKind.TheVariants.{BadNumber, BadField}
 
-abbrev pub mapped : {A B : Type 0} → (A → B) → Result A FaultKind → Result B FaultKind
-mapped f (Ok x) = Ok (f x)
-mapped f (Err kind) = Err kind
-
--- all the values, or the first fault from the left
-abbrev pub all_of : {A : Type 0} → List (Result A FaultKind) → Result (List A) FaultKind
-all_of [] = Ok []
-all_of (Err kind ∷ more) = Err kind
-all_of (Ok x ∷ more) = mapped (λ xs. x ∷ xs) (all_of more)
-
--- a key and a value round the first `=`; escapes, which begin with `%`, are not read yet
+-- a key and a value round the first `=`
 abbrev pub tag_of : List ℕ → Result (List ℕ × List ℕ) FaultKind
 tag_of entry =
     if has (byte "=") entry
-    then (if has (byte "%") entry then Err BadEscape
-    else Ok (before_first (λ b. b == byte "=") entry, after_first (λ b. b == byte "=") entry))
+    then mapped_both (λ key value. (key, value)) (unescaped (before_first (λ b. b == byte "=") entry)) (unescaped (after_first (λ b. b == byte "=") entry))
     else Err BadField
 
 abbrev pub tags_of : List ℕ → Result (List (List ℕ × List ℕ)) FaultKind

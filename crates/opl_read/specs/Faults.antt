@@ -1,5 +1,5 @@
--- How the reader's faults are told.
-use Rattle.std.specs.Prelude.{◌≡◌, List, Result, Err}
+-- How the reader's faults are told, and what is made of parts that may be faulty.
+use Rattle.std.specs.Prelude.{◌≡◌, List, [], ◌∷◌, Result, Ok, Err}
 use Rattle.road_base.specs.declared.osm_objects.Object.{Object}
 use Rattle.opl_read.specs.declared.line_faults.LineFault.{LineFault}
 use Rattle.opl_read.specs.declared.line_faults.ReadFault.{ReadFault}
@@ -17,3 +17,18 @@ IsFaultOf defined Memory = Unit {0}
 abbrev pub IsLineErrorOf : {A : Type 0} → Result A FaultKind → LineError → Type 0
 IsLineErrorOf defined (Fault kind) = defined ≡ Err kind
 IsLineErrorOf defined OutOfMemory = Unit {0}
+
+abbrev pub mapped : {A B : Type 0} → (A → B) → Result A FaultKind → Result B FaultKind
+mapped f (Ok x) = Ok (f x)
+mapped f (Err kind) = Err kind
+
+-- what is made of two parts, or the first fault from the left
+abbrev pub mapped_both : {A B C : Type 0} → (A → B → C) → Result A FaultKind → Result B FaultKind → Result C FaultKind
+mapped_both f (Ok x) right = mapped (f x) right
+mapped_both f (Err kind) right = Err kind
+
+-- all the values, or the first fault from the left
+abbrev pub all_of : {A : Type 0} → List (Result A FaultKind) → Result (List A) FaultKind
+all_of [] = Ok []
+all_of (Err kind ∷ more) = Err kind
+all_of (Ok x ∷ more) = mapped (λ xs. x ∷ xs) (all_of more)

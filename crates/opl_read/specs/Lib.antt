@@ -1,8 +1,10 @@
 pub mod Content
 pub mod Cutting
+pub mod Escapes
 pub mod Faults
 pub mod LineParts
 pub mod LineText
+pub mod Members
 pub mod Objects
 pub mod Points
 pub mod Seen

@@ -4,10 +4,13 @@ use Rattle.std.specs.Str.{byte}
 use Rattle.road_base.specs.declared.coordinates.Point.{Point}
 use Rattle.road_base.specs.declared.osm_objects.Kind.{Kind}
 use Rattle.road_base.specs.declared.osm_objects.Kind.TheVariants as kind
+use Rattle.road_base.specs.declared.osm_objects.Member.{Member}
 use Rattle.road_base.specs.declared.osm_objects.Object.{Object}
 use Rattle.road_base.specs.declared.osm_objects.Object.TheVariants as object
-use Rattle.opl_read.specs.Content.{mapped, tags_of, refs_of, coordinate_of, deleted_of}
+use Rattle.opl_read.specs.Content.{tags_of, refs_of, coordinate_of, deleted_of}
 use Rattle.opl_read.specs.Cutting.{has}
+use Rattle.opl_read.specs.Faults.{mapped}
+use Rattle.opl_read.specs.Members.{members_of}
 use Rattle.opl_read.specs.Points.{point_at}
 use Rattle.opl_read.specs.declared.line_faults.FaultKind.{FaultKind}
 use Rattle.opl_read.specs.declared.line_faults.FaultKind.TheVariants.{BadField}
@@ -17,28 +20,30 @@ pub record LineParts : Type 0 where
   pub letters : List ℕ
   pub tags : List (List ℕ × List ℕ)
   pub nodes : List ℤ
+  pub members : List Member
   pub lon : Option ℤ
   pub lat : Option ℤ
   pub deleted : Bool
 
 abbrev pub no_parts : LineParts
-no_parts = record { letters = []; tags = []; nodes = []; lon = None; lat = None; deleted = false }
+no_parts = record { letters = []; tags = []; nodes = []; members = []; lon = None; lat = None; deleted = false }
 
 -- the letters of the fields that an object of this kind may have
 abbrev pub letters_of : Kind → List ℕ
 letters_of kind.Node = codes "vdctiuTxy"
 letters_of kind.Way = codes "vdctiuTN"
-letters_of kind.Relation = []
+letters_of kind.Relation = codes "vdctiuTM"
 
 -- the parts with a field's content; what stands in other fields is not looked at
 abbrev pub with_content : ℕ → List ℕ → LineParts → Result LineParts FaultKind
 with_content letter content parts =
     if letter == byte "T" then mapped (λ tags. record parts { tags = tags }) (tags_of content)
     else (if letter == byte "N" then mapped (λ nodes. record parts { nodes = nodes }) (refs_of content)
+    else (if letter == byte "M" then mapped (λ members. record parts { members = members }) (members_of content)
     else (if letter == byte "x" then mapped (λ lon. record parts { lon = lon }) (coordinate_of 180000000 content)
     else (if letter == byte "y" then mapped (λ lat. record parts { lat = lat }) (coordinate_of 90000000 content)
     else (if letter == byte "d" then mapped (λ deleted. record parts { deleted = deleted }) (deleted_of content)
-    else Ok parts))))
+    else Ok parts)))))
 
 abbrev pub with_letter : ℕ → LineParts → LineParts
 with_letter letter parts = record parts { letters = parts.letters ++ letter ∷ [] }
@@ -69,7 +74,7 @@ location_of _ _ = None
 abbrev pub object_of : Kind → ℤ → LineParts → Option Object
 object_of kind.Node id parts = Some (object.Node (record { id = id; point = location_of parts.lon parts.lat; tags = parts.tags }))
 object_of kind.Way id parts = Some (object.Way (record { id = id; tags = parts.tags; nodes = parts.nodes }))
-object_of kind.Relation id parts = None
+object_of kind.Relation id parts = Some (object.Relation (record { id = id; tags = parts.tags; members = parts.members }))
 
 -- the same, none where it is deleted
 abbrev pub kept_object : Kind → ℤ → LineParts → Option Object

@@ -1,13 +1,13 @@
 -- What one line of OPL, "object per line" (osmcode.org/opl-file-format), stands for: an object, nothing,
--- or a fault. Relations are passed over so far, as changesets are.
+-- or a fault. Changesets are passed over.
 use Rattle.std.specs.Prelude.{ℕ, ℤ, ◌-◌, ◌==◌, List, [], ◌∷◌, length, take, slice_index, Option, Some, None, Result, Ok, Err, if◌then◌else◌}
 use Rattle.std.specs.Str.{byte, is_utf8}
 use Rattle.decimal_text.specs.ObjectId.{id_of}
 use Rattle.road_base.specs.declared.osm_objects.Kind.{Kind}
 use Rattle.road_base.specs.declared.osm_objects.Kind.TheVariants as kind
 use Rattle.road_base.specs.declared.osm_objects.Object.{Object}
-use Rattle.opl_read.specs.Content.{mapped}
 use Rattle.opl_read.specs.Cutting.{fields_of}
+use Rattle.opl_read.specs.Faults.{mapped}
 use Rattle.opl_read.specs.LineParts.{no_parts, with_fields, kept_object}
 use Rattle.opl_read.specs.declared.line_faults.FaultKind.{FaultKind}
 use Rattle.opl_read.specs.declared.line_faults.FaultKind.TheVariants.{NotUtf8, BadKind, BadNumber}
@@ -31,7 +31,7 @@ with_first_field [] fields = Ok None
 with_first_field (letter ∷ id) fields =
     if letter == byte "n" then with_id kind.Node (id_of id) fields
     else (if letter == byte "w" then with_id kind.Way (id_of id) fields
-    else (if letter == byte "r" then Ok None
+    else (if letter == byte "r" then with_id kind.Relation (id_of id) fields
     else (if letter == byte "c" then Ok None
     else Err BadKind)))
 

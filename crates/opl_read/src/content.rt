@@ -7,6 +7,7 @@ ghost use Rattle.opl_read.specs.Content.{tag_of, tags_of, ref_of, refs_of, coord
 ghost use Rattle.opl_read.specs.Faults.{IsLineErrorOf};
 
 use crate::cutting::{parted_at, position_of};
+use crate::escapes::unescaped;
 use crate::line_faults::{FaultKind, LineError};
 use decimal_text::{id, microdegrees};
 use road_base::{Ids, Tags, Text};
@@ -37,11 +38,8 @@ fn tag_of(alloc: Global, entry: &str) -> Result<(Text, Text), LineError>
     let Some((key, value)) = parted_at(entry, b'=') else {
         return Err(LineError::Fault(FaultKind::BadField));
     };
-    if parted_at(entry, b'%').is_some() {
-        return Err(LineError::Fault(FaultKind::BadEscape));
-    }
-    let key = Text::copy_of(alloc, key)?;
-    let value = Text::copy_of(alloc, value)?;
+    let key = unescaped(alloc, key)?;
+    let value = unescaped(alloc, value)?;
     Ok((key, value))
 }
 

@@ -4,10 +4,12 @@
 
 mod content;
 mod cutting;
+mod escapes;
 mod line_faults;
 mod line_parts;
 mod line_text;
 mod lines;
+mod members;
 mod points;
 mod reading;
 mod seen_ids;

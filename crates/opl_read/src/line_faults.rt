@@ -15,7 +15,7 @@ pub enum FaultKind {
     BadKind,
     /// An id or a coordinate isn't of its form or is out of range.
     BadNumber,
-    /// A `%` begins no escape.
+    /// A `%` in a key, a value or a role is no part of an escape.
     BadEscape,
     /// A field isn't of its form, doesn't belong to this kind of object, or stands twice.
     BadField,

@@ -1,16 +1,16 @@
 //! What the fields of a line say of its object.
 
 ghost use Rattle.std.specs.Prelude.{◌≡◌, ◌∷◌, Ok, IfOk, IfErr, IfNone, IfSome};
-ghost use Rattle.opl_read.specs.Content.{mapped};
 ghost use Rattle.opl_read.specs.Cutting.{fields_of, has};
-ghost use Rattle.opl_read.specs.Faults.{IsLineErrorOf};
+ghost use Rattle.opl_read.specs.Faults.{IsLineErrorOf, mapped};
 ghost use Rattle.opl_read.specs.LineParts.{no_parts, letters_of, with_content, with_field, with_fields, with_letter, HasNoLetter, location_of, kept_object};
 
 use crate::content::{coordinate_of, deleted_of, refs_of, tags_of};
 use crate::cutting::first_field;
 use crate::line_faults::{FaultKind, LineError};
+use crate::members::members_of;
 use crate::points::point_at;
-use road_base::{Ids, Kind, Node, Object, Point, Tags, Way};
+use road_base::{Ids, Kind, Members, Node, Object, Point, Relation, Tags, Way};
 use std::alloc::Global;
 use std::marker::Model;
 
@@ -24,6 +24,7 @@ pub(crate) struct Parts {
     letters: Vec<u8>,
     tags: Tags,
     nodes: Ids,
+    members: Members,
     lon: Option<i64>,
     lat: Option<i64>,
     deleted: bool,
@@ -34,7 +35,7 @@ impl Model for Parts {
 
     ghost Value = { LineParts };
 
-    ghost view = { λ p. record { letters = p.letters.items; tags = p.tags; nodes = p.nodes; lon = p.lon; lat = p.lat; deleted = p.deleted } };
+    ghost view = { λ p. record { letters = p.letters.items; tags = p.tags; nodes = p.nodes; members = p.members; lon = p.lon; lat = p.lat; deleted = p.deleted } };
 }
 
 // The parts that the fields of a text make.
@@ -58,6 +59,7 @@ fn no_parts(alloc: Global) -> Parts
         letters: Vec::new(alloc),
         tags: Tags::of(Vec::new(alloc)),
         nodes: Ids::of(Vec::new(alloc)),
+        members: Members::of(Vec::new(alloc)),
         lon: None,
         lat: None,
         deleted: false,
@@ -109,7 +111,7 @@ fn may_have(kind: Kind, letter: u8) -> bool
     match kind {
         Kind::Node => b"vdctiuTxy".contains(&letter),
         Kind::Way => b"vdctiuTN".contains(&letter),
-        Kind::Relation => false,
+        Kind::Relation => b"vdctiuTM".contains(&letter),
     }
 }
 
@@ -125,6 +127,10 @@ fn with_content(alloc: Global, letter: u8, content: &str, parts: Parts) -> Resul
         }
         b'N' => {
             parts.nodes = refs_of(alloc, content)?;
+            Ok(parts)
+        }
+        b'M' => {
+            parts.members = members_of(alloc, content)?;
             Ok(parts)
         }
         b'x' => {
@@ -169,7 +175,11 @@ impl Parts {
                 tags: self.tags,
                 nodes: self.nodes,
             })),
-            Kind::Relation => None,
+            Kind::Relation => Some(Object::Relation(Relation {
+                id,
+                tags: self.tags,
+                members: self.members,
+            })),
         }
     }
 }

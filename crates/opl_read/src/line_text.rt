@@ -76,7 +76,8 @@ fn object_behind(alloc: Global, first: &str, behind: &str) -> Result<Option<Obje
     match *letter {
         b'n' => object_with(alloc, Kind::Node, number, behind),
         b'w' => object_with(alloc, Kind::Way, number, behind),
-        b'r' | b'c' => Ok(None),
+        b'r' => object_with(alloc, Kind::Relation, number, behind),
+        b'c' => Ok(None),
         _ => Err(LineError::Fault(FaultKind::BadKind)),
     }
 }

@@ -15,16 +15,20 @@ use std::alloc::Global;
 /// The objects of a text in OPL, "object per line" (https://osmcode.org/opl-file-format), in file order.
 ///
 /// Lines end with a newline, which the last may lack, or with a carriage return and a newline. Comments,
-/// which begin with `#`, empty lines, changesets (`c`) and so far relations (`r`) are passed over, and so
-/// are objects with `dD`. A node `n<id>` may have the fields `v d c t i u T x y`, a way `w<id>` the fields
-/// `v d c t i u T N`, each once and in any order, parted by blanks or tabs. Coordinates are decimal
-/// degrees; a node without both has no location.
+/// which begin with `#`, empty lines and changesets (`c`) are passed over, and so are objects with `dD`,
+/// once their lines are found to be of the right form. A node `n<id>` may have the fields
+/// `v d c t i u T x y`, a way `w<id>` the fields `v d c t i u T N` and a relation `r<id>` the fields
+/// `v d c t i u T M`, each once and in any order, parted by blanks or tabs. Coordinates are decimal degrees;
+/// a node without both has no location. A member in `M` is `n`, `w` or `r`, an id, `@` and a role, which may
+/// be empty. In keys, values and roles `%hex%` stands for the character of that number, written in 1 to 6
+/// hexadecimal digits in either case: a blank is `%20%`.
 ///
-/// The first faulty line is told, counted from 1, and what its first fault from the left is: `NotUtf8`,
-/// `BadKind` for a first field of another letter, `BadNumber` for an id or a coordinate out of its form or
-/// range, `BadEscape` for a `%` in a tag, since escapes are not read yet, `BadField` for a field that isn't
-/// of its form, doesn't belong to the object or stands twice, and `Duplicate`, the last, for a second
-/// object of one kind and id. Want of memory may come at any time.
+/// The first faulty line is told, counted from 1, and what its first fault from the left is: `NotUtf8`
+/// before all others, `BadKind` for a first field of another letter, `BadNumber` for an id or a coordinate
+/// out of its form or range, `BadEscape` for a `%` in a tag or a role that is no part of an escape,
+/// `BadField` for a field or an entry that isn't of its form, doesn't belong to the object or stands twice,
+/// and `Duplicate`, the last, for a second object of one kind and id. A tag without `=` and a member without
+/// its letter or `@` are `BadField`, whatever else is wrong with them. Want of memory may come at any time.
 pub fn read(alloc: Global, bytes: &[u8]) -> Result<Vec<Object>, ReadFault>
     ensures objects { IfOk result (λ objects. opl_objects bytes.now ≡ Ok objects.items) }
     ensures distinct { IfOk result (λ objects. AreDistinct objects.items) }

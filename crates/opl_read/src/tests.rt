@@ -1,11 +1,11 @@
 //! Worked texts; expected values are from the OPL manual and this project's rules.
 
 use crate::FaultKind::{BadEscape, BadField, BadKind, BadNumber, Duplicate, NotUtf8};
-use crate::{FaultKind, LineFault, ReadFault, read};
-use road_base::{Object, Point};
+use crate::{FaultKind, ReadFault, read};
+use road_base::{Kind, Object, Point};
 
 const TOWN: &[u8] =
-    b"# a town\nn1 v3 dV c7 t2020-01-01T00:00:00Z i1 uA T x0 y0\r\n\tn2 y0.001   x0 \nn3 x0.001 y0.001 Thighway=traffic_signals,name=a=b,name=c\nc5 any\n\nr1 Ttype=restriction\nw10 Nn1,n2x0y0.001,n3 Thighway=residential\nn4 dD Ta=b\nn4 x-1.0000005 y";
+    b"# a town\nn1 v3 dV c7 t2020-01-01T00:00:00Z i1 uA T x0 y0\r\n\tn2 y0.001   x0 \nn3 x0.001 y0.001 Thighway=traffic_signals,name=a=b,name=c\nc5 any\n\nw10 Nn1,n2x0y0.001,n3 Thighway=residential\nn4 dD Ta=b\nn4 x-1.0000005 y";
 
 #[test]
 fn a_town_of_four_nodes_and_a_way(rt: HostRuntime) {
@@ -37,46 +37,124 @@ fn a_town_of_four_nodes_and_a_way(rt: HostRuntime) {
     }
 }
 
+const ESCAPES: &[u8] = b"n1 Ta%20%b=c%e4%,six=%01f600%,upper=%1F600%,both=%25%%3d%,bare=";
+
+#[test]
+fn escapes_stand_for_characters(rt: HostRuntime) {
+    let objects = read(rt.alloc(), ESCAPES).ok().expect(&rt, "a good text");
+    assert_eq!(rt; objects.len(), 1);
+    match &objects[0] {
+        Object::Node(node) => {
+            assert_eq!(rt; node.tags.get("a b"), Some("c\u{e4}"));
+            assert_eq!(rt; node.tags.get("six"), Some("\u{1f600}"));
+            assert_eq!(rt; node.tags.get("upper"), Some("\u{1f600}"));
+            assert_eq!(rt; node.tags.get("both"), Some("%="));
+            assert_eq!(rt; node.tags.get("bare"), Some(""));
+        }
+        _ => panic!(rt; "a node"),
+    }
+}
+
+const RELATIONS: &[u8] =
+    b"r5 Mn-1@,w10@from%2c%to,r7@a@b Ttype=restriction,note=a%2C%b\nr6 M\nr5 dD\n";
+
+#[test]
+fn a_relation_has_members_in_roles(rt: HostRuntime) {
+    let objects = read(rt.alloc(), RELATIONS).ok().expect(&rt, "a good text");
+    assert_eq!(rt; objects.len(), 2);
+    match &objects[0] {
+        Object::Relation(relation) => {
+            assert_eq!(rt; relation.id, 5);
+            assert_eq!(rt; relation.tags.get("type"), Some("restriction"));
+            assert_eq!(rt; relation.tags.get("note"), Some("a,b"));
+            let wanted = [
+                (Kind::Node, -1, ""),
+                (Kind::Way, 10, "from,to"),
+                (Kind::Relation, 7, "a@b"),
+            ];
+            let members = relation.members.as_slice();
+            assert_eq!(rt; members.len(), wanted.len());
+            for (member, (kind, id, role)) in members.iter().zip(wanted) {
+                assert_eq!(rt; member.kind, kind);
+                assert_eq!(rt; member.id, id);
+                assert_eq!(rt; member.role.as_str(), role);
+            }
+        }
+        _ => panic!(rt; "a relation"),
+    }
+    match &objects[1] {
+        Object::Relation(relation) => assert!(rt; relation.members.as_slice().is_empty()),
+        _ => panic!(rt; "a relation"),
+    }
+}
+
+// How many objects a text has, or the number and the fault of its first faulty line.
 #[test]
 fn the_first_fault_of_a_text_is_told(rt: HostRuntime) {
-    let cases: [(&[u8], u64, FaultKind); 26] = [
-        (b"x1", 1, BadKind),
-        (b" #x", 1, BadKind),
-        (b"n9223372036854775808", 1, BadNumber),
-        (b"n x0", 1, BadNumber),
-        (b"n1 x180.0000005 y0", 1, BadNumber),
-        (b"n1 x0 y-90.0000005", 1, BadNumber),
-        (b"n1 x1e5 y0", 1, BadField),
-        (b"n1 x0 x1", 1, BadField),
-        (b"w1 x0", 1, BadField),
-        (b"n1 Nn1", 1, BadField),
-        (b"w1 Na1", 1, BadField),
-        (b"w1 Nn1y2", 1, BadNumber),
-        (b"w1 Nn1,", 1, BadField),
-        (b"n1 dX", 1, BadField),
-        (b"n1 Mw1@", 1, BadField),
-        (b"n1 T%", 1, BadField),
-        (b"n1 Ta=%zz%", 1, BadEscape),
-        (b"n1 Ta=%41", 1, BadEscape),
-        (b"n1 Ta%20%b=c", 1, BadEscape),
-        (b"n1 Ta=%,b x1e5", 1, BadEscape),
-        (b"n1 Tb,a=% x1e5", 1, BadField),
-        (b"n1\nn1", 2, Duplicate),
-        (b"n1\nn1 Tb", 2, BadField),
-        (b"#\xff", 1, NotUtf8),
-        (b"n1 dD\nn1\nw1\n#\nn1\nx\n", 5, Duplicate),
-        (b"c\xff", 1, NotUtf8),
+    let cases: [(&[u8], Result<usize, (u64, FaultKind)>); 56] = [
+        (b"", Ok(0)),
+        (b"x1", Err((1, BadKind))),
+        (b" #x", Err((1, BadKind))),
+        (b"n9223372036854775808", Err((1, BadNumber))),
+        (b"n x0", Err((1, BadNumber))),
+        (b"n1 x180.0000005 y0", Err((1, BadNumber))),
+        (b"n1 x0 y-90.0000005", Err((1, BadNumber))),
+        (b"n1 x1e5 y0", Err((1, BadField))),
+        (b"n1 x0 x1", Err((1, BadField))),
+        (b"w1 x0", Err((1, BadField))),
+        (b"n1 Nn1", Err((1, BadField))),
+        (b"w1 Na1", Err((1, BadField))),
+        (b"w1 Nn1y2", Err((1, BadNumber))),
+        (b"w1 Nn1,", Err((1, BadField))),
+        (b"n1 dX", Err((1, BadField))),
+        (b"n1 Mw1@", Err((1, BadField))),
+        (b"n1 T%", Err((1, BadField))),
+        (b"n1 Ta=%zz%", Err((1, BadEscape))),
+        (b"n1 Ta=%d800%", Err((1, BadEscape))),
+        (b"n1 Ta=%41", Err((1, BadEscape))),
+        (b"n1 Ta=%0000041%", Err((1, BadEscape))),
+        (b"n1 Ta=%%", Err((1, BadEscape))),
+        (b"n1 Ta=%110000%", Err((1, BadEscape))),
+        (b"n1 Ta=%10ffff%", Ok(1)),
+        (b"n1 Ta=%+41%", Err((1, BadEscape))),
+        (b"n1 Ta%20%b=c%e4%", Ok(1)),
+        (b"n1 Ta%20=c", Err((1, BadEscape))),
+        (b"n1 Ta=%41%%", Err((1, BadEscape))),
+        (b"n1 Ta=%,b x1e5", Err((1, BadEscape))),
+        (b"n1 Tb,a=% x1e5", Err((1, BadField))),
+        (b"n1\nn1", Err((2, Duplicate))),
+        (b"n1\nn1 Tb", Err((2, BadField))),
+        (b"n1 dD\nn1", Ok(1)),
+        (b"#\xff", Err((1, NotUtf8))),
+        (b"n1 dD\nn1\nw1\n#\nn1\nx\n", Err((5, Duplicate))),
+        (b"c\xff", Err((1, NotUtf8))),
+        (b"r1 T\xff", Err((1, NotUtf8))),
+        (b"r", Err((1, BadNumber))),
+        (b"r1 Mn1", Err((1, BadField))),
+        (b"r1 Mx1@a", Err((1, BadField))),
+        (b"r1 Mn@a", Err((1, BadNumber))),
+        (b"r1 Mnx@%zz%", Err((1, BadNumber))),
+        (b"r1 M@%zz%", Err((1, BadField))),
+        (b"r1 Mn1@a,", Err((1, BadField))),
+        (b"r1 Mn1@% dX", Err((1, BadEscape))),
+        (b"r1 Nn1", Err((1, BadField))),
+        (b"r1 x0", Err((1, BadField))),
+        (b"r1 M M", Err((1, BadField))),
+        (b"w1 Mn1@", Err((1, BadField))),
+        (b"r1 Mn1@%zz%", Err((1, BadEscape))),
+        (b"r1 Mn1@", Ok(1)),
+        (b"r1 M", Ok(1)),
+        (b"r1 dD Mn1", Err((1, BadField))),
+        (b"r1\nr1", Err((2, Duplicate))),
+        (b"r1 dD\nr1\nn1\nw1\nr1\n", Err((5, Duplicate))),
+        (b"r1\nr1 T%", Err((2, BadField))),
     ];
-    for (text, line, kind) in cases {
-        assert!(rt;
-            matches!(read(rt.alloc(), text), Err(ReadFault::Line(fault)) if fault == LineFault { line, kind }),
-            "line {line}: {kind:?}"
-        );
+    for (text, wanted) in cases {
+        let outcome = match read(rt.alloc(), text) {
+            Ok(objects) => Ok(objects.len()),
+            Err(ReadFault::Line(fault)) => Err((fault.line, fault.kind)),
+            Err(ReadFault::Memory) => panic!(rt; "no memory"),
+        };
+        assert!(rt; outcome == wanted, "{outcome:?} in place of {wanted:?}");
     }
-    assert!(rt;
-        read(rt.alloc(), b"")
-            .ok()
-            .expect(&rt, "no objects")
-            .is_empty()
-    );
 }

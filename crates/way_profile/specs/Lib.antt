@@ -2,3 +2,4 @@ pub mod Settings
 pub mod Vehicle
 pub mod WayRule
 pub mod WayTags
+pub mod Words

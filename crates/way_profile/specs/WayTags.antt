@@ -1,9 +1,11 @@
--- What the tags of a way say of its directions, and the speed of a kind of way (OpenStreetMap's
--- `highway`, `oneway` and `junction`; which values count is this project's rule).
+-- What the tags of a way say of its directions and of who may enter, and the speed of a kind of way
+-- (OpenStreetMap's `highway`, `oneway`, `junction` and access keys; which values count is this project's
+-- rule).
 use Rattle.std.specs.Prelude.{ℕ, Bool, false, not, ◌&&◌, ◌||◌, List, [], ◌∷◌, codes, Option, Some, None, bytes_eq, if◌then◌else◌}
-use Rattle.std.specs.List.{list_any}
+use Rattle.std.specs.List.{filter_map}
 use Rattle.std.specs.Option.{option_map_or, option_and_then}
 use Rattle.road_base.specs.TagValue.{value_of}
+use Rattle.way_profile.specs.Words.{is_among}
 
 -- the speed of a value of `highway`, None where the vehicle may not use such a way
 abbrev pub speed_of : List (List ℕ × ℕ) → List ℕ → Option ℕ
@@ -12,7 +14,7 @@ speed_of (e ∷ more) highway = if bytes_eq e.0 highway then Some e.1 else speed
 
 -- the value at the key is one of these words
 abbrev pub says : List (List ℕ × List ℕ) → List ℕ → List (List ℕ) → Bool
-says tags key words = option_map_or (λ value. list_any (λ word. bytes_eq value word) words) (value_of tags key) false
+says tags key words = option_map_or (λ value. is_among words value) (value_of tags key) false
 
 -- `oneway` says that the way is used against its own direction only
 abbrev pub is_backward_only : List (List ℕ × List ℕ) → Bool
@@ -36,6 +38,15 @@ is_forward_by_kind tags =
 abbrev pub is_forward_only : List (List ℕ × List ℕ) → Bool
 is_forward_only tags = is_oneway tags || (not (has_other_oneway tags) && is_forward_by_kind tags)
 
--- the speed on a way with these tags, None where the vehicle may not use it
+-- the values at those of the keys that are among the tags, in the order of the keys
+abbrev pub values_at : List (List ℕ × List ℕ) → List (List ℕ) → List (List ℕ)
+values_at tags keys = filter_map (λ key. value_of tags key) keys
+
+-- the first value, if there is one, is denied
+abbrev pub is_denied : List (List ℕ) → List (List ℕ) → Bool
+is_denied denied [] = false
+is_denied denied (value ∷ _) = is_among denied value
+
+-- the speed on a way of this kind, None where the vehicle has none
 abbrev pub speed_on : List (List ℕ × ℕ) → List (List ℕ × List ℕ) → Option ℕ
 speed_on speeds tags = option_and_then (λ highway. speed_of speeds highway) (value_of tags (codes "highway"))

@@ -1,136 +1,141 @@
-//! What can be wrong with a table of settings.
+//! Which values of a table of settings are bad.
 
-ghost use Rattle.std.specs.Prelude.{◌≡◌, ◌∷◌, [], true, IfOk, option_copied, option_map, codes, find, not, string_bytes};
-ghost use Rattle.std.specs.Map.{keys_of};
-ghost use Rattle.std.specs.Option.{option_map_or, option_and_then};
-ghost use Rattle.toml.specs.Data.{get_member, as_table};
+ghost use Rattle.std.specs.Prelude.{◌≡◌, ◌∷◌, [], true, IfOk, Some, option_copied, codes};
+ghost use Rattle.std.specs.List.{list_all};
+ghost use Rattle.std.specs.Option.{option_map_or};
+ghost use Rattle.toml.specs.Data.{get_member};
 ghost use Rattle.toml.specs.View.{table_view, view};
-ghost use Rattle.way_profile.specs.Settings.{is_known, unknown_key, missing_key, is_between, is_text, is_speed, bad_at, bad_speed, bad_speeds, first_of, bad_value};
+ghost use Rattle.way_profile.specs.Settings.{is_between, is_penalty, is_text, is_name, is_text_list, is_side, bad_at, bad_entry, bad_table, bad_inside, first_of, bad_value};
 
 use crate::settings_tree::value_at;
 use road_base::Text;
 use std::alloc::{AllocError, Global};
 use toml::{Table, Value};
 
-fn is_known(key: &str) -> bool
-    ensures { result ≡ is_known key.now }
-{
-    matches!(
-        key,
-        "version" | "name" | "vehicle" | "speeds" | "u_turn_penalty"
-    )
-}
-
-// The first key that is no setting, in byte order.
-pub(crate) fn unknown_key(table: &Table) -> Option<&str>
-    ensures { option_copied result ≡ unknown_key (table_view table.now) }
-{
-    match first_unknown(table) {
-        Some(key) => Some(key.as_str()),
-        None => None,
-    }
-}
-
-fn first_unknown(table: &Table) -> Option<&String>
-    ensures { option_copied result ≡ find (λ k. not (is_known (string_bytes k))) (keys_of table.now.entries) }
-{
-    table.keys().find(|key| !is_known(key.as_str()))
-}
-
-// The first key that must be there and is not.
-pub(crate) fn missing_key(table: &Table) -> Option<&'static str>
-    ensures { option_copied result ≡ missing_key (table_view table.now) }
-{
-    if value_at(table, "name").is_none() {
-        Some("name")
-    } else if value_at(table, "vehicle").is_none() {
-        Some("vehicle")
-    } else if value_at(table, "speeds").is_none() {
-        Some("speeds")
-    } else {
-        None
-    }
-}
-
 // The first key with a bad value.
 pub(crate) fn bad_value(alloc: Global, table: &Table) -> Result<Option<Text>, AllocError>
     ensures { IfOk result (λ key. key ≡ bad_value (table_view table.now)) }
 {
-    if let Some(key) = bad_before_speeds(table) {
+    if let Some(key) = bad_name(table) {
         return Ok(Some(Text::copy_of(alloc, key)?));
     }
-    if let Some(key) = bad_speeds(alloc, table)? {
+    if let Some(key) = bad_inside(alloc, table, "speeds", 1, 1000)? {
         return Ok(Some(key));
     }
-    if let Some(key) = bad_after_speeds(table) {
+    if let Some(key) = bad_list(table) {
         return Ok(Some(Text::copy_of(alloc, key)?));
     }
-    Ok(None)
+    if let Some(key) = bad_inside(alloc, table, "turn_penalty", 0, 1_000_000)? {
+        return Ok(Some(key));
+    }
+    match bad_after_tables(table) {
+        Some(key) => Ok(Some(Text::copy_of(alloc, key)?)),
+        None => Ok(None),
+    }
 }
 
-// The first of the settings before `speeds` that has a bad value.
-fn bad_before_speeds(table: &Table) -> Option<&'static str>
+// The first of `version` and the names that has a bad value.
+fn bad_name(table: &Table) -> Option<&'static str>
     ensures { option_copied result ≡ first_of (
         bad_at (is_between 1 1) (codes "version") (table_view table.now)
-        ∷ bad_at is_text (codes "name") (table_view table.now)
-        ∷ bad_at is_text (codes "vehicle") (table_view table.now)
+        ∷ bad_at is_name (codes "name") (table_view table.now)
+        ∷ bad_at is_name (codes "vehicle") (table_view table.now)
         ∷ []) }
 {
     if !is_number_at(table, "version", 1, 1) {
         Some("version")
-    } else if !is_text_at(table, "name") {
+    } else if !is_name_at(table, "name") {
         Some("name")
-    } else if !is_text_at(table, "vehicle") {
+    } else if !is_name_at(table, "vehicle") {
         Some("vehicle")
     } else {
         None
     }
 }
 
-// The key of `speeds`, if it is no table, or of the first value in it that is no speed.
-fn bad_speeds(alloc: Global, table: &Table) -> Result<Option<Text>, AllocError>
-    ensures { IfOk result (λ key. key ≡ bad_speeds (get_member (codes "speeds") (table_view table.now))) }
+// The first of the lists that is no list of texts.
+fn bad_list(table: &Table) -> Option<&'static str>
+    ensures { option_copied result ≡ first_of (
+        bad_at is_text_list (codes "access_keys") (table_view table.now)
+        ∷ bad_at is_text_list (codes "denied") (table_view table.now)
+        ∷ bad_at is_text_list (codes "barriers") (table_view table.now)
+        ∷ []) }
 {
-    let Some(speeds) = speeds_table(table) else {
-        return Ok(Some(Text::copy_of(alloc, "speeds")?));
-    };
-    match bad_speed(speeds) {
-        Some(key) => Ok(Some(Text::of(format!(in alloc; "speeds.{key}")?))),
+    if !is_text_list_at(table, "access_keys") {
+        Some("access_keys")
+    } else if !is_text_list_at(table, "denied") {
+        Some("denied")
+    } else if !is_text_list_at(table, "barriers") {
+        Some("barriers")
+    } else {
+        None
+    }
+}
+
+// The first of the settings after `turn_penalty` that has a bad value.
+fn bad_after_tables(table: &Table) -> Option<&'static str>
+    ensures { option_copied result ≡ first_of (
+        bad_at is_penalty (codes "u_turn_penalty") (table_view table.now)
+        ∷ bad_at is_penalty (codes "signal_penalty") (table_view table.now)
+        ∷ bad_at is_side (codes "driving_side") (table_view table.now)
+        ∷ []) }
+{
+    if !is_number_at(table, "u_turn_penalty", 0, 1_000_000) {
+        Some("u_turn_penalty")
+    } else if !is_number_at(table, "signal_penalty", 0, 1_000_000) {
+        Some("signal_penalty")
+    } else if !is_side_at(table, "driving_side") {
+        Some("driving_side")
+    } else {
+        None
+    }
+}
+
+// Of a table of whole numbers at a key, if it is there: the key if it is no table, or the first key in it
+// whose value is not in the range.
+fn bad_inside(
+    alloc: Global,
+    table: &Table,
+    key: &str,
+    least: u32,
+    greatest: u32,
+) -> Result<Option<Text>, AllocError>
+    ensures { IfOk result (λ found. found ≡ bad_inside (is_between least greatest) key.now (table_view table.now)) }
+{
+    match value_at(table, key) {
+        Some(value) => bad_table(alloc, key, value, least, greatest),
         None => Ok(None),
     }
 }
 
-// The table of speeds.
-pub(crate) fn speeds_table(table: &Table) -> Option<&Table>
-    ensures { option_map (λ t. table_view t.now) result ≡ option_and_then as_table (get_member (codes "speeds") (table_view table.now)) }
+fn bad_table(
+    alloc: Global,
+    key: &str,
+    value: &Value,
+    least: u32,
+    greatest: u32,
+) -> Result<Option<Text>, AllocError>
+    ensures { IfOk result (λ found. found ≡ bad_table (is_between least greatest) key.now (Some (view value.now))) }
 {
-    match value_at(table, "speeds") {
-        Some(value) => value.as_table(),
-        None => None,
+    let Some(members) = value.as_table() else {
+        return Ok(Some(Text::copy_of(alloc, key)?));
+    };
+    match bad_entry(members, least, greatest) {
+        Some(inner) => Ok(Some(Text::of(format!(in alloc; "{key}.{inner}")?))),
+        None => Ok(None),
     }
 }
 
-// The key of the first value that is no speed.
-fn bad_speed(speeds: &Table) -> Option<&str>
-    ensures { option_copied result ≡ bad_speed (table_view speeds.now) }
+// The key of the first value that is not a whole number in the range.
+fn bad_entry(members: &Table, least: u32, greatest: u32) -> Option<&str>
+    ensures { option_copied result ≡ bad_entry (is_between least greatest) (table_view members.now) }
 {
-    for (key, value) in speeds.iter() {
-        if !is_number_between(value, 1, 1000) {
+    for (key, value) in members.iter() {
+        if !is_number_between(value, least, greatest) {
             return Some(key.as_str());
         }
     }
     None
-}
-
-// The first of the settings after `speeds` that has a bad value.
-fn bad_after_speeds(table: &Table) -> Option<&'static str>
-    ensures { option_copied result ≡ bad_at (is_between 0 1000000) (codes "u_turn_penalty") (table_view table.now) }
-{
-    if is_number_at(table, "u_turn_penalty", 0, 1_000_000) {
-        None
-    } else {
-        Some("u_turn_penalty")
-    }
 }
 
 // Whether the value at a key, if there is one, is a whole number in a range.
@@ -144,11 +149,31 @@ fn is_number_at(table: &Table, key: &str, least: u32, greatest: u32) -> bool
 }
 
 // Whether the value at a key, if there is one, is a text that is not empty.
-fn is_text_at(table: &Table, key: &str) -> bool
-    ensures { result ≡ option_map_or is_text (get_member key.now (table_view table.now)) true }
+fn is_name_at(table: &Table, key: &str) -> bool
+    ensures { result ≡ option_map_or is_name (get_member key.now (table_view table.now)) true }
 {
     match value_at(table, key) {
-        Some(value) => is_text(value),
+        Some(value) => is_name(value),
+        None => true,
+    }
+}
+
+// Whether the value at a key, if there is one, is a list of texts.
+fn is_text_list_at(table: &Table, key: &str) -> bool
+    ensures { result ≡ option_map_or is_text_list (get_member key.now (table_view table.now)) true }
+{
+    match value_at(table, key) {
+        Some(value) => is_text_list(value),
+        None => true,
+    }
+}
+
+// Whether the value at a key, if there is one, is a side of the road.
+fn is_side_at(table: &Table, key: &str) -> bool
+    ensures { result ≡ option_map_or is_side (get_member key.now (table_view table.now)) true }
+{
+    match value_at(table, key) {
+        Some(value) => is_side(value),
         None => true,
     }
 }
@@ -162,11 +187,35 @@ fn is_number_between(value: &Value, least: u32, greatest: u32) -> bool
     }
 }
 
-fn is_text(value: &Value) -> bool
-    ensures { result ≡ is_text (view value.now) }
+fn is_name(value: &Value) -> bool
+    ensures { result ≡ is_name (view value.now) }
 {
     match value.as_str() {
         Some(text) => !text.is_empty(),
+        None => false,
+    }
+}
+
+fn is_text_list(value: &Value) -> bool
+    ensures { result ≡ is_text_list (view value.now) }
+{
+    match value.as_array() {
+        Some(values) => are_texts(values),
+        None => false,
+    }
+}
+
+fn are_texts(values: &[Value]) -> bool
+    ensures { result ≡ list_all (λ v. is_text (view v)) values.now }
+{
+    values.iter().all(|value| value.is_str())
+}
+
+fn is_side(value: &Value) -> bool
+    ensures { result ≡ is_side (view value.now) }
+{
+    match value.as_str() {
+        Some(text) => text == "right" || text == "left",
         None => false,
     }
 }

@@ -6,9 +6,11 @@ ghost use Rattle.way_profile.specs.declared.settings_faults.SettingsFault.TheVar
 use road_base::Text;
 use std::alloc::AllocError;
 
-/// Why a settings file is refused. Of several faults the first is told: no TOML, unknown keys in byte
-/// order, missing keys and then bad values, both in the order `version`, `name`, `vehicle`, `speeds`,
-/// `u_turn_penalty`; inside `speeds` in byte order, with the key `speeds.KEY`.
+/// Why a settings file is refused. Of several faults the first is told: no TOML; unknown keys in byte
+/// order, those of the file before those of `turn_penalty`; missing keys; and bad values. The last two
+/// stand in the order `version`, `name`, `vehicle`, `speeds`, `access_keys`, `denied`, `barriers`,
+/// `turn_penalty`, `u_turn_penalty`, `signal_penalty`, `driving_side`, and inside a table in byte order. A
+/// key inside a table is told with the table's, as `speeds.residential`; of a list the list's key is told.
 #[derive(Debug, Drop)]
 pub enum SettingsFault {
     /// The bytes are no TOML text.

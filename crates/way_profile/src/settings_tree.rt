@@ -1,7 +1,8 @@
 //! The tree of a settings file.
 
 ghost use Rattle.std.specs.Prelude.{◌≡◌, Some, None, IfOk, IfErr, option_map};
-ghost use Rattle.toml.specs.Data.{get_member};
+ghost use Rattle.std.specs.Option.{option_and_then};
+ghost use Rattle.toml.specs.Data.{get_member, as_table};
 ghost use Rattle.toml.specs.View.{table_view, view};
 ghost use Rattle.way_profile.specs.Settings.{tree_of, IsTreeFault};
 
@@ -34,4 +35,14 @@ pub(crate) fn value_at<'a>(table: &'a Table, key: &str) -> Option<&'a Value>
     ensures { option_map (λ v. view v.now) result ≡ get_member key.now (table_view table.now) }
 {
     table.get(key)
+}
+
+// The table at a key.
+pub(crate) fn table_at<'a>(table: &'a Table, key: &str) -> Option<&'a Table>
+    ensures { option_map (λ t. table_view t.now) result ≡ option_and_then as_table (get_member key.now (table_view table.now)) }
+{
+    match value_at(table, key) {
+        Some(value) => value.as_table(),
+        None => None,
+    }
 }

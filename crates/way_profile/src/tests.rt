@@ -1,11 +1,11 @@
 //! Worked settings and ways; expected values are from this project's rules.
 
 use crate::{Profile, SettingsFault, WayUse};
-use road_base::{Tags, Text};
+use road_base::{Modifier, Tags, Text};
 use std::alloc::{AllocError, Global};
 
 const CAR: &str =
-    "name = \"car\"\nvehicle = \"motorcar\"\nu_turn_penalty = 200\n[speeds]\nresidential = 40\nmotorway = 130\n";
+    "name = \"car\"\nvehicle = \"motorcar\"\naccess_keys = [\"motor_vehicle\", \"access\"]\ndenied = [\"no\", \"private\"]\nbarriers = [\"bollard\", \"gate\"]\nu_turn_penalty = 200\nsignal_penalty = 25\ndriving_side = \"left\"\n[speeds]\nresidential = 40\nmotorway = 130\n[turn_penalty]\nstraight = 1\nslight_right = 2\nright = 3\nsharp_right = 4\nuturn = 5\nsharp_left = 6\nleft = 7\nslight_left = 8\n";
 
 // What reading these settings tells: `Ok`, or the fault and its key.
 fn told(alloc: Global, settings: &[u8]) -> Result<String, AllocError> {
@@ -21,7 +21,7 @@ fn told(alloc: Global, settings: &[u8]) -> Result<String, AllocError> {
 
 #[test]
 fn the_first_fault_of_settings_is_told(rt: HostRuntime) -> Result<(), AllocError> {
-    let cases: [(&[u8], &str); 14] = [
+    let cases: [(&[u8], &str); 17] = [
         (CAR.as_bytes(), "Ok"),
         (b"", "Missing name"),
         (
@@ -31,6 +31,7 @@ fn the_first_fault_of_settings_is_told(rt: HostRuntime) -> Result<(), AllocError
         (b"\xff", "NotToml"),
         (b"name = ", "NotToml"),
         (b"colour = 1\n", "UnknownKey colour"),
+        (b"[turn_penalty]\nup = 1\n", "UnknownKey turn_penalty.up"),
         (b"zoom = 1\ncolour = 1\n", "UnknownKey colour"),
         (b"name = 5\nvehicle = \"a\"\n[speeds]\n", "BadValue name"),
         (b"name = \"\"\nvehicle = \"a\"\n[speeds]\n", "BadValue name"),
@@ -41,6 +42,14 @@ fn the_first_fault_of_settings_is_told(rt: HostRuntime) -> Result<(), AllocError
         (
             b"name = \"a\"\nvehicle = \"a\"\nspeeds = 3\n",
             "BadValue speeds",
+        ),
+        (
+            b"name = \"a\"\nvehicle = \"a\"\n[speeds]\nresidential = 0\n",
+            "BadValue speeds.residential",
+        ),
+        (
+            b"name = \"a\"\nvehicle = \"a\"\naccess_keys = 1\n[speeds]\nprimary = true\n",
+            "BadValue speeds.primary",
         ),
         (
             b"name = \"a\"\nvehicle = \"a\"\n[speeds]\nresidential = 0\nprimary = 1001\n",
@@ -61,6 +70,87 @@ fn the_first_fault_of_settings_is_told(rt: HostRuntime) -> Result<(), AllocError
     Ok(())
 }
 
+#[test]
+fn the_first_fault_of_optional_settings_is_told(rt: HostRuntime) -> Result<(), AllocError> {
+    let cases: [(&str, &str); 21] = [
+        ("", "Ok"),
+        ("access_keys = [\"motorcar\"]\ndenied = []", "Ok"),
+        ("access_keys = \"access\"", "BadValue access_keys"),
+        ("denied = 1\naccess_keys = [1]", "BadValue access_keys"),
+        ("barriers = 1\ndenied = [\"no\", 1]", "BadValue denied"),
+        ("turn_penalty = 5\nbarriers = true", "BadValue barriers"),
+        (
+            "u_turn_penalty = -1\nturn_penalty = 5",
+            "BadValue turn_penalty",
+        ),
+        ("turn_penalty = { up = 1 }", "UnknownKey turn_penalty.up"),
+        (
+            "turn_penalty = { up = 1, left = -1 }",
+            "UnknownKey turn_penalty.up",
+        ),
+        ("turn_penalty = { up = 1 }\nzoom = 1", "UnknownKey zoom"),
+        (
+            "turn_penalty = { right = 1000001, left = -1 }",
+            "BadValue turn_penalty.left",
+        ),
+        (
+            "turn_penalty = { right = 1000001, left = 0 }",
+            "BadValue turn_penalty.right",
+        ),
+        ("turn_penalty = { right = 1000000, left = 0 }", "Ok"),
+        (
+            "signal_penalty = 1\nu_turn_penalty = \"a\"",
+            "BadValue u_turn_penalty",
+        ),
+        (
+            "driving_side = 1\nsignal_penalty = 0.5",
+            "BadValue signal_penalty",
+        ),
+        ("signal_penalty = 1000001", "BadValue signal_penalty"),
+        ("signal_penalty = 1000000\ndriving_side = \"right\"", "Ok"),
+        ("driving_side = \"left\"", "Ok"),
+        ("driving_side = \"Left\"", "BadValue driving_side"),
+        ("driving_side = true", "BadValue driving_side"),
+        ("version = 1", "Ok"),
+    ];
+    for (setting, want) in cases {
+        let settings = format!(in rt.alloc();
+            "name = \"a\"\nvehicle = \"a\"\n{setting}\n[speeds]\n"
+        )?;
+        assert_eq!(rt; told(rt.alloc(), settings.as_bytes())?.as_str(), want);
+    }
+    Ok(())
+}
+
+#[test]
+fn each_setting_has_its_answer(rt: HostRuntime) -> Result<(), AllocError> {
+    let read = Profile::read(rt.alloc(), CAR.as_bytes())
+        .ok()
+        .expect(&rt, "good settings");
+    let profile = read.try_clone(rt.alloc())?;
+    assert_eq!(rt; profile.name(), "car");
+    assert_eq!(rt; profile.vehicle(), "motorcar");
+    assert!(rt; profile.barrier("gate"));
+    assert!(rt; !profile.barrier("stile"));
+    assert_eq!(rt; profile.u_turn(), 200);
+    assert_eq!(rt; profile.signal(), 25);
+    assert!(rt; profile.left_side());
+    let penalties = [
+        (Modifier::Straight, 1),
+        (Modifier::SlightRight, 2),
+        (Modifier::Right, 3),
+        (Modifier::SharpRight, 4),
+        (Modifier::Uturn, 5),
+        (Modifier::SharpLeft, 6),
+        (Modifier::Left, 7),
+        (Modifier::SlightLeft, 8),
+    ];
+    for (modifier, penalty) in penalties {
+        assert_eq!(rt; profile.penalty(modifier), penalty);
+    }
+    Ok(())
+}
+
 fn tags(alloc: Global, pairs: &[(&str, &str)]) -> Result<Tags, AllocError> {
     let mut list = Vec::new(alloc);
     for (key, value) in pairs {
@@ -72,14 +162,10 @@ fn tags(alloc: Global, pairs: &[(&str, &str)]) -> Result<Tags, AllocError> {
 #[test]
 fn ways_are_used_by_their_tags(rt: HostRuntime) -> Result<(), AllocError> {
     let alloc = rt.alloc();
-    let read = Profile::read(alloc, CAR.as_bytes())
+    let profile = Profile::read(alloc, CAR.as_bytes())
         .ok()
         .expect(&rt, "good settings");
-    let profile = read.try_clone(alloc)?;
-    assert_eq!(rt; profile.name(), "car");
-    assert_eq!(rt; profile.vehicle(), "motorcar");
-    assert_eq!(rt; profile.u_turn(), 200);
-    let cases: [(&[(&str, &str)], bool, bool, u32); 9] = [
+    let cases: [(&[(&str, &str)], bool, bool, u32); 13] = [
         (&[("highway", "residential")], true, true, 40_000),
         (&[("highway", "footway")], false, false, 0),
         (&[("name", "Main Street")], false, false, 0),
@@ -117,6 +203,38 @@ fn ways_are_used_by_their_tags(rt: HostRuntime) -> Result<(), AllocError> {
             false,
             true,
             130_000,
+        ),
+        (
+            &[("highway", "residential"), ("access", "no")],
+            false,
+            false,
+            0,
+        ),
+        (
+            &[("highway", "residential"), ("access", "destination")],
+            true,
+            true,
+            40_000,
+        ),
+        (
+            &[
+                ("access", "no"),
+                ("highway", "residential"),
+                ("motor_vehicle", "yes"),
+            ],
+            true,
+            true,
+            40_000,
+        ),
+        (
+            &[
+                ("access", "yes"),
+                ("highway", "residential"),
+                ("motor_vehicle", "private"),
+            ],
+            false,
+            false,
+            0,
         ),
     ];
     for (pairs, forward, backward, speed) in cases {

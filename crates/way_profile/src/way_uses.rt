@@ -1,7 +1,8 @@
 //! How a vehicle may use a way.
 
 ghost use Rattle.std.specs.Prelude.{◌≡◌, ◌∷◌, []};
-ghost use Rattle.way_profile.specs.WayTags.{speed_of, says, is_backward_only, is_forward_only, is_oneway, has_other_oneway, is_forward_by_kind};
+ghost use Rattle.way_profile.specs.Words.{is_among};
+ghost use Rattle.way_profile.specs.WayTags.{is_denied, values_at, speed_of, says, is_backward_only, is_forward_only, is_oneway, has_other_oneway, is_forward_by_kind};
 
 use road_base::{Tags, Text};
 
@@ -14,6 +15,25 @@ pub struct WayUse {
     /// Against it.
     pub backward: bool,
     pub speed: u32,
+}
+
+// Whether a text is one of these words.
+pub(crate) fn is_among(words: &[Text], text: &str) -> bool
+    ensures { result ≡ is_among words.now text.now }
+{
+    words.iter().any(|word| text == word.as_str())
+}
+
+// Whether the first of these keys that a way carries has a value that is denied.
+pub(crate) fn is_denied(tags: &Tags, keys: &[Text], denied: &[Text]) -> bool
+    ensures { result ≡ is_denied denied.now (values_at tags.now keys.now) }
+{
+    for key in keys {
+        if let Some(value) = tags.get(key.as_str()) {
+            return is_among(denied, value);
+        }
+    }
+    false
 }
 
 // The speed of a value of `highway`.

@@ -13,7 +13,7 @@ loop-highway-init c =
     let all : c.into_iter-highway-iterator.result ≡ c.args.speeds.now.entries = search rules in
     record {
       made = ap (λ made. made ++ map speed_entry c.into_iter-highway-iterator.result) c.new-list.ensures.items ∙ ap (map speed_entry) all;
-      good = ap (λ es. find (λ (e : Entry). not (is_speed (view e.1))) es) all ∙ no_bad_entry c.args.speeds.now.entries c.requires;
+      good = ap (λ es. find (λ (e : Entry). not (is_speed (view e.1))) es) all ∙ no_bad_entry is_speed c.args.speeds.now.entries c.requires;
     }
 
 pub returns-clause-list : goal.returns-clause-list
@@ -32,4 +32,4 @@ returns-clause-range c =
     ∙ c.loop-highway.invariant.made
     in
     subst (λ (xs : List (List ℕ × ℕ)). All (λ e. IsSpeed e.1) xs) (sym made)
-    (speeds_in_range c.args.speeds.now.entries (no_bad_entry c.args.speeds.now.entries c.requires))
+    (speeds_in_range c.args.speeds.now.entries (no_bad_entry is_speed c.args.speeds.now.entries c.requires))

@@ -1,0 +1,16 @@
+//! The turn restrictions of a map: which turns each forbids to a vehicle, by its ways and its node.
+//! Where these lie, and which segments they have, is not looked at here.
+#![tactic(auto)]
+
+mod exceptions;
+mod map_rules;
+mod members;
+mod restrictions;
+mod rule_lists;
+mod senses;
+
+pub use map_rules::rules;
+pub use rule_lists::Rules;
+
+#[cfg(test)]
+mod tests;

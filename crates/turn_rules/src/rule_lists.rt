@@ -1,0 +1,74 @@
+//! The turn restrictions that a vehicle has to obey.
+
+ghost use Rattle.std.specs.Prelude.{◌≡◌, ◌<◌, ◌++◌, Some, length, option_map};
+ghost use Rattle.std.specs.List.{slice_get};
+ghost use Rattle.turn_rules.specs.Rules.{forbids};
+
+use crate::restrictions::Restriction;
+use std::marker::Model;
+
+/// The turn restrictions of a map that one vehicle has to obey, and how many others are ignored. Contracts
+/// see the rules and that number.
+#[derive(Drop, Debug)]
+pub struct Rules {
+    kept: Vec<Restriction>,
+    ignored: u64,
+}
+
+impl Model for Rules {
+    ghost use Rattle.turn_rules.specs.Rules.{RulesView};
+
+    ghost Value = { RulesView };
+
+    ghost view = { λ r. record { kept = r.kept.items; ignored = r.ignored } };
+}
+
+impl Rules {
+    // The list of these.
+    pub(crate) fn of(kept: Vec<Restriction>, ignored: u64) -> Rules
+        ensures { result ≡ record { kept = kept.items; ignored = ignored } }
+    {
+        Rules { kept, ignored }
+    }
+
+    /// How many restrictions there are. They are numbered from 0 in the order of the objects.
+    pub fn count(&self) -> u64
+        ensures { result ≡ length self.now.kept }
+    {
+        self.kept.len() as u64
+    }
+
+    /// The id of the node at which restriction `i` forbids turns.
+    pub fn via(&self, i: u64) -> i64
+        requires { i < length self.now.kept }
+        ensures { option_map (λ rule. rule.via) (slice_get self.now.kept i) ≡ Some result }
+    {
+        self.kept[i as usize].via()
+    }
+
+    /// The ids of the ways of restriction `i` in the role `from`, and behind them those in the role `to`.
+    pub fn ways(&self, i: u64) -> &[i64]
+        requires { i < length self.now.kept }
+        ensures { option_map (λ rule. rule.from ++ rule.to) (slice_get self.now.kept i) ≡ Some result.now }
+    {
+        self.kept[i as usize].ways()
+    }
+
+    /// Whether restriction `i` forbids the turn at its node from a way to a way; `back` says that the turn
+    /// goes back onto its own segment. A `no_` restriction forbids the turns from its `from` ways onto its
+    /// `to` ways, but `no_u_turn` from a way onto itself only those that go back; an `only_` restriction
+    /// forbids the turns from its `from` way onto all other ways than its `to` way.
+    pub fn forbids(&self, i: u64, from: i64, to: i64, back: bool) -> bool
+        requires { i < length self.now.kept }
+        ensures { option_map (λ rule. forbids rule from to back) (slice_get self.now.kept i) ≡ Some result }
+    {
+        self.kept[i as usize].forbids(from, to, back)
+    }
+
+    /// How many restrictions are ignored, since their value or their members are faulty.
+    pub fn ignored(&self) -> u64
+        ensures { result ≡ self.now.ignored }
+    {
+        self.ignored
+    }
+}

@@ -1,0 +1,11 @@
+-- The first key of the map that names no turn is that of the members.
+use Rattle.std.proofs.Common.{Some, option_map, string_bytes, ap, ◌∙◌}
+use Rattle.way_profile.specs.Settings.{turn_keys}
+use Rattle.way_profile.proofs.Entries.{key_beside-entries}
+use Rattle.way_profile.proofs.settings_keys.unknown_turn.Goals as goal
+
+pub returns-in-Some : goal.returns-in-Some
+returns-in-Some c = ap Some c.as_str.ensures.value ∙ ap (option_map (λ k. string_bytes k)) c.in-Some.ensures ∙ key_beside-entries turn_keys c.args.penalties.now.entries
+
+pub returns-in-None : goal.returns-in-None
+returns-in-None c = ap (option_map (λ k. string_bytes k)) c.in-None.ensures ∙ key_beside-entries turn_keys c.args.penalties.now.entries
