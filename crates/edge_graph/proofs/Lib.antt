@@ -1,3 +1,5 @@
+pub mod ChainLemmas
+pub mod RuleLemmas
 pub mod NetworkLemmas
 pub mod FanLemmas
 pub mod RouteLemmas

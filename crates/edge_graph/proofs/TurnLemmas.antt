@@ -1,8 +1,9 @@
 -- The turns from a vertex and its exits, by the vertices that leave its head.
-use Rattle.std.proofs.Common.{◌≡◌, ℕ, zero, suc, ◌+◌, ◌-◌, ◌*◌, ◌/◌, ◌<◌, ◌≤◌, ◌%◌, inl, inr, List, [], ◌∷◌, ◌++◌, length, drop, map, filter, Option, Some, Bool, true, false, cond, not, arith, refl, sym, ap, subst, ◌∙◌, ◌&&◌, ◌||◌, append_assoc}
+use Rattle.std.proofs.Common.{◌≡◌, ℕ, ℤ, zero, suc, ◌+◌, ◌-◌, ◌*◌, ◌/◌, ◌<◌, ◌≤◌, ◌%◌, inl, inr, List, [], ◌∷◌, ◌++◌, length, drop, map, filter, Option, Some, Bool, true, false, cond, not, arith, refl, sym, ap, subst, ◌∙◌, ◌&&◌, ◌||◌, append_assoc}
 use Rattle.std.specs.Prelude.{◌==◌}
-use Rattle.std.specs.List.{enumerate_from, slice_get, flat_map}
+use Rattle.std.specs.List.{enumerate_from, slice_get, flat_map, list_any}
 use Rattle.std.specs.Option.{option_map_or}
+use Rattle.std.specs.Ordering.{int_eq}
 use Rattle.std.proofs.lemmas.Bool.{cases_eq}
 use Rattle.std.proofs.lemmas.Bool.Decides.{nat_tests, Decides-int_eq}
 use Rattle.std.proofs.lemmas.List.{append-nil, length-map}
@@ -10,11 +11,15 @@ use Rattle.std.proofs.Math.ListN.{drop_of_length-le}
 use Rattle.std.proofs.lemmas.List.Sums.{length-filter}
 use Rattle.std.proofs.lemmas.Option.{same_Some, slice_get_within}
 use Rattle.search_graph.proofs.Gets.{get_some}
-use Rattle.edge_graph.specs.Fans.{IsChain, leavers, turns_at}
+use Rattle.turn_rules.specs.Rules.{Rule, forbids}
+use Rattle.edge_graph.specs.Chains.{IsChain}
+use Rattle.edge_graph.specs.Fans.{leavers, turns_at}
+use Rattle.edge_graph.specs.Restrictions.{is_forbidden, is_forbidden_at}
 use Rattle.edge_graph.specs.Segment.{Segment}
-use Rattle.edge_graph.specs.Turn.{exits, exits_at, is_turn, leaves, numbered, turns, turns_from}
+use Rattle.edge_graph.specs.Turn.{exits, exits_at, is_turn, is_way_on, leaves, numbered, turns, turns_from}
+use Rattle.edge_graph.specs.TurnParts.{is_ruled, may_turn_back, may_turn_on, must_turn_back, turns_on}
 use Rattle.edge_graph.specs.Vertex.{Vertex, against, along, opposite, vertices}
-use Rattle.edge_graph.proofs.FanLemmas.{IsChain-lower}
+use Rattle.edge_graph.proofs.ChainLemmas.{IsChain-lower}
 use Rattle.edge_graph.proofs.WayLemmas.{drop-get}
 use Rattle.edge_graph.proofs.VertexLemmas.{length-vertices, vertices-even, vertices-odd}
 
@@ -94,17 +99,72 @@ filter-none : {X : Type 0} (p : X → Bool) → ((x : X) → p x ≡ false) → 
 filter-none p h [] = refl
 filter-none {X} p h (x ∷ xs) = ap (λ (b : Bool). cond b (x ∷ filter p xs) (filter p xs)) (h x) ∙ filter-none p h xs
 
-filter-all : {X : Type 0} (p : X → Bool) → ((x : X) → p x ≡ true) → (xs : List X) → filter p xs ≡ xs
-filter-all p h [] = refl
-filter-all {X} p h (x ∷ xs) = ap (λ (b : Bool). cond b (x ∷ filter p xs) (filter p xs)) (h x) ∙ ap (λ (ys : List X). x ∷ ys) (filter-all p h xs)
+-- two tests that agree on each vertex and its number
+filter-cong-from : (all : List Vertex) (p q : ℕ × Vertex → Bool) → ((n : ℕ) (z : Vertex) → slice_get all n ≡ Some z → p (n, z) ≡ q (n, z))
+    → (xs : List Vertex) (b : ℕ) → ((k : ℕ) (z : Vertex) → slice_get xs k ≡ Some z → slice_get all (b + k) ≡ Some z) → filter p (enumerate_from b xs) ≡ filter q (enumerate_from b xs)
+filter-cong-from all p q h [] b at = refl
+filter-cong-from all p q h (x ∷ xs) b at =
+    let here : slice_get all b ≡ Some x = subst (λ (n : ℕ). slice_get all n ≡ Some x) (omega arith) (at 0 x refl) in
+    ap (λ (c : Bool). cond c ((b, x) ∷ filter p (enumerate_from (b + 1) xs)) (filter p (enumerate_from (b + 1) xs))) (h b x here)
+    ∙ ap (λ (ys : List (ℕ × Vertex)). cond (q (b, x)) ((b, x) ∷ ys) ys)
+    (filter-cong-from all p q h xs (b + 1) (λ k z e. subst (λ (n : ℕ). slice_get all n ≡ Some z) (omega arith) (at (suc k) z e)))
 
-or-true : (b : Bool) → (b || true) ≡ true
-or-true true = refl
-or-true false = refl
+filter-cong-numbered : (vs : List Vertex) (p q : ℕ × Vertex → Bool) → ((n : ℕ) (z : Vertex) → slice_get vs n ≡ Some z → p (n, z) ≡ q (n, z)) → filter p (numbered vs) ≡ filter q (numbered vs)
+filter-cong-numbered vs p q h = filter-cong-from vs p q h vs 0 (λ k z e. subst (λ (n : ℕ). slice_get vs n ≡ Some z) (omega arith) e)
 
-or-false : (b : Bool) → (b || false) ≡ b
-or-false true = refl
-or-false false = refl
+module _ (q : ℕ × Vertex → Bool) where
+  -- a number below all others is none of them
+  only-above : (vs : List Vertex) (b k : ℕ) → k < b → filter (λ e. (e.0 == k) && q e) (enumerate_from b vs) ≡ []
+  only-above [] b k h = refl
+  only-above (x ∷ vs) b k h =
+      let apart : (b == k) ≡ false = grind (arith, nat_tests) in
+      ap (λ (c : Bool). cond (c && q (b, x)) ((b, x) ∷ filter (λ e. (e.0 == k) && q e) (enumerate_from (b + 1) vs)) (filter (λ e. (e.0 == k) && q e) (enumerate_from (b + 1) vs))) apart
+      ∙ only-above vs (b + 1) k (omega arith)
+
+  -- the vertex of one number, if it passes the test
+  only-one : (vs : List Vertex) (b k n : ℕ) (y : Vertex) → n ≡ b + k → slice_get vs k ≡ Some y
+      → filter (λ e. (e.0 == n) && q e) (enumerate_from b vs) ≡ cond (q (n, y)) ((n, y) ∷ []) []
+  only-one [] b k n y at e = cc
+  only-one (x ∷ vs) b zero n y at e =
+      let same : b ≡ n = omega arith in
+      let found : (b == n) ≡ true = grind (arith, nat_tests) in
+      let its : x ≡ y = same_Some x y e in
+      let rest = filter (λ (f : ℕ × Vertex). (f.0 == n) && q f) (enumerate_from (b + 1) vs) in
+      ap (λ (c : Bool). cond (c && q (b, x)) ((b, x) ∷ rest) rest) found
+      ∙ ap (λ (es : List (ℕ × Vertex)). cond (q (b, x)) ((b, x) ∷ es) es) (only-above vs (b + 1) n (omega arith))
+      ∙ ap (λ (m : ℕ). cond (q (m, x)) ((m, x) ∷ []) []) same
+      ∙ ap (λ (z : Vertex). cond (q (n, z)) ((n, z) ∷ []) []) its
+  only-one (x ∷ vs) b (suc k) n y at e =
+      let apart : (b == n) ≡ false = grind (arith, nat_tests) in
+      let rest = filter (λ (f : ℕ × Vertex). (f.0 == n) && q f) (enumerate_from (b + 1) vs) in
+      ap (λ (c : Bool). cond (c && q (b, x)) ((b, x) ∷ rest) rest) apart ∙ only-one vs (b + 1) k n y (omega arith) e
+
+-- where all but one are left out, that one is left
+none-but : (p : ℕ × Vertex → Bool) (k : ℕ) (xs : List (ℕ × Vertex)) → length (filter (λ e. p e && not (e.0 == k)) xs) ≡ 0 → filter p xs ≡ filter (λ e. (e.0 == k) && p e) xs
+none-but p k [] h = refl
+none-but p k (x ∷ xs) h =
+    elim (p x) as (λ c. length (cond (c && not (x.0 == k)) (x ∷ filter (λ e. p e && not (e.0 == k)) xs) (filter (λ e. p e && not (e.0 == k)) xs)) ≡ 0
+    → cond c (x ∷ filter p xs) (filter p xs) ≡ cond ((x.0 == k) && c) (x ∷ filter (λ e. (e.0 == k) && p e) xs) (filter (λ e. (e.0 == k) && p e) xs)) [
+      | true ↦ elim (x.0 == k) as (λ d. length (cond (not d) (x ∷ filter (λ e. p e && not (e.0 == k)) xs) (filter (λ e. p e && not (e.0 == k)) xs)) ≡ 0
+          → x ∷ filter p xs ≡ cond (d && true) (x ∷ filter (λ e. (e.0 == k) && p e) xs) (filter (λ e. (e.0 == k) && p e) xs)) [
+            | true ↦ λ g. ap (λ (es : List (ℕ × Vertex)). x ∷ es) (none-but p k xs g)
+            | false ↦ λ g. absurd (omega (arith, g))
+          ]
+      | false ↦ elim (x.0 == k) as (λ d. length (filter (λ e. p e && not (e.0 == k)) xs) ≡ 0
+          → filter p xs ≡ cond (d && false) (x ∷ filter (λ e. (e.0 == k) && p e) xs) (filter (λ e. (e.0 == k) && p e) xs)) [
+            | true ↦ λ g. none-but p k xs g
+            | false ↦ λ g. none-but p k xs g
+          ]
+    ] h
+
+-- what no rule at the node forbids
+pub free : (rules : List Rule) (node from to : ℤ) (back : Bool) → list_any (λ rule. int_eq rule.via node) rules ≡ false → is_forbidden_at rules node from to back ≡ false
+free [] node from to back h = refl
+free (r ∷ rules) node from to back h =
+    elim (int_eq r.via node) as (λ c. (c || list_any (λ rule. int_eq rule.via node) rules) ≡ false → ((c && forbids r from to back) || is_forbidden_at rules node from to back) ≡ false) [
+      | true ↦ λ g. cc
+      | false ↦ λ g. free rules node from to back g
+    ] h
 
 and-true : (b : Bool) → (b && true) ≡ b
 and-true true = refl
@@ -115,22 +175,22 @@ opposite-is v b e = ap (λ (c : Bool). cond c (v + 1) (v - 1)) e
 
 -- the other direction of a vertex begins where the vertex ends
 pub opposite-get : (segments : List Segment) (v : ℕ) (x : Vertex) → slice_get (vertices segments) v ≡ Some x
-    → (y : Vertex) × (slice_get (vertices segments) (opposite v) ≡ Some y) × (y.tail ≡ x.head)
+    → (y : Vertex) × (slice_get (vertices segments) (opposite v) ≡ Some y) × (y.tail ≡ x.head) × (y.way ≡ x.way)
 opposite-get segments v x at =
     let within : v < length (vertices segments) = slice_get_within (vertices segments) v x at in
     let half : v / 2 < length segments = omega (arith, length-vertices segments) in
     let s = get_some segments (v / 2) half in
-    elim (cases_eq (v % 2) 0) as (λ _. (y : Vertex) × (slice_get (vertices segments) (opposite v) ≡ Some y) × (y.tail ≡ x.head)) [
+    elim (cases_eq (v % 2) 0) as (λ _. (y : Vertex) × (slice_get (vertices segments) (opposite v) ≡ Some y) × (y.tail ≡ x.head) × (y.way ≡ x.way)) [
       | inl even ↦
           let test : (v % 2 == 0) ≡ true = grind (arith, nat_tests) in
           let back : opposite v ≡ 2 * (v / 2) + 1 = opposite-is v true test ∙ omega arith in
           let same : along s.0 ≡ x = same_Some (along s.0) x (sym (vertices-even segments (v / 2) s.0 v s.1 (omega arith)) ∙ at) in
-          (against s.0, vertices-odd segments (v / 2) s.0 (opposite v) s.1 back, ap (λ (z : Vertex). z.head) same)
+          (against s.0, vertices-odd segments (v / 2) s.0 (opposite v) s.1 back, ap (λ (z : Vertex). z.head) same, ap (λ (z : Vertex). z.way) same)
       | inr odd ↦
           let test : (v % 2 == 0) ≡ false = grind (arith, nat_tests) in
           let back : opposite v ≡ 2 * (v / 2) = opposite-is v false test ∙ omega arith in
           let same : against s.0 ≡ x = same_Some (against s.0) x (sym (vertices-odd segments (v / 2) s.0 v s.1 (omega arith)) ∙ at) in
-          (along s.0, vertices-even segments (v / 2) s.0 (opposite v) s.1 back, ap (λ (z : Vertex). z.head) same)
+          (along s.0, vertices-even segments (v / 2) s.0 (opposite v) s.1 back, ap (λ (z : Vertex). z.head) same, ap (λ (z : Vertex). z.way) same)
     ]
 
 module _ (vs : List Vertex) (v : ℕ) (x y : Vertex) (at : slice_get vs v ≡ Some x) (back : slice_get vs (opposite v) ≡ Some y) (joins : y.tail ≡ x.head) where
@@ -149,48 +209,152 @@ module _ (vs : List Vertex) (v : ℕ) (x y : Vertex) (at : slice_get vs v ≡ So
         count-without (leaves x.head) vs 0 (opposite v) (opposite v) y (omega arith) back,
       )
 
-  -- the turns of a permitted vertex, by whether it is a dead end
-  pub turns-chosen : (dead : Bool) → x.permitted ≡ true → (exits vs v == 0) ≡ dead
-      → turns_at vs v ≡ map (λ e. (v, e.0)) (filter (λ e. not (e.0 == opposite v) || dead) (leavers vs x.head 0))
-  turns-chosen dead opened is_dead =
-      let test : (exits_at vs x.head v == 0) ≡ dead = ap (λ (n : ℕ). n == 0) (sym exits-at) ∙ is_dead in
-      ap (λ (o : Option Vertex). option_map_or (λ z. turns_from vs (v, z)) o []) at
+  -- a vertex that is not permitted has no turns
+  pub turns-none : (rules : List Rule) → x.permitted ≡ false → turns_at vs rules v ≡ []
+  turns-none rules closed =
+      ap (λ (o : Option Vertex). option_map_or (λ z. turns_from vs rules (v, z)) o []) at
       ∙ ap (λ (es : List (ℕ × Vertex)). map (λ e. (v, e.0)) es)
-      (ap (λ (b : Bool). filter (λ (e : ℕ × Vertex). b && (leaves x.head e && (not (e.0 == opposite v) || (exits_at vs x.head v == 0)))) (numbered vs)) opened
-      ∙ filter-both (leaves x.head) (λ e. not (e.0 == opposite v) || (exits_at vs x.head v == 0)) (numbered vs)
-      ∙ ap (λ (d : Bool). filter (λ (e : ℕ × Vertex). not (e.0 == opposite v) || d) (leavers vs x.head 0)) test)
+      (filter-none (is_turn vs rules (v, x)) (λ e. ap (λ (b : Bool). b && (leaves x.head e && (is_way_on vs (v, x) e.0 && not (is_forbidden rules (v, x) e)))) closed) (numbered vs))
 
-  -- a vertex that is not permitted has none
-  pub turns-none : x.permitted ≡ false → turns_at vs v ≡ []
-  turns-none closed =
-      ap (λ (o : Option Vertex). option_map_or (λ z. turns_from vs (v, z)) o []) at
-      ∙ ap (λ (es : List (ℕ × Vertex)). map (λ e. (v, e.0)) es)
-      (filter-none (is_turn vs (v, x)) (λ e. ap (λ (b : Bool). b && (leaves x.head e && (not (e.0 == opposite v) || (exits_at vs x.head v == 0)))) closed) (numbered vs))
+  module _ (rules : List Rule) where
+    -- the turns of a permitted vertex
+    turns-from : x.permitted ≡ true → turns_at vs rules v ≡ map (λ e. (v, e.0)) (filter (λ e. leaves x.head e && (is_way_on vs (v, x) e.0 && not (is_forbidden rules (v, x) e))) (numbered vs))
+    turns-from opened =
+        ap (λ (o : Option Vertex). option_map_or (λ z. turns_from vs rules (v, z)) o []) at
+        ∙ ap (λ (b : Bool). map (λ e. (v, e.0)) (filter (λ (e : ℕ × Vertex). b && (leaves x.head e && (is_way_on vs (v, x) e.0 && not (is_forbidden rules (v, x) e)))) (numbered vs))) opened
 
-  -- how many turns there are, without and with an exit
-  pub length-turns_dead : x.permitted ≡ true → exits vs v ≡ 0 → length (turns_at vs v) ≡ bit y.permitted
-  length-turns_dead opened none =
-      let dead : (exits vs v == 0) ≡ true = grind (arith, nat_tests) in
-      omega (
-        arith,
-        ap length (turns-chosen true opened dead),
-        exits-leaving,
-        length-map {B = ℕ × ℕ} (filter (λ e. not (e.0 == opposite v) || true) (leavers vs x.head 0)) (λ e. (v, e.0)),
-        ap length (filter-all (λ (e : ℕ × Vertex). not (e.0 == opposite v) || true) (λ e. or-true (not (e.0 == opposite v))) (leavers vs x.head 0)),
-      )
+    must-is : must_turn_back vs v ≡ ((exits_at vs x.head v == 0) || x.closed)
+    must-is =
+        ap (λ (n : ℕ). (n == 0) || option_map_or (λ z. z.closed) (slice_get vs v) false) exits-at
+        ∙ ap (λ (o : Option Vertex). (exits_at vs x.head v == 0) || option_map_or (λ z. z.closed) o false) at
 
-  pub length-turns_open : x.permitted ≡ true → 0 < exits vs v → length (turns_at vs v) ≡ exits vs v
-  length-turns_open opened some =
-      let dead : (exits vs v == 0) ≡ false = grind (arith, nat_tests) in
-      omega (
-        arith,
-        ap length (turns-chosen false opened dead),
-        exits-at,
-        length-map {B = ℕ × ℕ} (filter (λ e. not (e.0 == opposite v) || false) (leavers vs x.head 0)) (λ e. (v, e.0)),
-        ap length (filter-cong (λ (e : ℕ × Vertex). not (e.0 == opposite v) || false) (λ e. not (e.0 == opposite v)) (λ e. or-false (not (e.0 == opposite v))) (leavers vs x.head 0)
-            ∙ sym (filter-both (leaves x.head) (λ e. not (e.0 == opposite v)) (numbered vs))),
-        length-filter (λ e. leaves x.head e && not (e.0 == opposite v)) (numbered vs),
-      )
+    -- where it need not turn back, it goes on
+    way_on-by : (c d : Bool) (n : ℕ) → (exits_at vs x.head v == 0) ≡ c → x.closed ≡ d → (c || d) ≡ false → is_way_on vs (v, x) n ≡ not (n == opposite v)
+    way_on-by true d n e f g = cc
+    way_on-by false true n e f g = cc
+    way_on-by false false n e f g =
+        ap (λ (c : Bool). cond (n == opposite v) (c || x.closed) (not x.closed)) e
+        ∙ ap (λ (d : Bool). cond (n == opposite v) d (not d)) f
+        ∙ negated (n == opposite v)
+      where
+        negated : (b : Bool) → cond b false true ≡ not b
+        negated true = refl
+        negated false = refl
+
+    way_on-is : must_turn_back vs v ≡ false → (n : ℕ) → is_way_on vs (v, x) n ≡ not (n == opposite v)
+    way_on-is on n = way_on-by (exits_at vs x.head v == 0) x.closed n refl refl (sym must-is ∙ on)
+
+    on-is : (n : ℕ) (z : Vertex) → slice_get vs n ≡ Some z → may_turn_on vs rules v n ≡ (not (n == opposite v) && not (is_forbidden rules (v, x) (n, z)))
+    on-is n z has =
+        ap (λ (o : Option Vertex). not (n == opposite v) && option_map_or (λ u. option_map_or (λ w. not (is_forbidden rules (v, u) (n, w))) (slice_get vs n) false) o false) at
+        ∙ ap (λ (o : Option Vertex). not (n == opposite v) && option_map_or (λ w. not (is_forbidden rules (v, x) (n, w))) o false) has
+
+    turns_on-is : turns_on vs rules v ≡ map (λ e. (v, e.0)) (filter (λ e. may_turn_on vs rules v e.0) (leavers vs x.head 0))
+    turns_on-is = ap (λ (o : Option Vertex). option_map_or (λ z. map (λ e. (v, e.0)) (filter (λ e. may_turn_on vs rules v e.0) (leavers vs z.head 0))) o []) at
+
+    pub turns-on : x.permitted ≡ true → must_turn_back vs v ≡ false → turns_at vs rules v ≡ turns_on vs rules v
+    turns-on opened on =
+        turns-from opened
+        ∙ ap (map (λ e. (v, e.0)))
+        (filter-cong-numbered vs (λ e. leaves x.head e && (is_way_on vs (v, x) e.0 && not (is_forbidden rules (v, x) e))) (λ e. leaves x.head e && may_turn_on vs rules v e.0)
+        (λ n z has. ap (λ (b : Bool). leaves x.head (n, z) && (b && not (is_forbidden rules (v, x) (n, z)))) (way_on-is on n)
+        ∙ ap (λ (b : Bool). leaves x.head (n, z) && b) (sym (on-is n z has)))
+        ∙ filter-both (leaves x.head) (λ e. may_turn_on vs rules v e.0) (numbered vs))
+        ∙ sym turns_on-is
+
+    leaves-back : leaves x.head (opposite v, y) ≡ y.permitted
+    leaves-back = ap (λ (b : Bool). y.permitted && b) ((Decides-int_eq y.tail x.head).1 joins) ∙ and-true y.permitted
+
+    back-is : may_turn_back vs rules v ≡ (y.permitted && not (is_forbidden rules (v, x) (opposite v, y)))
+    back-is =
+        ap (λ (o : Option Vertex). option_map_or (λ u. option_map_or (λ w. w.permitted && not (is_forbidden rules (v, u) (opposite v, w))) (slice_get vs (opposite v)) false) o false) at
+        ∙ ap (λ (o : Option Vertex). option_map_or (λ w. w.permitted && not (is_forbidden rules (v, x) (opposite v, w))) o false) back
+
+    back-found : ((opposite v == opposite v) ≡ true)
+    back-found = grind (arith, nat_tests)
+
+    way_back : must_turn_back vs v ≡ true → is_way_on vs (v, x) (opposite v) ≡ true
+    way_back must =
+        ap (λ (b : Bool). cond b ((exits_at vs x.head v == 0) || x.closed) (not x.closed)) back-found ∙ sym must-is ∙ must
+
+    -- where the head is closed, only the way back is left
+    closed-test : x.closed ≡ true → (e : ℕ × Vertex)
+        → (leaves x.head e && (is_way_on vs (v, x) e.0 && not (is_forbidden rules (v, x) e))) ≡ ((e.0 == opposite v) && (leaves x.head e && not (is_forbidden rules (v, x) e)))
+    closed-test shut e =
+        ap (λ (d : Bool). leaves x.head e && (cond (e.0 == opposite v) ((exits_at vs x.head v == 0) || d) (not d) && not (is_forbidden rules (v, x) e))) shut
+        ∙ by-back (leaves x.head e) (e.0 == opposite v) (exits_at vs x.head v == 0) (not (is_forbidden rules (v, x) e))
+      where
+        by-back : (l b d f : Bool) → (l && (cond b (d || true) false && f)) ≡ (b && (l && f))
+        by-back true true true f = refl
+        by-back true true false f = refl
+        by-back true false d f = refl
+        by-back false true d f = refl
+        by-back false false d f = refl
+
+    -- the way back, by whether it is left
+    left-back : (es : List (ℕ × Vertex)) (q : Bool) → es ≡ cond q ((opposite v, y) ∷ []) [] → q ≡ may_turn_back vs rules v → map {A = ℕ × Vertex} {B = ℕ × ℕ} (λ e. (v, e.0)) es ≡ cond (may_turn_back vs rules v) ((v, opposite v) ∷ []) []
+    left-back es q e f = ap (map {A = ℕ × Vertex} {B = ℕ × ℕ} (λ e. (v, e.0))) e ∙ pushed q ∙ ap (λ (b : Bool). cond b ((v, opposite v) ∷ []) []) f
+      where
+        pushed : (b : Bool) → map {A = ℕ × Vertex} {B = ℕ × ℕ} (λ e. (v, e.0)) (cond b ((opposite v, y) ∷ []) []) ≡ cond b ((v, opposite v) ∷ []) []
+        pushed true = refl
+        pushed false = refl
+
+    turns-closed : x.permitted ≡ true → x.closed ≡ true → turns_at vs rules v ≡ cond (may_turn_back vs rules v) ((v, opposite v) ∷ []) []
+    turns-closed opened shut =
+        turns-from opened
+        ∙ left-back _ (leaves x.head (opposite v, y) && not (is_forbidden rules (v, x) (opposite v, y)))
+        (filter-cong (λ (e : ℕ × Vertex). leaves x.head e && (is_way_on vs (v, x) e.0 && not (is_forbidden rules (v, x) e))) (λ e. (e.0 == opposite v) && (leaves x.head e && not (is_forbidden rules (v, x) e)))
+        (closed-test shut) (numbered vs)
+        ∙ only-one (λ e. leaves x.head e && not (is_forbidden rules (v, x) e)) vs 0 (opposite v) (opposite v) y (omega arith) back)
+        (ap (λ (b : Bool). b && not (is_forbidden rules (v, x) (opposite v, y))) leaves-back ∙ sym back-is)
+
+    -- in a dead end nothing but the way back leaves
+    turns-dead : x.permitted ≡ true → must_turn_back vs v ≡ true → exits_at vs x.head v ≡ 0 → turns_at vs rules v ≡ cond (may_turn_back vs rules v) ((v, opposite v) ∷ []) []
+    turns-dead opened must none =
+        let test : ℕ × Vertex → Bool = λ e. is_way_on vs (v, x) e.0 && not (is_forbidden rules (v, x) e) in
+        let no_other : length (filter (λ e. leaves x.head e && not (e.0 == opposite v)) (numbered vs)) ≡ 0 = omega (arith, none, length-filter (λ e. leaves x.head e && not (e.0 == opposite v)) (numbered vs)) in
+        let left : filter (leaves x.head) (numbered vs) ≡ cond (leaves x.head (opposite v, y)) ((opposite v, y) ∷ []) [] =
+        none-but (leaves x.head) (opposite v) (numbered vs) no_other ∙ only-one (leaves x.head) vs 0 (opposite v) (opposite v) y (omega arith) back in
+        let passes : test (opposite v, y) ≡ not (is_forbidden rules (v, x) (opposite v, y)) =
+        ap (λ (b : Bool). b && not (is_forbidden rules (v, x) (opposite v, y))) (way_back must) in
+        turns-from opened
+        ∙ left-back _ (leaves x.head (opposite v, y) && test (opposite v, y))
+        (filter-both (leaves x.head) test (numbered vs) ∙ ap (filter test) left ∙ kept-by test (leaves x.head (opposite v, y)))
+        (ap (λ (b : Bool). b && test (opposite v, y)) leaves-back ∙ ap (λ (b : Bool). y.permitted && b) passes ∙ sym back-is)
+      where
+        kept-by : (p : ℕ × Vertex → Bool) (b : Bool) → filter p (cond b ((opposite v, y) ∷ []) []) ≡ cond (b && p (opposite v, y)) ((opposite v, y) ∷ []) []
+        kept-by p true = refl
+        kept-by p false = refl
+
+    turns-back-by : (c d : Bool) → (exits_at vs x.head v == 0) ≡ c → x.closed ≡ d → (c || d) ≡ true → x.permitted ≡ true → must_turn_back vs v ≡ true
+        → turns_at vs rules v ≡ cond (may_turn_back vs rules v) ((v, opposite v) ∷ []) []
+    turns-back-by true d e f g opened must = turns-dead opened must (grind (arith, nat_tests, e))
+    turns-back-by false true e f g opened must = turns-closed opened f
+    turns-back-by false false e f g opened must = cc
+
+    -- where it can only turn back, it does so if it may
+    pub turns-back : x.permitted ≡ true → must_turn_back vs v ≡ true → turns_at vs rules v ≡ cond (may_turn_back vs rules v) ((v, opposite v) ∷ []) []
+    turns-back opened must = turns-back-by (exits_at vs x.head v == 0) x.closed refl refl (sym must-is ∙ must) opened must
+
+    -- where no rule stands, each exit has its turn
+    pub length-turns_on : is_ruled vs rules v ≡ false → length (turns_on vs rules v) ≡ exits vs v
+    length-turns_on unruled =
+        let none : list_any (λ rule. int_eq rule.via x.head) rules ≡ false =
+        sym (ap (λ (o : Option Vertex). option_map_or (λ z. list_any (λ rule. int_eq rule.via z.head) rules) o false) at) ∙ unruled in
+        let chosen : filter (λ e. leaves x.head e && may_turn_on vs rules v e.0) (numbered vs) ≡ filter (λ e. leaves x.head e && not (e.0 == opposite v)) (numbered vs) =
+        filter-cong-numbered vs (λ e. leaves x.head e && may_turn_on vs rules v e.0) (λ e. leaves x.head e && not (e.0 == opposite v))
+        (λ n z has. ap (λ (b : Bool). leaves x.head (n, z) && b)
+        (on-is n z has
+        ∙ ap (λ (b : Bool). not (n == opposite v) && not b) (free rules x.head x.way z.way (n == opposite v) none)
+        ∙ and-true (not (n == opposite v)))) in
+        omega (
+          arith,
+          ap length turns_on-is,
+          length-map {B = ℕ × ℕ} (filter (λ e. may_turn_on vs rules v e.0) (leavers vs x.head 0)) (λ e. (v, e.0)),
+          ap length (sym (filter-both (leaves x.head) (λ e. may_turn_on vs rules v e.0) (numbered vs)) ∙ chosen),
+          length-filter (λ e. leaves x.head e && not (e.0 == opposite v)) (numbered vs),
+          exits-at,
+        )
 
 -- what a walk along a chain has still to add: the turns into the vertices es whose numbers pass the test
 pub record IsLeft (next : List ℕ) (none v c : ℕ) (test : ℕ → Bool) (items total : List (ℕ × ℕ)) : Type 0 where
@@ -244,29 +408,29 @@ module _ (next : List ℕ) (none v c : ℕ) (test : ℕ → Bool) (items total :
   IsLeft-ahead n h lt at = ahead-by h.es n h.chain lt at
 
 -- all turns from number v on are those from v and those from there on
-pub turns-step : (vs : List Vertex) (v : ℕ) (x : Vertex) → slice_get vs v ≡ Some x
-    → flat_map (turns_from vs) (enumerate_from v (drop v vs)) ≡ turns_at vs v ++ flat_map (turns_from vs) (enumerate_from (v + 1) (drop (v + 1) vs))
-turns-step vs v x at =
+pub turns-step : (vs : List Vertex) (rules : List Rule) (v : ℕ) (x : Vertex) → slice_get vs v ≡ Some x
+    → flat_map (turns_from vs rules) (enumerate_from v (drop v vs)) ≡ turns_at vs rules v ++ flat_map (turns_from vs rules) (enumerate_from (v + 1) (drop (v + 1) vs))
+turns-step vs rules v x at =
     let up : suc v ≡ v + 1 = omega arith in
-    ap (λ (xs : List Vertex). flat_map (turns_from vs) (enumerate_from v xs)) (drop-get vs v x at)
-    ∙ ap (λ (k : ℕ). turns_from vs (v, x) ++ flat_map (turns_from vs) (enumerate_from (v + 1) (drop k vs))) up
-    ∙ ap (λ (o : Option Vertex). option_map_or (λ z. turns_from vs (v, z)) o [] ++ flat_map (turns_from vs) (enumerate_from (v + 1) (drop (v + 1) vs))) (sym at)
+    ap (λ (xs : List Vertex). flat_map (turns_from vs rules) (enumerate_from v xs)) (drop-get vs v x at)
+    ∙ ap (λ (k : ℕ). turns_from vs rules (v, x) ++ flat_map (turns_from vs rules) (enumerate_from (v + 1) (drop k vs))) up
+    ∙ ap (λ (o : Option Vertex). option_map_or (λ z. turns_from vs rules (v, z)) o [] ++ flat_map (turns_from vs rules) (enumerate_from (v + 1) (drop (v + 1) vs))) (sym at)
 
-pub turns-all : (vs : List Vertex) → flat_map (turns_from vs) (enumerate_from 0 (drop 0 vs)) ≡ turns vs
+pub turns-all : (vs : List Vertex) (rules : List Rule) → flat_map (turns_from vs rules) (enumerate_from 0 (drop 0 vs)) ≡ turns vs rules
 unfolding turns
-turns-all vs = refl
+turns-all vs rules = refl
 
-pub turns-end : (vs : List Vertex) (v : ℕ) → length vs ≤ v → flat_map (turns_from vs) (enumerate_from v (drop v vs)) ≡ []
-turns-end vs v le = ap (λ (xs : List Vertex). flat_map (turns_from vs) (enumerate_from v xs)) (drop_of_length-le vs le)
+pub turns-end : (vs : List Vertex) (rules : List Rule) (v : ℕ) → length vs ≤ v → flat_map (turns_from vs rules) (enumerate_from v (drop v vs)) ≡ []
+turns-end vs rules v le = ap (λ (xs : List Vertex). flat_map (turns_from vs rules) (enumerate_from v xs)) (drop_of_length-le vs le)
 
 -- a vertex and the other direction of its segment
 pub both-ways : (segments : List Segment) (v : ℕ) → v < 2 * length segments
-    → (x : Vertex) × (y : Vertex) × (slice_get (vertices segments) v ≡ Some x) × (slice_get (vertices segments) (opposite v) ≡ Some y) × (y.tail ≡ x.head)
+    → (x : Vertex) × (y : Vertex) × (slice_get (vertices segments) v ≡ Some x) × (slice_get (vertices segments) (opposite v) ≡ Some y) × (y.tail ≡ x.head) × (y.way ≡ x.way)
 both-ways segments v lt =
     let within : v < length (vertices segments) = omega (arith, length-vertices segments) in
     let x = get_some (vertices segments) v within in
     let y = opposite-get segments v x.0 x.1 in
-    (x.0, y.0, x.1, y.1, y.2)
+    (x.0, y.0, x.1, y.1, y.2, y.3)
 
 pub not-true : (b : Bool) → not b ≡ true → b ≡ false
 not-true true e = cc
@@ -275,3 +439,27 @@ not-true false e = refl
 pub not-false : (b : Bool) → not b ≡ false → b ≡ true
 not-false true e = refl
 not-false false e = cc
+
+module _ (vs : List Vertex) (v : ℕ) (x : Vertex) (at : slice_get vs v ≡ Some x) where
+  pub is_ruled-at : (rules : List Rule) → is_ruled vs rules v ≡ list_any (λ rule. int_eq rule.via x.head) rules
+  is_ruled-at rules = ap (λ (o : Option Vertex). option_map_or (λ z. list_any (λ rule. int_eq rule.via z.head) rules) o false) at
+
+  pub must_turn_back-at : must_turn_back vs v ≡ ((exits vs v == 0) || x.closed)
+  must_turn_back-at = ap (λ (o : Option Vertex). (exits vs v == 0) || option_map_or (λ z. z.closed) o false) at
+
+  pub may_turn_back-at : (y : Vertex) → slice_get vs (opposite v) ≡ Some y → (rules : List Rule)
+      → may_turn_back vs rules v ≡ (y.permitted && not (is_forbidden_at rules x.head x.way y.way true))
+  may_turn_back-at y back rules =
+      let found : (opposite v == opposite v) ≡ true = grind (arith, nat_tests) in
+      ap (λ (o : Option Vertex). option_map_or (λ u. option_map_or (λ w. w.permitted && not (is_forbidden rules (v, u) (opposite v, w))) (slice_get vs (opposite v)) false) o false) at
+      ∙ ap (λ (o : Option Vertex). option_map_or (λ w. w.permitted && not (is_forbidden rules (v, x) (opposite v, w))) o false) back
+      ∙ ap (λ (b : Bool). y.permitted && not (is_forbidden_at rules x.head x.way y.way b)) found
+
+  pub may_turn_on-at : (e : ℕ) (z : Vertex) → slice_get vs e ≡ Some z → (rules : List Rule)
+      → may_turn_on vs rules v e ≡ (not (e == opposite v) && not (is_forbidden_at rules x.head x.way z.way (e == opposite v)))
+  may_turn_on-at e z has rules =
+      ap (λ (o : Option Vertex). not (e == opposite v) && option_map_or (λ u. option_map_or (λ w. not (is_forbidden rules (v, u) (e, w))) (slice_get vs e) false) o false) at
+      ∙ ap (λ (o : Option Vertex). not (e == opposite v) && option_map_or (λ w. not (is_forbidden rules (v, x) (e, w))) o false) has
+
+  pub turns_on-at : (rules : List Rule) → turns_on vs rules v ≡ map (λ e. (v, e.0)) (filter (λ e. may_turn_on vs rules v e.0) (leavers vs x.head 0))
+  turns_on-at rules = ap (λ (o : Option Vertex). option_map_or (λ z. map (λ e. (v, e.0)) (filter (λ e. may_turn_on vs rules v e.0) (leavers vs z.head 0))) o []) at

@@ -1,12 +1,12 @@
 -- What stands at a place of the list of vertices.
-use Rattle.std.proofs.Common.{◌≡◌, ℕ, zero, suc, ◌+◌, ◌*◌, ◌<◌, ◌/◌, ◌%◌, List, [], ◌∷◌, length, get_or, Option, Some, arith, refl, sym, ap, subst, ◌∙◌, ◌≢◌, inl, inr, false, All}
+use Rattle.std.proofs.Common.{◌≡◌, ℕ, zero, suc, ◌+◌, ◌*◌, ◌<◌, ◌/◌, ◌%◌, List, [], ◌∷◌, length, get_or, Option, Some, arith, refl, sym, ap, subst, ◌∙◌, ◌≢◌, inl, inr, All}
 use Rattle.std.specs.Prelude.{option_map, unwrap_or}
 use Rattle.std.specs.List.{slice_get}
 use Rattle.std.proofs.lemmas.Option.{same_Some, slice_get-map, slice_get_read}
 use Rattle.std.proofs.lemmas.Bool.{cases_eq}
 use Rattle.std.proofs.lemmas.List.{length-map}
 use Rattle.way_profile.specs.Vehicle.{IsSpeed}
-use Rattle.edge_graph.specs.Rows.{AreRows, segment_in, segments_in, street_at}
+use Rattle.edge_graph.specs.Rows.{AreRows, no_street, segment_in, segments_in, street_at}
 use Rattle.edge_graph.specs.Segment.{Segment}
 use Rattle.edge_graph.specs.Vertex.{Vertex, along, against, vertices}
 use Rattle.edge_graph.specs.declared.roads.Row.{Row}
@@ -38,7 +38,7 @@ pub length-rows : (streets : List Street) (rows : List Row) (segments : List Seg
 length-rows streets rows segments e = sym (length-map rows (segment_in streets)) ∙ ap length e
 
 -- the segment of a row that was read
-segment-read : (streets : List Street) (rows : List Row) (segments : List Segment) (k : ℕ) (row : Row)
+pub segment-read : (streets : List Street) (rows : List Row) (segments : List Segment) (k : ℕ) (row : Row)
     → segments_in streets rows ≡ segments → k < length rows → row ≡ get_or rows k row
     → slice_get segments k ≡ Some (segment_in streets row)
 segment-read streets rows segments k row e h r =
@@ -74,7 +74,7 @@ pub street-read : (streets : List Street) (rows : List Row) (segments : List Seg
 street-read streets rows segments v row street e h are r s =
     let in_range : (get_or rows (v / 2) row).street < length streets = are.in_range (v / 2) row (omega (arith, length-rows streets rows segments e)) in
     let has_street : row.street < length streets = subst (λ (x : Row). x.street < length streets) (sym r) in_range in
-    ap (λ (o : Option Street). unwrap_or o (record { name = []; speed = 0; forward = false; backward = false })) (slice_get_read streets (length streets) row.street street refl has_street s)
+    ap (λ (o : Option Street). unwrap_or o no_street) (slice_get_read streets (length streets) row.street street refl has_street s)
 
 -- where each segment's speed is in its range, each vertex's is
 pub speed-in_range : (segments : List Segment) (v n : ℕ) → All (λ s. IsSpeed s.street.speed) segments

@@ -1,24 +1,20 @@
--- How the turns of a network are found: for each node the permitted vertices that leave it, in a chain
--- in ascending order.
-use Rattle.std.specs.Prelude.{◌≡◌, ℕ, ℤ, ◌+◌, ◌≤◌, List, [], ◌∷◌, Some, drop, filter, length, unwrap_or}
+-- How the turns of a network are found: for each node the permitted vertices that leave it, in a chain.
+use Rattle.std.specs.Prelude.{◌≡◌, ℕ, ℤ, List, [], Some, length, unwrap_or}
 use Rattle.std.specs.HashMap.{HashMap, get}
-use Rattle.std.specs.List.{enumerate_from, slice_get}
+use Rattle.std.specs.List.{slice_get}
 use Rattle.std.specs.Option.{option_map_or}
 use Rattle.std.specs.Ordering.{int_eq}
 use Rattle.std.specs.declared.hash.FoldHasher.{FoldHasher}
 use Rattle.std.specs.declared.hash.BuildHasherDefault.{BuildHasherDefault}
-use Rattle.edge_graph.specs.Turn.{leaves, turns_from, exits}
+use Rattle.turn_rules.specs.Rules.{Rule}
+use Rattle.edge_graph.specs.Chains.{IsChain, belonging}
+use Rattle.edge_graph.specs.Turn.{turns_from, exits}
 use Rattle.edge_graph.specs.Vertex.{Vertex}
 use Rattle.edge_graph.specs.declared.fans.Fan.{Fan}
 
 -- the permitted vertices from number v on that leave the node, in ascending order
 abbrev pub leavers : List Vertex → ℤ → ℕ → List (ℕ × Vertex)
-leavers vs node v = filter (leaves node) (enumerate_from v (drop v vs))
-
--- the links of `next` lead from c over these vertices, none below `low`, to `none`
-abbrev pub IsChain : List ℕ → ℕ → ℕ → ℕ → List (ℕ × Vertex) → Type 0
-IsChain next none low c [] = c ≡ none
-IsChain next none low c (e ∷ es) = (c ≡ e.0) × (low ≤ c) × (n : ℕ) × (slice_get next c ≡ Some n) × IsChain next none (c + 1) n es
+leavers vs node v = belonging (λ x. x.permitted) (λ x. x.tail) vs node v
 
 -- a fan is the begin and the number of these vertices
 pub record IsFan (next : List ℕ) (none low : ℕ) (fan : Fan) (es : List (ℕ × Vertex)) : Type 0 where
@@ -38,8 +34,8 @@ pub record AreFans (vs : List Vertex) (v : ℕ) (next : List ℕ) (fans : FanMap
   pub each : (node : ℤ) → IsFan next (length vs) v (fan_in fans (length vs) node) (leavers vs node v)
 
 -- the turns from vertex v
-abbrev pub turns_at : List Vertex → ℕ → List (ℕ × ℕ)
-turns_at vs v = option_map_or (λ x. turns_from vs (v, x)) (slice_get vs v) []
+abbrev pub turns_at : List Vertex → List Rule → ℕ → List (ℕ × ℕ)
+turns_at vs rules v = option_map_or (λ x. turns_from vs rules (v, x)) (slice_get vs v) []
 
 -- the number of exits of each vertex
 pub record AreExits (vs : List Vertex) (counts : List ℕ) : Type 0 where

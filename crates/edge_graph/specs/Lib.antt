@@ -7,3 +7,8 @@ pub mod Vertex
 pub mod Rows
 pub mod Located
 pub mod Fans
+pub mod Chains
+pub mod Restrictions
+pub mod RuleChains
+pub mod Spots
+pub mod TurnParts

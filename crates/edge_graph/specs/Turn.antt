@@ -1,8 +1,10 @@
 -- The turns of a network: which vertex may follow which (this project's rule).
-use Rattle.std.specs.Prelude.{ℕ, ℤ, ◌==◌, Bool, not, ◌&&◌, ◌||◌, List, map, filter, count_by}
+use Rattle.std.specs.Prelude.{ℕ, ℤ, ◌==◌, Bool, not, ◌&&◌, ◌||◌, List, map, filter, count_by, if◌then◌else◌}
 use Rattle.std.specs.List.{enumerate_from, flat_map, slice_get}
 use Rattle.std.specs.Option.{option_map_or}
 use Rattle.std.specs.Ordering.{int_eq}
+use Rattle.turn_rules.specs.Rules.{Rule}
+use Rattle.edge_graph.specs.Restrictions.{is_forbidden}
 use Rattle.edge_graph.specs.Vertex.{Vertex, opposite}
 
 -- the vertices with their numbers
@@ -21,15 +23,20 @@ exits_at vs node d = count_by (λ e. leaves node e && not (e.0 == opposite d)) (
 abbrev pub exits : List Vertex → ℕ → ℕ
 exits vs d = option_map_or (λ x. exits_at vs x.head d) (slice_get vs d) 0
 
--- e may follow d: both are permitted, e leaves where d ends, and e is the other direction of d's segment
--- only where nothing else leaves there, as in a dead end
-abbrev pub is_turn : List Vertex → ℕ × Vertex → ℕ × Vertex → Bool
-is_turn vs d e = d.1.permitted && (leaves d.1.head e && (not (e.0 == opposite d.0) || (exits_at vs d.1.head d.0 == 0)))
+-- what stands at the head of d allows to go on to e: the other direction of d's segment follows only where
+-- nothing else leaves there, as in a dead end, or the node is closed; any other vertex only where it is not
+-- closed
+abbrev pub is_way_on : List Vertex → ℕ × Vertex → ℕ → Bool
+is_way_on vs d e = if e == opposite d.0 then (exits_at vs d.1.head d.0 == 0) || d.1.closed else not d.1.closed
+
+-- e may follow d: both are permitted, e leaves where d ends, the node there allows it and no rule forbids it
+abbrev pub is_turn : List Vertex → List Rule → ℕ × Vertex → ℕ × Vertex → Bool
+is_turn vs rules d e = d.1.permitted && (leaves d.1.head e && (is_way_on vs d e.0 && not (is_forbidden rules d e)))
 
 -- the turns from d, by the number of the vertex that follows
-abbrev pub turns_from : List Vertex → ℕ × Vertex → List (ℕ × ℕ)
-turns_from vs d = map (λ e. (d.0, e.0)) (filter (is_turn vs d) (numbered vs))
+abbrev pub turns_from : List Vertex → List Rule → ℕ × Vertex → List (ℕ × ℕ)
+turns_from vs rules d = map (λ e. (d.0, e.0)) (filter (is_turn vs rules d) (numbered vs))
 
 -- all turns: of all pairs of vertices, by the first and then the second, those that are turns
-unfoldable pub turns : List Vertex → List (ℕ × ℕ)
-turns vs = flat_map (turns_from vs) (numbered vs)
+unfoldable pub turns : List Vertex → List Rule → List (ℕ × ℕ)
+turns vs rules = flat_map (turns_from vs rules) (numbered vs)

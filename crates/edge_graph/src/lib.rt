@@ -1,13 +1,14 @@
 //! The road network of one vehicle: every piece of road between two neighbouring nodes of a way, in both
-//! directions, and the turns from one to the next.
+//! directions, and the turns from one to the next that barriers and turn restrictions permit.
 #![tactic(auto)]
 
 mod build_faults;
 mod fans;
 mod networks;
-mod node_locations;
+mod restrictions;
 mod roads;
 mod routes;
+mod spots;
 mod streets;
 mod turn_lists;
 

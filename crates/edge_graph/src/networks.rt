@@ -1,10 +1,12 @@
 //! Road networks.
 
-ghost use Rattle.std.specs.Prelude.{◌≡◌, ◌*◌, ◌^◌, ◌<◌, ◌≤◌, IfOk, IfErr, OnOk, Some, All, length, option_map};
+ghost use Rattle.std.specs.Prelude.{◌≡◌, ◌*◌, ◌/◌, ◌^◌, ◌<◌, ◌≤◌, IfOk, IfErr, OnOk, Some, All, length, option_map};
 ghost use Rattle.std.specs.List.{slice_get};
-ghost use Rattle.edge_graph.specs.BuildCause.{IsBuildFault, IsWithinLimits};
+ghost use Rattle.edge_graph.specs.BuildCause.{IsBuildFault, IsTurnsFault, IsWithinLimits};
 ghost use Rattle.edge_graph.specs.NetworkView.{graph_of, network_of, vertices_of};
+ghost use Rattle.edge_graph.specs.Restrictions.{applied_rules};
 ghost use Rattle.edge_graph.specs.Turn.{exits, turns};
+ghost use Rattle.turn_rules.specs.Rules.{rules_of};
 ghost use Rattle.edge_graph.specs.Vertex.{vertices};
 ghost use Rattle.edge_graph.specs.Segment.{segments};
 ghost use Rattle.edge_graph.specs.Fans.{AreExits, AreFans};
@@ -14,24 +16,29 @@ ghost use Rattle.way_profile.specs.Vehicle.{IsSpeed};
 
 use crate::build_faults::BuildFault;
 use crate::fans::{Fans, fans_of};
-use crate::node_locations::locations_of;
+use crate::restrictions::Restrictions;
 use crate::roads::Roads;
-use crate::routes::{are_few, routes_of};
-use crate::turn_lists::{exit_counts, turn_list, turns_are_few};
+use crate::routes::{routes_of, segment_count};
+use crate::spots::spots_of;
+use crate::turn_lists::{exit_counts, turn_list, turn_total};
 use geo_integer::point_at;
 use road_base::{Object, Place, Point};
 use search_graph::Graph;
 use std::alloc::{AllocError, Global};
 use std::marker::Model;
+use turn_rules::{Rules, rules};
 use way_profile::Profile;
 
-/// The road network of one vehicle. Contracts see the segments and the vehicle's profile.
+/// The road network of one vehicle. Contracts see the segments, the turns, the vehicle's profile, and how
+/// many turn restrictions apply and how many are ignored.
 #[derive(Drop)]
 pub struct Network {
     roads: Roads,
     exits: Vec<u32>,
     graph: Graph,
     profile: Profile,
+    applied: u64,
+    ignored: u64,
 }
 
 impl Model for Network {
@@ -41,9 +48,9 @@ impl Model for Network {
 
     ghost use Rattle.edge_graph.specs.NetworkParts.{AreNetworkParts};
 
-    ghost view = { λ n. record { segments = n.roads; profile = n.profile } };
+    ghost view = { λ n. record { segments = n.roads; turns = n.graph.arcs; profile = n.profile; applied = n.applied; ignored = n.ignored } };
 
-    ghost invariant = { λ n. AreNetworkParts n.roads n.exits.items n.graph n.profile };
+    ghost invariant = { λ n. AreNetworkParts n.roads n.exits.items n.graph };
 }
 
 // The segments of the roads that the vehicle may use.
@@ -53,37 +60,70 @@ fn roads_of(alloc: Global, objects: &[Object], profile: &Profile) -> Result<Road
     ensures few { OnOk result (length (segments objects.now profile.now) ≤ 2 ^ 22) }
     ensures err { IfErr result (IsBuildFault (network_of objects.now profile.now)) }
 {
-    let locations = locations_of(alloc, objects)?;
-    let routes = routes_of(alloc, objects, profile)?;
-    if !are_few(objects, &routes, &locations) {
+    let spots = spots_of(alloc, objects, profile)?;
+    let routes = routes_of(alloc, objects, profile, &spots)?;
+    let Some(count) = segment_count(objects, &routes, &spots) else {
         return Err(BuildFault::TooManySegments);
-    }
-    let roads = Roads::of(alloc, objects, routes, &locations)?;
+    };
+    let roads = Roads::of(alloc, objects, routes, &spots, count)?;
     Ok(roads)
 }
 
-// The graph of the turns. Each turn is from a vertex to a vertex, so nothing but memory can be wanting.
-fn turn_graph(
+// The turn restrictions of the map that apply to the vehicle on these roads.
+fn restrictions_of(
+    alloc: Global,
+    objects: &[Object],
+    profile: &Profile,
+    roads: &Roads,
+) -> Result<Restrictions, AllocError>
+    ensures { IfOk result (λ r. r ≡ applied_rules roads.now (rules_of objects.now profile.now.vehicle)) }
+{
+    let stated = rules(alloc, objects, profile.vehicle())?;
+    Restrictions::of(alloc, stated, roads)
+}
+
+/// The exits of the vertices, and the turns.
+#[derive(Drop)]
+struct TurnTable {
+    exits: Vec<u32>,
+    list: Vec<(u32, u32)>,
+}
+
+// The exits and the turns of these roads.
+fn turns_of(
     alloc: Global,
     roads: &Roads,
-    fans: &Fans,
-    counts: &[u32],
-) -> Result<Graph, AllocError>
-    requires fans { AreFans (vertices roads.now) 0 fans.now.next.items fans.now.by_node }
-    requires counts { AreExits (vertices roads.now) counts.now }
-    requires few { length (turns (vertices roads.now)) ≤ 2 ^ 26 }
-    ensures vertices { IfOk result (λ graph. graph.vertices ≡ 2 * length roads.now) }
-    ensures arcs { IfOk result (λ graph. graph.arcs ≡ turns (vertices roads.now)) }
+    restrictions: Restrictions,
+) -> Result<TurnTable, BuildFault>
+    ensures exits { IfOk result (λ t. AreExits (vertices roads.now) t.exits.items) }
+    ensures list { IfOk result (λ t. t.list.items ≡ turns (vertices roads.now) restrictions.kept) }
+    ensures few { OnOk result (length (turns (vertices roads.now) restrictions.kept) ≤ 2 ^ 26) }
+    ensures err { IfErr result (IsTurnsFault (length (turns (vertices roads.now) restrictions.kept))) }
 {
-    let list = turn_list(alloc, roads, fans, counts)?;
-    match Graph::of(alloc, 2 * roads.len(), &list) {
+    let fans = fans_of(alloc, roads)?;
+    let exits = exit_counts(alloc, roads, &fans)?;
+    let Some(total) = turn_total(roads, &fans, &restrictions, &exits) else {
+        return Err(BuildFault::TooManyTurns);
+    };
+    let list = turn_list(alloc, roads, &fans, &restrictions, &exits, total)?;
+    Ok(TurnTable { exits, list })
+}
+
+// The graph of the turns. Each turn is from a vertex to a vertex, so nothing but memory can be wanting.
+fn turn_graph(alloc: Global, roads: &Roads, list: &[(u32, u32)]) -> Result<Graph, AllocError>
+    requires few { length list.now ≤ 2 ^ 26 }
+    ensures vertices { IfOk result (λ graph. graph.vertices ≡ 2 * length roads.now) }
+    ensures arcs { IfOk result (λ graph. graph.arcs ≡ list.now) }
+{
+    match Graph::of(alloc, 2 * roads.len(), list) {
         Ok(graph) => Ok(graph),
         Err(_) => Err(AllocError),
     }
 }
 
 impl Network {
-    /// The network of the roads among these objects that the vehicle of the profile may use.
+    /// The network of the roads among these objects that the vehicle of the profile may use, under the turn
+    /// restrictions among them that apply to it.
     pub fn build(
         alloc: Global,
         objects: &[Object],
@@ -94,18 +134,18 @@ impl Network {
         ensures err { IfErr result (IsBuildFault (network_of objects.now profile.now)) }
     {
         let roads = roads_of(alloc, objects, profile)?;
-        let fans = fans_of(alloc, &roads)?;
-        let exits = exit_counts(alloc, &roads, &fans)?;
-        if !turns_are_few(&roads, &exits) {
-            return Err(BuildFault::TooManyTurns);
-        }
-        let graph = turn_graph(alloc, &roads, &fans, &exits)?;
+        let restrictions = restrictions_of(alloc, objects, profile, &roads)?;
+        let (applied, ignored) = (restrictions.applied(), restrictions.ignored());
+        let turns = turns_of(alloc, &roads, restrictions)?;
+        let graph = turn_graph(alloc, &roads, &turns.list)?;
         let profile = profile.try_clone(alloc)?;
         Ok(Network {
             roads,
-            exits,
+            exits: turns.exits,
             graph,
             profile,
+            applied,
+            ignored,
         })
     }
 
@@ -138,7 +178,8 @@ impl Network {
     /// The `name` of the way of vertex `v`, or an empty text.
     pub fn name(&self, v: u32) -> &str
         requires { v < 2 * length self.now.segments }
-        ensures { option_map (λ x. x.name) (slice_get (vertices_of self.now) v) ≡ Some result.now }
+        ensures value { option_map (λ x. x.name) (slice_get (vertices_of self.now) v) ≡ Some result.now }
+        ensures by_segment { option_map (λ s. s.street.name) (slice_get self.now.segments (v / 2)) ≡ Some result.now }
     {
         self.roads.name(v)
     }
@@ -149,6 +190,14 @@ impl Network {
         ensures { option_map (λ x. x.permitted) (slice_get (vertices_of self.now) v) ≡ Some result }
     {
         self.roads.permitted(v)
+    }
+
+    /// Whether a traffic signal stands at the node where vertex `v` ends.
+    pub fn signal(&self, v: u32) -> bool
+        requires { v < 2 * length self.now.segments }
+        ensures { option_map (λ x. x.signal) (slice_get (vertices_of self.now) v) ≡ Some result }
+    {
+        self.roads.signal(v)
     }
 
     /// The vehicle's speed on vertex `v` in thousandths of km/h.
@@ -189,7 +238,7 @@ impl Network {
 
     /// How many turns there are.
     pub fn turns(&self) -> u32
-        ensures value { result ≡ length (graph_of self.now).arcs }
+        ensures value { result ≡ length self.now.turns }
         ensures few { result ≤ 2 ^ 26 }
     {
         self.graph.arcs()
@@ -209,5 +258,21 @@ impl Network {
         ensures { result.now ≡ self.now.profile }
     {
         &self.profile
+    }
+
+    /// How many turn restrictions of the map apply: those that do not except the vehicle, have a known
+    /// value and the members that it asks for, and whose ways each have a segment in the network that begins
+    /// or ends at their `via` node.
+    pub fn applied(&self) -> u64
+        ensures { result ≡ self.now.applied }
+    {
+        self.applied
+    }
+
+    /// How many other turn restrictions of the map, that do not except the vehicle, are ignored.
+    pub fn ignored(&self) -> u64
+        ensures { result ≡ self.now.ignored }
+    {
+        self.ignored
     }
 }

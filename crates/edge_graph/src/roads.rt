@@ -1,13 +1,13 @@
 //! The segments of a network, in flat lists.
 
-ghost use Rattle.std.specs.Prelude.{◌≡◌, ◌*◌, ◌^◌, ◌<◌, ◌≤◌, length, Some, option_map, All, IfOk, OnOk};
+ghost use Rattle.std.specs.Prelude.{◌≡◌, ◌*◌, ◌/◌, ◌^◌, ◌<◌, ◌≤◌, length, Some, option_map, All, IfOk, OnOk};
 ghost use Rattle.std.specs.List.{slice_get};
-ghost use Rattle.edge_graph.specs.Located.{located, segments_on};
+ghost use Rattle.edge_graph.specs.Located.{segments_on, spot_in};
 ghost use Rattle.edge_graph.specs.Rows.{AddsRows, AreRowsOf};
 ghost use Rattle.edge_graph.specs.Vertex.{vertices};
 
-use crate::node_locations::{Locations, segment_ends};
 use crate::routes::{Routes, nodes_of};
+use crate::spots::{NodeUse, SpotMap, segment_ends};
 use crate::streets::Street;
 use road_base::{Object, Point};
 use std::alloc::{AllocError, Global};
@@ -20,7 +20,9 @@ pub struct Row {
     pub head: i64,
     pub from: Point,
     pub to: Point,
-    pub street: usize,
+    pub street: u32,
+    pub at_tail: NodeUse,
+    pub at_head: NodeUse,
 }
 
 /// The segments of a network: 40 bytes each, and those of a street its name and its use once.
@@ -47,58 +49,64 @@ impl Model for Roads {
 // Adds the segments along these nodes of the way of a street.
 fn push_along(
     rows: &mut Vec<Row>,
-    locations: &Locations,
-    street: usize,
+    spots: &SpotMap,
+    street: u32,
     ids: &[i64],
 ) -> Result<(), AllocError>
-    ensures { OnOk result (AddsRows (located locations.now) street ids.now rows.old.items rows.new.items) }
+    ensures { OnOk result (AddsRows (spot_in spots.now) street ids.now rows.old.items rows.new.items) }
 {
     for i in 1..ids.len() {
-        if let Some((from, to)) = segment_ends(locations, ids[i - 1], ids[i]) {
+        if let Some((from, to)) = segment_ends(spots, ids[i - 1], ids[i]) {
             rows.push(Row {
                 tail: ids[i - 1],
                 head: ids[i],
-                from,
-                to,
+                from: from.point,
+                to: to.point,
                 street,
+                at_tail: from.usage,
+                at_head: to.usage,
             })?;
         }
     }
     Ok(())
 }
 
-// The rows of all routes.
+// The rows of all routes, of which there are so many.
 fn rows_of(
     alloc: Global,
     objects: &[Object],
     routes: &Routes,
-    locations: &Locations,
+    spots: &SpotMap,
+    count: usize,
 ) -> Result<Vec<Row>, AllocError>
     requires in_range { All (λ place. place < length objects.now) routes.now.places.items }
     requires as_many { length routes.now.streets.items ≡ length routes.now.places.items }
-    ensures { IfOk result (λ rows. AreRowsOf (located locations.now) objects.now routes.now.streets.items routes.now.places.items rows.items) }
+    requires few { length routes.now.streets.items < 2 ^ 32 }
+    ensures { IfOk result (λ rows. AreRowsOf (spot_in spots.now) objects.now routes.now.streets.items routes.now.places.items rows.items) }
 {
-    let mut rows = Vec::new(alloc);
+    let mut rows = Vec::with_capacity(alloc, count)?;
     for (street, place) in routes.places.iter().enumerate() {
-        push_along(&mut rows, locations, street, nodes_of(objects, *place))?;
+        push_along(&mut rows, spots, street as u32, nodes_of(objects, *place))?;
     }
     Ok(rows)
 }
 
 impl Roads {
-    /// The segments of these routes, of which there are no more than a network may have.
+    /// The segments of these routes, of which there are so many, no more than a network may have.
     pub fn of(
         alloc: Global,
         objects: &[Object],
         routes: Routes,
-        locations: &Locations,
+        spots: &SpotMap,
+        count: usize,
     ) -> Result<Roads, AllocError>
         requires in_range { All (λ place. place < length objects.now) routes.places.items }
         requires as_many { length routes.streets.items ≡ length routes.places.items }
-        requires few { length (segments_on (located locations.now) objects.now routes.streets.items routes.places.items) ≤ 2 ^ 22 }
-        ensures { IfOk result (λ roads. roads ≡ segments_on (located locations.now) objects.now routes.streets.items routes.places.items) }
+        requires few_streets { length routes.streets.items < 2 ^ 32 }
+        requires few { length (segments_on (spot_in spots.now) objects.now routes.streets.items routes.places.items) ≤ 2 ^ 22 }
+        ensures { IfOk result (λ roads. roads ≡ segments_on (spot_in spots.now) objects.now routes.streets.items routes.places.items) }
     {
-        let rows = rows_of(alloc, objects, &routes, locations)?;
+        let rows = rows_of(alloc, objects, &routes, spots, count)?;
         Ok(Roads {
             streets: routes.streets,
             rows,
@@ -140,12 +148,38 @@ impl Roads {
         if v % 2 == 0 { row.head } else { row.tail }
     }
 
+    /// Whether the vehicle may not pass the node where vertex `v` ends.
+    pub fn closed(&self, v: u32) -> bool
+        requires { v < 2 * length self.now }
+        ensures { option_map (λ x. x.closed) (slice_get (vertices self.now) v) ≡ Some result }
+    {
+        let row = &self.rows[v as usize / 2];
+        if v % 2 == 0 {
+            row.at_head.closed
+        } else {
+            row.at_tail.closed
+        }
+    }
+
+    /// Whether a traffic signal stands at the node where vertex `v` ends.
+    pub fn signal(&self, v: u32) -> bool
+        requires { v < 2 * length self.now }
+        ensures { option_map (λ x. x.signal) (slice_get (vertices self.now) v) ≡ Some result }
+    {
+        let row = &self.rows[v as usize / 2];
+        if v % 2 == 0 {
+            row.at_head.signal
+        } else {
+            row.at_tail.signal
+        }
+    }
+
     /// Whether the vehicle may use vertex `v`.
     pub fn permitted(&self, v: u32) -> bool
         requires { v < 2 * length self.now }
         ensures { option_map (λ x. x.permitted) (slice_get (vertices self.now) v) ≡ Some result }
     {
-        let street = &self.streets[self.rows[v as usize / 2].street];
+        let street = &self.streets[self.rows[v as usize / 2].street as usize];
         if v % 2 == 0 {
             street.forward
         } else {
@@ -153,12 +187,23 @@ impl Roads {
         }
     }
 
+    /// The id of the way of vertex `v`.
+    pub fn way(&self, v: u32) -> i64
+        requires { v < 2 * length self.now }
+        ensures { option_map (λ x. x.way) (slice_get (vertices self.now) v) ≡ Some result }
+    {
+        self.streets[self.rows[v as usize / 2].street as usize].way
+    }
+
     /// The name of the way of vertex `v`.
     pub fn name(&self, v: u32) -> &str
         requires { v < 2 * length self.now }
-        ensures { option_map (λ x. x.name) (slice_get (vertices self.now) v) ≡ Some result.now }
+        ensures value { option_map (λ x. x.name) (slice_get (vertices self.now) v) ≡ Some result.now }
+        ensures by_segment { option_map (λ s. s.street.name) (slice_get self.now (v / 2)) ≡ Some result.now }
     {
-        self.streets[self.rows[v as usize / 2].street].name.as_str()
+        self.streets[self.rows[v as usize / 2].street as usize]
+            .name
+            .as_str()
     }
 
     /// The vehicle's speed on vertex `v` in thousandths of km/h.
@@ -166,6 +211,6 @@ impl Roads {
         requires { v < 2 * length self.now }
         ensures { option_map (λ x. x.speed) (slice_get (vertices self.now) v) ≡ Some result }
     {
-        self.streets[self.rows[v as usize / 2].street].speed
+        self.streets[self.rows[v as usize / 2].street as usize].speed
     }
 }

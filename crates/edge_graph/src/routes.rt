@@ -1,11 +1,12 @@
 //! The ways of a map that the vehicle may use, in the order of their ids.
 
-ghost use Rattle.std.specs.Prelude.{◌≡◌, ◌<◌, ◌≤◌, ◌^◌, ◌↔◌, ◌||◌, IfOk, IsTrue, All, length, [], OnOk};
+ghost use Rattle.std.specs.Prelude.{◌≡◌, ◌<◌, ◌≤◌, ◌^◌, nat_lt, IfOk, All, length};
 ghost use Rattle.std.specs.BTreeMap.{values};
-ghost use Rattle.edge_graph.specs.Located.{AreRoutes, StandAt, located, nodes_at, segments_on};
-ghost use Rattle.edge_graph.specs.Segment.{ways_by_id, street_of};
+ghost use Rattle.edge_graph.specs.Located.{AreRoutes, StandAt, nodes_at, segments_on, spot_in};
+ghost use Rattle.edge_graph.specs.BuildCause.{CountsUpTo};
+ghost use Rattle.edge_graph.specs.Segment.{segments_used, street_of, ways_by_id};
 
-use crate::node_locations::{Locations, count_along};
+use crate::spots::{SpotMap, any_along, count_along};
 use crate::streets::Street;
 use road_base::{Object, Text, Way};
 use std::alloc::{AllocError, Global};
@@ -51,6 +52,7 @@ fn street(alloc: Global, usage: WayUse, way: &Way) -> Result<Street, AllocError>
         None => "",
     };
     Ok(Street {
+        way: way.id,
         name: Text::copy_of(alloc, name)?,
         speed: usage.speed,
         forward: usage.forward,
@@ -58,16 +60,25 @@ fn street(alloc: Global, usage: WayUse, way: &Way) -> Result<Street, AllocError>
     })
 }
 
-// Whether a way may be used in some direction.
-fn is_usable(usage: WayUse) -> bool
-    ensures { result ≡ (usage.forward || usage.backward) }
+// Whether a way that may be used so has any segment.
+fn has_segments(spots: &SpotMap, usage: WayUse, way: &Way) -> bool
+    ensures { result ≡ nat_lt 0 (length (segments_used (spot_in spots.now) usage way.now)) }
 {
-    usage.forward || usage.backward
+    if usage.forward || usage.backward {
+        any_along(spots, way.nodes.as_slice())
+    } else {
+        false
+    }
 }
 
-/// The ways that the vehicle may use in some direction.
-pub fn routes_of(alloc: Global, objects: &[Object], profile: &Profile) -> Result<Routes, AllocError>
-    ensures { IfOk result (λ r. AreRoutes objects.now profile.now (ways_by_id objects.now) r.streets.items r.places.items) }
+/// The ways that the vehicle may use in some direction, if they have any segment.
+pub fn routes_of(
+    alloc: Global,
+    objects: &[Object],
+    profile: &Profile,
+    spots: &SpotMap,
+) -> Result<Routes, AllocError>
+    ensures { IfOk result (λ r. AreRoutes (spot_in spots.now) objects.now profile.now (ways_by_id objects.now) r.streets.items r.places.items) }
 {
     let mut streets = Vec::new(alloc);
     let mut places = Vec::new(alloc);
@@ -75,7 +86,7 @@ pub fn routes_of(alloc: Global, objects: &[Object], profile: &Profile) -> Result
     for place in &all {
         if let Object::Way(way) = &objects[*place] {
             let usage = profile.way(&way.tags);
-            if is_usable(usage) {
+            if has_segments(spots, usage, way) {
                 streets.push(street(alloc, usage, way)?)?;
                 places.push(*place)?;
             }
@@ -95,18 +106,18 @@ pub fn nodes_of(objects: &[Object], place: usize) -> &[i64]
     }
 }
 
-/// Whether there are no more segments than a network may have.
-pub fn are_few(objects: &[Object], routes: &Routes, locations: &Locations) -> bool
+/// How many segments there are, or None where they are more than a network may have.
+pub fn segment_count(objects: &[Object], routes: &Routes, spots: &SpotMap) -> Option<usize>
     requires in_range { All (λ place. place < length objects.now) routes.now.places.items }
     requires as_many { length routes.now.streets.items ≡ length routes.now.places.items }
-    ensures { IsTrue result ↔ (length (segments_on (located locations.now) objects.now routes.now.streets.items routes.now.places.items) ≤ 2 ^ 22) }
+    ensures { CountsUpTo (length (segments_on (spot_in spots.now) objects.now routes.now.streets.items routes.now.places.items)) (2 ^ 22) result }
 {
     let mut count = 0;
     for place in &routes.places {
-        count += count_along(locations, nodes_of(objects, *place));
+        count += count_along(spots, nodes_of(objects, *place));
         if count > MOST_SEGMENTS {
-            return false;
+            return None;
         }
     }
-    true
+    Some(count)
 }

@@ -5,6 +5,8 @@ use road_base::Text;
 /// A way that the vehicle may use in some direction, as its segments know it.
 #[derive(Drop)]
 pub struct Street {
+    /// the way's id
+    pub way: i64,
     /// the way's `name`, or empty
     pub name: Text,
     /// thousandths of km/h

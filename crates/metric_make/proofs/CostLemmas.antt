@@ -1,10 +1,12 @@
 -- What the vertices and turns of a network cost, one by one.
-use Rattle.std.proofs.Common.{◌≡◌, ℕ, ℤ, suc, ◌+◌, ◌*◌, ◌/◌, ◌<◌, ◌+ℤ◌, ◌-ℤ◌, pos, max, List, [], ◌∷◌, ◌++◌, length, drop, map, Option, Some, arith, refl, sym, ap, ◌∙◌, append_assoc}
-use Rattle.std.specs.Prelude.{option_map, unsigned_abs}
+use Rattle.std.proofs.Common.{◌≡◌, ◌≢◌, ℕ, ℤ, suc, Bool, true, false, cond, get_or, mod-lt, ◌+◌, ◌*◌, ◌/◌, ◌<◌, ◌≤◌, ◌+ℤ◌, ◌-ℤ◌, pos, max, List, [], ◌∷◌, ◌++◌, length, drop, map, Option, Some, arith, refl, sym, ap, ◌∙◌, append_assoc}
+use Rattle.std.specs.Prelude.{option_map, unsigned_abs, nat_le, ◌==◌}
 use Rattle.std.specs.Int.{int_div_euclid}
 use Rattle.std.specs.List.{slice_get}
 use Rattle.std.proofs.lemmas.Int.{ints}
-use Rattle.std.proofs.lemmas.Option.{same_Some}
+use Rattle.std.proofs.lemmas.Bool.Decides.{nat_tests}
+use Rattle.std.proofs.lemmas.Option.{get_or_from_slice_get, same_Some, slice_get-map}
+use Rattle.geo_integer.specs.Bearing.{bearing_of, modifier_of}
 use Rattle.geo_integer.specs.Plane.{cosine_of, length_of, plane_between, squared}
 use Rattle.geo_integer.specs.Position.{Position, position_of}
 use Rattle.geo_integer.specs.Root.{root_of}
@@ -12,10 +14,14 @@ use Rattle.road_base.specs.declared.coordinates.Point.{Point}
 use Rattle.search_graph.specs.declared.costs.DurLen.{DurLen}
 use Rattle.search_graph.proofs.Gets.{get_some}
 use Rattle.edge_graph.specs.Segment.{Segment}
-use Rattle.edge_graph.specs.Vertex.{against, along, vertices}
+use Rattle.edge_graph.specs.NetworkView.{NetworkView, vertices_of}
+use Rattle.edge_graph.specs.Turn.{exits}
+use Rattle.edge_graph.specs.Vertex.{Vertex, against, along, opposite, vertices}
 use Rattle.edge_graph.proofs.VertexLemmas.{vertices-even, vertices-odd}
 use Rattle.edge_graph.proofs.WayLemmas.{drop-get}
-use Rattle.metric_make.specs.MetricOf.{cost_at, cost_of_turn, vertex_cost}
+use Rattle.metric_make.specs.MetricOf.{bearing_along, bend_penalty, cost_at, penalty_at, vertex_cost}
+use Rattle.metric_make.specs.TurnParts.{turning_at, waiting_at}
+use Rattle.way_profile.specs.Vehicle.{penalty_of}
 
 apart-same : (x y : ℤ) → unsigned_abs (x -ℤ y) ≡ unsigned_abs (y -ℤ x)
 apart-same x y = omega (arith, ints)
@@ -71,16 +77,88 @@ segment-step segments s decimetres from to costs new one other total lt ends lon
     ∙ ap (λ (l : List (Option DurLen)). costs ++ l) (sym front)
     ∙ so_far
 
+-- the bearings of both directions of one more segment
+pub bearings-step : (segments : List Segment) (s : ℕ) (from to : Point) (bearings new : List ℕ) (one other : ℕ) (total : List ℕ) → s < length segments
+    → option_map {U = Point × Point} (λ x. (x.from, x.to)) (slice_get segments s) ≡ Some (from, to)
+    → one ≡ bearing_of (position_of from) (position_of to)
+    → other ≡ bearing_of (position_of to) (position_of from)
+    → new ≡ (bearings ++ one ∷ []) ++ other ∷ []
+    → bearings ++ map bearing_along (vertices (drop s segments)) ≡ total
+    → new ++ map bearing_along (vertices (drop (s + 1) segments)) ≡ total
+bearings-step segments s from to bearings new one other total lt ends first second both so_far =
+    let g = get_some segments s lt in
+    let x = g.0 in
+    let up : suc s ≡ s + 1 = omega arith in
+    let ends_are : (x.from, x.to) ≡ (from, to) = same_Some _ _ (sym (ap (option_map {U = Point × Point} (λ (y : Segment). (y.from, y.to))) g.1) ∙ ends) in
+    let one_is : one ≡ bearing_along (along x) = first ∙ ap (λ (e : Point × Point). bearing_of (position_of e.0) (position_of e.1)) (sym ends_are) in
+    let other_is : other ≡ bearing_along (against x) = second ∙ ap (λ (e : Point × Point). bearing_of (position_of e.1) (position_of e.0)) (sym ends_are) in
+    let rest = map bearing_along (vertices (drop (s + 1) segments)) in
+    let front : map bearing_along (vertices (drop s segments)) ≡ bearing_along (along x) ∷ bearing_along (against x) ∷ rest =
+    ap (λ (l : List Segment). map bearing_along (vertices l)) (drop-get segments s x g.1 ∙ ap (λ (k : ℕ). x ∷ drop k segments) up) in
+    ap (λ (l : List ℕ). l ++ rest) both
+    ∙ append_assoc (bearings ++ one ∷ []) (other ∷ []) rest
+    ∙ append_assoc bearings (one ∷ []) (other ∷ rest)
+    ∙ ap (λ (o : ℕ). bearings ++ o ∷ other ∷ rest) one_is
+    ∙ ap (λ (o : ℕ). bearings ++ bearing_along (along x) ∷ o ∷ rest) other_is
+    ∙ ap (λ (l : List ℕ). bearings ++ l) (sym front)
+    ∙ so_far
+
+-- the bearing of a vertex that was read
+pub bearing-read : (vs : List Vertex) (bearings : List ℕ) (v : ℕ) (x : Vertex) → bearings ≡ map bearing_along vs → slice_get vs v ≡ Some x → get_or bearings v 0 ≡ bearing_along x
+bearing-read vs bearings v x are at =
+    get_or_from_slice_get bearings v (bearing_along x) 0 (ap (λ (l : List ℕ). slice_get l v) are ∙ slice_get-map bearing_along vs v ∙ ap (option_map bearing_along) at)
+
+pub bearing-bound : (x : Vertex) → bearing_along x < 360
+bearing-bound x = mod-lt _ (omega arith)
+
+module _ (network : NetworkView) (from to : ℕ) (d e : Vertex) (at : slice_get (vertices_of network) from ≡ Some d) (next : slice_get (vertices_of network) to ≡ Some e) where
+  turning-is : turning_at network from to (slice_get (vertices_of network) from) (slice_get (vertices_of network) to)
+      ≡ cond (to == opposite from) network.profile.u_turn_penalty (bend_penalty network.profile (exits (vertices_of network) from) d e)
+  turning-is = ap (λ (o : Option Vertex). turning_at network from to o (slice_get (vertices_of network) to)) at ∙ ap (λ (o : Option Vertex). turning_at network from to (Some d) o) next
+
+  -- a turn back
+  pub turning-back : to ≡ opposite from → turning_at network from to (slice_get (vertices_of network) from) (slice_get (vertices_of network) to) ≡ network.profile.u_turn_penalty
+  turning-back same =
+      let test : (to == opposite from) ≡ true = grind (arith, nat_tests, same) in
+      turning-is ∙ ap (λ (b : Bool). cond b network.profile.u_turn_penalty (bend_penalty network.profile (exits (vertices_of network) from) d e)) test
+
+  -- a turn where there is no choice of exits
+  turning-on : to ≢ opposite from → turning_at network from to (slice_get (vertices_of network) from) (slice_get (vertices_of network) to) ≡ bend_penalty network.profile (exits (vertices_of network) from) d e
+  turning-on apart =
+      let test : (to == opposite from) ≡ false = grind (arith, nat_tests, apart) in
+      turning-is ∙ ap (λ (b : Bool). cond b network.profile.u_turn_penalty (bend_penalty network.profile (exits (vertices_of network) from) d e)) test
+
+  pub turning-along : to ≢ opposite from → exits (vertices_of network) from < 2 → turning_at network from to (slice_get (vertices_of network) from) (slice_get (vertices_of network) to) ≡ 0
+  turning-along apart few =
+      let test : nat_le 2 (exits (vertices_of network) from) ≡ false = grind (arith, nat_tests, few) in
+      turning-on apart ∙ ap (λ (b : Bool). cond b (penalty_of network.profile (modifier_of (bearing_along d) (bearing_along e) false)) 0) test
+
+  -- a turn where there is one
+  pub turning-bend : to ≢ opposite from → 2 ≤ exits (vertices_of network) from
+      → turning_at network from to (slice_get (vertices_of network) from) (slice_get (vertices_of network) to) ≡ penalty_of network.profile (modifier_of (bearing_along d) (bearing_along e) false)
+  turning-bend apart many =
+      let test : nat_le 2 (exits (vertices_of network) from) ≡ true = grind (arith, nat_tests, many) in
+      turning-on apart ∙ ap (λ (b : Bool). cond b (penalty_of network.profile (modifier_of (bearing_along d) (bearing_along e) false)) 0) test
+
+  -- the two parts of a penalty
+  pub penalty-parts : penalty_at network from to (slice_get (vertices_of network) from) (slice_get (vertices_of network) to)
+      ≡ turning_at network from to (slice_get (vertices_of network) from) (slice_get (vertices_of network) to) + waiting_at network (slice_get (vertices_of network) from)
+  penalty-parts =
+      ap (λ (o : Option Vertex). penalty_at network from to o (slice_get (vertices_of network) to)) at
+      ∙ ap (λ (o : Option Vertex). penalty_at network from to (Some d) o) next
+      ∙ ap (λ (o : Option Vertex). turning_at network from to (Some d) o + waiting_at network (Some d)) (sym next)
+      ∙ ap (λ (o : Option Vertex). turning_at network from to o (slice_get (vertices_of network) to) + waiting_at network o) (sym at)
+
 -- the cost of one more turn
-pub turn-step : (arcs : List (ℕ × ℕ)) (i penalty from to : ℕ) (costs new : List DurLen) (cost : DurLen) (total : List DurLen)
-    → slice_get arcs i ≡ Some (from, to) → cost ≡ cost_of_turn penalty (from, to) → new ≡ costs ++ cost ∷ []
-    → costs ++ map (cost_of_turn penalty) (drop i arcs) ≡ total
-    → new ++ map (cost_of_turn penalty) (drop (i + 1) arcs) ≡ total
-turn-step arcs i penalty from to costs new cost total at is added so_far =
+pub turn-step : (f : ℕ × ℕ → DurLen) (arcs : List (ℕ × ℕ)) (i from to : ℕ) (costs new : List DurLen) (cost : DurLen) (total : List DurLen)
+    → slice_get arcs i ≡ Some (from, to) → cost ≡ f (from, to) → new ≡ costs ++ cost ∷ []
+    → costs ++ map f (drop i arcs) ≡ total
+    → new ++ map f (drop (i + 1) arcs) ≡ total
+turn-step f arcs i from to costs new cost total at is added so_far =
     let up : suc i ≡ i + 1 = omega arith in
-    let rest = map (cost_of_turn penalty) (drop (i + 1) arcs) in
-    let front : map (cost_of_turn penalty) (drop i arcs) ≡ cost_of_turn penalty (from, to) ∷ rest =
-    ap (λ (l : List (ℕ × ℕ)). map (cost_of_turn penalty) l) (drop-get arcs i (from, to) at ∙ ap (λ (k : ℕ). (from, to) ∷ drop k arcs) up) in
+    let rest = map f (drop (i + 1) arcs) in
+    let front : map f (drop i arcs) ≡ f (from, to) ∷ rest =
+    ap (λ (l : List (ℕ × ℕ)). map f l) (drop-get arcs i (from, to) at ∙ ap (λ (k : ℕ). (from, to) ∷ drop k arcs) up) in
     ap (λ (l : List DurLen). l ++ rest) added
     ∙ append_assoc costs (cost ∷ []) rest
     ∙ ap (λ (c : DurLen). costs ++ c ∷ rest) is

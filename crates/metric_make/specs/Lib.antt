@@ -1,1 +1,2 @@
 pub mod MetricOf
+pub mod TurnParts

@@ -1,14 +1,17 @@
 -- What the vertices and turns of a network cost by the profile of the vehicle alone (this project's rule).
-use Rattle.std.specs.Prelude.{ℕ, ◌*◌, ◌/◌, ◌==◌, max, map, Option, Some, None, All, if◌then◌else◌}
+use Rattle.std.specs.Prelude.{ℕ, ◌+◌, ◌*◌, ◌/◌, ◌==◌, nat_le, max, map, Bool, false, Option, Some, None, All, if◌then◌else◌}
+use Rattle.std.specs.List.{slice_get}
 use Rattle.std.specs.Option.{ForSome}
+use Rattle.geo_integer.specs.Bearing.{bearing_of, modifier_of}
 use Rattle.geo_integer.specs.Plane.{length_of}
 use Rattle.geo_integer.specs.Position.{position_of}
 use Rattle.search_graph.specs.Digraph.{Weighting}
 use Rattle.search_graph.specs.Durations.{durlen_ops}
 use Rattle.search_graph.specs.declared.costs.DurLen.{DurLen}
-use Rattle.edge_graph.specs.NetworkView.{NetworkView, graph_of, vertices_of}
+use Rattle.edge_graph.specs.NetworkView.{NetworkView, vertices_of}
+use Rattle.edge_graph.specs.Turn.{exits}
 use Rattle.edge_graph.specs.Vertex.{Vertex, opposite}
-use Rattle.way_profile.specs.Vehicle.{ProfileView}
+use Rattle.way_profile.specs.Vehicle.{ProfileView, penalty_of}
 
 -- the deciseconds for so many decimetres at so many thousandths of km/h, rounded down, at least 1
 abbrev pub duration_of : ℕ → ℕ → ℕ
@@ -21,12 +24,30 @@ cost_at length v = if v.permitted then Some (record { duration = duration_of len
 abbrev pub vertex_cost : Vertex → Option DurLen
 vertex_cost v = cost_at (length_of (position_of v.from) (position_of v.to)) v
 
--- what a turn costs: the penalty of turning back where it goes back onto its own segment, else nothing
-abbrev pub cost_of_turn : (penalty : ℕ) → ℕ × ℕ → DurLen
-cost_of_turn penalty turn = record { duration = if turn.1 == opposite turn.0 then penalty else 0; length = 0 }
+-- the bearing of a vertex, from its tail to its head
+abbrev pub bearing_along : Vertex → ℕ
+bearing_along v = bearing_of (position_of v.from) (position_of v.to)
 
-abbrev pub turn_cost : ProfileView → ℕ × ℕ → DurLen
-turn_cost profile turn = cost_of_turn profile.u_turn_penalty turn
+-- the penalty for the bend of a turn from d to e, by the exits of d: none where there is no choice of exits
+abbrev pub bend_penalty : ProfileView → ℕ → Vertex → Vertex → ℕ
+bend_penalty profile exits d e = if nat_le 2 exits then penalty_of profile (modifier_of (bearing_along d) (bearing_along e) false) else 0
+
+-- the penalty of a turn from d to e, which goes back onto its own segment or does not; a signal at the head
+-- of d adds its own
+abbrev pub penalty_between : ProfileView → ℕ → Bool → Vertex → Vertex → ℕ
+penalty_between profile exits back d e =
+    (if back then profile.u_turn_penalty else bend_penalty profile exits d e) + (if d.signal then profile.signal_penalty else 0)
+
+-- the penalty of the turn between the vertices of two numbers; none where there are no such vertices
+abbrev pub penalty_at : NetworkView → ℕ → ℕ → Option Vertex → Option Vertex → ℕ
+penalty_at network from to (Some d) (Some e) = penalty_between network.profile (exits (vertices_of network) from) (to == opposite from) d e
+penalty_at network from to _ _ = 0
+
+abbrev pub turn_cost : NetworkView → ℕ × ℕ → DurLen
+turn_cost network turn = record {
+  duration = penalty_at network turn.0 turn.1 (slice_get (vertices_of network) turn.0) (slice_get (vertices_of network) turn.1);
+  length = 0;
+}
 
 -- what the metric of a network is to those who use it
 pub record MetricView : Type 0 where
@@ -35,7 +56,7 @@ pub record MetricView : Type 0 where
 -- the metric of a network by the profile alone
 abbrev pub metric_of : NetworkView → MetricView
 metric_of network = record {
-  weights = record { vertex = map vertex_cost (vertices_of network); arc = map (turn_cost network.profile) (graph_of network).arcs };
+  weights = record { vertex = map vertex_cost (vertices_of network); arc = map (turn_cost network) network.turns };
 }
 
 -- each cost is within one unit

@@ -8,3 +8,5 @@ mod geometry;
 mod metrics;
 #[cfg(test)]
 mod networks;
+#[cfg(test)]
+mod towns;

@@ -1,65 +1,31 @@
-//! The metric of a worked network; the values are worked out by hand from this project's rules.
+//! The metric of worked networks; the values are worked out by hand from this project's rules.
 
 ghost use Rattle.std.specs.Prelude.{◌≡◌};
 ghost use Rattle.metric_make.specs.MetricOf.{metric_of};
 
+use crate::towns::{add_nodes, add_way, bend, crossing, profile_of};
 use edge_graph::Network;
 use metric_make::{BaseMetric, base};
-use road_base::{Ids, Node, Object, Point, Tags, Text, Way};
+use road_base::Object;
 use search_graph::DurLen;
 use std::alloc::{AllocError, Global};
-use way_profile::Profile;
 
 const CAR: &str =
     "name = \"car\"\nvehicle = \"motorcar\"\nu_turn_penalty = 200\n[speeds]\nresidential = 40\n";
 
-// The profile of the settings above.
-fn car(alloc: Global) -> Result<Profile, AllocError> {
-    match Profile::read(alloc, CAR.as_bytes()) {
-        Ok(profile) => Ok(profile),
-        Err(_) => Err(AllocError),
-    }
-}
-
-fn node(alloc: Global, id: i64, lon: i64, lat: i64) -> Object {
-    Object::Node(Node {
-        id,
-        point: Point::of(lon, lat),
-        tags: Tags::of(Vec::new(alloc)),
-    })
-}
+const WITH_PENALTIES: &str =
+    "name = \"car\"\nvehicle = \"motorcar\"\nu_turn_penalty = 200\nsignal_penalty = 30\n[speeds]\nresidential = 40\n[turn_penalty]\nleft = 50\nright = 7\n";
 
 // A one-way street from node 1 to node 2, and a street from node 2 to node 3. The second is so short that
 // its length and its duration are the least.
 fn streets(alloc: Global) -> Result<Vec<Object>, AllocError> {
-    let mut oneway = Vec::new(alloc);
-    oneway.push((
-        Text::copy_of(alloc, "highway")?,
-        Text::copy_of(alloc, "residential")?,
-    ))?;
-    oneway.push((
-        Text::copy_of(alloc, "oneway")?,
-        Text::copy_of(alloc, "yes")?,
-    ))?;
-    let mut street = Vec::new(alloc);
-    street.push((
-        Text::copy_of(alloc, "highway")?,
-        Text::copy_of(alloc, "residential")?,
-    ))?;
     let mut objects = Vec::new(alloc);
-    objects.push(node(alloc, 1, 0, 0))?;
-    objects.push(node(alloc, 2, 0, 1000))?;
-    objects.push(node(alloc, 3, 0, 1000))?;
-    objects.push(Object::Way(Way {
-        id: 1,
-        tags: Tags::of(oneway),
-        nodes: Ids::of(Vec::from_slice(alloc, &[1, 2])?),
-    }))?;
-    objects.push(Object::Way(Way {
-        id: 2,
-        tags: Tags::of(street),
-        nodes: Ids::of(Vec::from_slice(alloc, &[2, 3])?),
-    }))?;
+    let nodes = [(1, 0, 0), (2, 0, 1000), (3, 0, 1000)];
+    add_nodes(alloc, &mut objects, &nodes)?;
+    let oneway = [("highway", "residential"), ("oneway", "yes")];
+    add_way(alloc, &mut objects, 1, &oneway, &[1, 2])?;
+    let street = [("highway", "residential")];
+    add_way(alloc, &mut objects, 2, &street, &[2, 3])?;
     Ok(objects)
 }
 
@@ -80,6 +46,7 @@ fn told(alloc: Global, network: &Network, metric: &BaseMetric) -> Result<String,
         let cost = metric.vertex(v);
         text.push_str(cost_told(alloc, cost)?.as_str())?;
     }
+    text.push_str("| ")?;
     for i in 0..network.turns() {
         let cost = metric.turn(i);
         text.push_str(cost_told(alloc, Some(cost))?.as_str())?;
@@ -87,16 +54,50 @@ fn told(alloc: Global, network: &Network, metric: &BaseMetric) -> Result<String,
     Ok(text)
 }
 
-#[test]
-fn vertices_and_turns_have_their_costs(rt: HostRuntime) -> Result<(), AllocError> {
-    let alloc = rt.alloc();
-    let Ok(network) = Network::build(alloc, &streets(alloc)?, &car(alloc)?) else {
+// What the vertices and turns of a map cost by these settings.
+fn costs_of(alloc: Global, objects: &[Object], settings: &str) -> Result<String, AllocError> {
+    let Ok(network) = Network::build(alloc, objects, &profile_of(alloc, settings)?) else {
         return Err(AllocError);
     };
     let metric = base(alloc, &network)?;
-    // 1111 decimetres at 40 km/h are 99.99 deciseconds. The turns are 0-2, 2-3 and 3-2; the latter two
-    // turn back at the ends.
-    let got = told(alloc, &network, &metric)?;
-    assert_eq!(rt; got.as_str(), "99/1111 - 1/1 1/1 0/0 200/0 200/0 ");
+    told(alloc, &network, &metric)
+}
+
+// 1111 decimetres at 40 km/h are 99.99 deciseconds. The turns are 0-2, 2-3 and 3-2; the latter two turn
+// back at the ends.
+#[test]
+fn vertices_and_turns_have_their_costs(rt: HostRuntime) -> Result<(), AllocError> {
+    let alloc = rt.alloc();
+    let got = costs_of(alloc, &streets(alloc)?, CAR)?;
+    assert_eq!(rt; got.as_str(), "99/1111 - 1/1 1/1 | 0/0 200/0 200/0 ");
+    Ok(())
+}
+
+// At the crossing the turns from the south go right, straight on and left; then back at the end of way 1,
+// and so on. A signal adds its penalty to the turns at its node, that back at node 4 too. Where a street
+// only bends, no bend costs anything.
+#[test]
+fn bends_and_signals_have_their_penalties(rt: HostRuntime) -> Result<(), AllocError> {
+    let alloc = rt.alloc();
+    let signal = [("highway", "traffic_signals")];
+    let ways = "99/1111 99/1111 99/1111 99/1111 99/1111 99/1111 99/1111 99/1111 | ";
+    let plain = costs_of(alloc, &crossing(alloc, &[])?, WITH_PENALTIES)?;
+    let turns = "7/0 0/0 50/0 200/0 200/0 50/0 7/0 0/0 200/0 0/0 50/0 7/0 7/0 0/0 50/0 230/0 ";
+    assert_eq!(rt;
+        plain.as_str(),
+        format!(in alloc; "{ways}{turns}")?.as_str()
+    );
+    let signalled = costs_of(alloc, &crossing(alloc, &signal)?, WITH_PENALTIES)?;
+    let turns =
+        "37/0 30/0 80/0 200/0 200/0 80/0 37/0 30/0 200/0 30/0 80/0 37/0 37/0 30/0 80/0 230/0 ";
+    assert_eq!(rt;
+        signalled.as_str(),
+        format!(in alloc; "{ways}{turns}")?.as_str()
+    );
+    let bent = costs_of(alloc, &bend(alloc, &[])?, WITH_PENALTIES)?;
+    assert_eq!(rt;
+        bent.as_str(),
+        "99/1111 99/1111 99/1111 99/1111 | 0/0 200/0 200/0 0/0 "
+    );
     Ok(())
 }

@@ -1,7 +1,7 @@
 use Rattle.std.proofs.Common.{◌-◌, ◌<◌, refl, get_or, pos, rules, ap, ◌∙◌, FitsSigned, w64}
 use Rattle.std.proofs.lemmas.Int.{to_z-of_z}
 use Rattle.std.proofs.lemmas.List.Elements.{All-push}
-use Rattle.edge_graph.specs.Located.{located, segment_with}
+use Rattle.edge_graph.specs.Located.{segment_with, spot_in}
 use Rattle.edge_graph.proofs.SegmentLemmas.{no-row-step, none-else, row-step}
 use Rattle.edge_graph.proofs.roads.push_along.Goals.{in-Some+in_ok-push, in_default}
 use Rattle.edge_graph.proofs.roads.push_along.Goals as goal
@@ -16,12 +16,13 @@ loop-i-preserved c =
       rest = λ streets. elim c.match-segment_ends.branch [
         | in-Some+in_ok-push w ↦
             rw (w.rows-is, w.in_ok-push.ensures.items)
-            (row-step (located c.args.locations.now) c.args.street ids i c.args.rows.now.items c.loop-i.rows.items c.loop-i.auto.i c.loop-i-test.true c.loop-i.invariant.rest
-            _ (to_z-of_z w64 _ a) (to_z-of_z w64 _ b) refl
+            (row-step (spot_in c.args.spots.now) c.args.street ids i c.args.rows.now.items c.loop-i.rows.items c.loop-i.auto.i c.loop-i-test.true c.loop-i.invariant.rest
+            _ w.in-Some.from w.in-Some.to
+            (record { tail = to_z-of_z w64 _ a; head = to_z-of_z w64 _ b; begins = refl; ends = refl; at_tail = refl; at_head = refl; on = refl })
             (λ s. simp to_z-of_z at (c.segment_ends.ensures s) ∙ ap (segment_with s (get_or ids (i - 1) (pos 0)) (get_or ids i (pos 0))) w.in-Some.is) streets)
         | in_default w ↦
             rw w.rows-is
-            (no-row-step (located c.args.locations.now) c.args.street ids i c.args.rows.now.items c.loop-i.rows.items c.loop-i.auto.i c.loop-i-test.true c.loop-i.invariant.rest
+            (no-row-step (spot_in c.args.spots.now) c.args.street ids i c.args.rows.now.items c.loop-i.rows.items c.loop-i.auto.i c.loop-i-test.true c.loop-i.invariant.rest
             (λ s. simp to_z-of_z at (c.segment_ends.ensures s) ∙ ap (segment_with s (get_or ids (i - 1) (pos 0)) (get_or ids i (pos 0))) (none-else c.segment_ends.result (λ x e. w.in_default.not-Some x e))) streets)
       ];
       in_range = λ n h all. elim c.match-segment_ends.branch [

@@ -1,5 +1,5 @@
 use Rattle.std.proofs.Common.{◌≡◌, ℕ, ◌-◌, ◌<◌, ◌++◌, List, All, drop, get_or, pos}
-use Rattle.edge_graph.specs.Located.{located}
+use Rattle.edge_graph.specs.Located.{spot_in}
 use Rattle.edge_graph.specs.Rows.{segments_in, street_at}
 use Rattle.edge_graph.specs.Segment.{segments_along, segments_through}
 use Rattle.edge_graph.specs.declared.streets.Street.{Street}
@@ -8,7 +8,7 @@ use Rattle.edge_graph.proofs.roads.push_along.Given as goal
 -- the segments up to node i - 1 have their rows
 abbrev pub invariant-loop-i : goal.invariant-loop-i
 invariant-loop-i l = record {
-  rest : (streets : List Street) → segments_in streets l.rows.items ++ segments_through (located l.locations) (street_at streets l.street) (get_or l.ids (l.i - 1) (pos 0)) (drop l.i l.ids)
-      ≡ segments_in streets l.fn.rows.items ++ segments_along (located l.locations) (street_at streets l.street) l.ids;
+  rest : (streets : List Street) → segments_in streets l.rows.items ++ segments_through (spot_in l.spots) (street_at streets l.street) (get_or l.ids (l.i - 1) (pos 0)) (drop l.i l.ids)
+      ≡ segments_in streets l.fn.rows.items ++ segments_along (spot_in l.spots) (street_at streets l.street) l.ids;
   in_range : (n : ℕ) → l.street < n → All (λ row. row.street < n) l.fn.rows.items → All (λ row. row.street < n) l.rows.items;
 }

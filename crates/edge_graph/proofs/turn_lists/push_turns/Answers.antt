@@ -1,16 +1,9 @@
-use Rattle.std.proofs.Common.{◌≡◌, ℕ, ℤ, ◌*◌, ◌<◌, ◌++◌, List, not, ◌||◌, Some, length, arith, rules, refl, sym, ap, subst, ◌∙◌, w64, FitsSigned}
-use Rattle.std.specs.Prelude.{◌==◌}
-use Rattle.std.specs.List.{slice_get}
-use Rattle.std.proofs.lemmas.Int.{to_z-of_z}
+use Rattle.std.proofs.Common.{◌≡◌, ℕ, ◌++◌, List, [], ◌∷◌, Bool, cond, sym, ap, subst, ◌∙◌}
+use Rattle.std.specs.Result.{OnOk}
 use Rattle.std.proofs.lemmas.List.{append-nil}
-use Rattle.search_graph.proofs.Gets.{get_is}
-use Rattle.edge_graph.specs.Fans.{IsChain, fan_in, leavers}
-use Rattle.edge_graph.specs.Vertex.{vertices}
-use Rattle.edge_graph.specs.declared.fans.Fan.{Fan}
+use Rattle.edge_graph.specs.Vertex.{opposite, vertices}
 use Rattle.edge_graph.proofs.FanLemmas.{field-at}
-use Rattle.edge_graph.proofs.TurnLemmas.{IsLeft-ahead, IsLeft-done, IsLeft-next, both-ways, turns-chosen, turns-none}
-use Rattle.edge_graph.proofs.VertexLemmas.{length-vertices}
-use Rattle.edge_graph.proofs.turn_lists.push_turns.Goals.{then-may_turn+in_ok-push, else-may_turn}
+use Rattle.edge_graph.proofs.TurnLemmas.{both-ways, turns-back, turns-none, turns-on}
 use Rattle.edge_graph.proofs.turn_lists.push_turns.Goals as goal
 
 pub returns-then-not-permitted : goal.returns-then-not-permitted
@@ -18,54 +11,37 @@ returns-then-not-permitted c =
     let vs = vertices c.args.roads.now in
     let w = both-ways c.args.roads.now c.args.v c.requires.vertex in
     let closed = field-at (λ z. z.permitted) vs c.args.v w.0 c.permitted.result w.2 c.permitted.ensures ∙ c.if-not-permitted.true in
-    sym (ap (λ (x : List (ℕ × ℕ)). c.args.turns.now.items ++ x) (turns-none vs c.args.v w.0 w.1 w.2 w.3 w.4 closed) ∙ append-nil c.args.turns.now.items)
+    sym (ap (λ (x : List (ℕ × ℕ)). c.args.turns.now.items ++ x) (turns-none vs c.args.v w.0 w.1 w.2 w.3 w.4 c.args.restrictions.now.kept closed) ∙ append-nil c.args.turns.now.items)
 
-pub loop-e-init : goal.loop-e-init
-loop-e-init c =
+pub returns-then-not-must_turn_back : goal.returns-then-not-must_turn_back
+returns-then-not-must_turn_back c =
     let vs = vertices c.args.roads.now in
     let w = both-ways c.args.roads.now c.args.v c.requires.vertex in
-    let all : 2 * c.len-none.result ≡ length vs = omega (arith, length-vertices c.args.roads.now, c.len-none.ensures.value) in
     let opened = field-at (λ z. z.permitted) vs c.args.v w.0 c.permitted.result w.2 c.permitted.ensures ∙ c.if-not-permitted.false in
-    let head = field-at (λ z. z.head) vs c.args.v w.0 c.head.result w.2 c.head.ensures in
-    let fits : FitsSigned w64 c.head.result = search rules in
-    let is : c.fan_at-e.result ≡ fan_in c.args.fans.now.by_node (2 * c.len-none.result) c.head.result = simp to_z-of_z at c.fan_at-e.ensures in
-    let its : c.fan_at-e.result ≡ fan_in c.args.fans.now.by_node (length vs) w.0.head =
-    is ∙ ap (λ (n : ℕ). fan_in c.args.fans.now.by_node n c.head.result) all ∙ ap (λ (t : ℤ). fan_in c.args.fans.now.by_node (length vs) t) (sym head) in
-    let fan = c.requires.fans.each w.0.head in
-    record {
-      es = leavers vs w.0.head 0;
-      chain = subst (λ (n : ℕ). IsChain c.args.fans.now.next.items n 0 c.fan_at-e.result.first (leavers vs w.0.head 0)) (sym all)
-          (subst (λ (f : Fan). IsChain c.args.fans.now.next.items (length vs) 0 f.first (leavers vs w.0.head 0)) (sym its) fan.chain);
-      rest = ap (λ (x : List (ℕ × ℕ)). c.args.turns.now.items ++ x)
-          (sym (turns-chosen vs c.args.v w.0 w.1 w.2 w.3 w.4 (c.args.exit_count == 0) opened (ap (λ (n : ℕ). n == 0) (sym c.requires.exits))));
-    }
+    let on = sym c.must_turn_back.ensures ∙ c.if-not-must_turn_back.true in
+    subst (λ (l : List (ℕ × ℕ)). OnOk c.push_on.result (c.push_on.new.turns.items ≡ c.args.turns.now.items ++ l))
+    (sym (turns-on vs c.args.v w.0 w.1 w.2 w.3 w.4 c.args.restrictions.now.kept opened on)) c.push_on.ensures
 
-pub index-e-requires : goal.index-e-requires
-index-e-requires c =
-    let long : length c.args.fans.now.next.items ≡ 2 * c.len-none.result = c.requires.fans.nexts ∙ omega (arith, length-vertices c.args.roads.now, c.len-none.ensures.value) in
-    omega (arith, long)
+pub returns-in_ok-push : goal.returns-in_ok-push
+returns-in_ok-push c =
+    let vs = vertices c.args.roads.now in
+    let v = c.args.v in
+    let w = both-ways c.args.roads.now v c.requires.vertex in
+    let opened = field-at (λ z. z.permitted) vs v w.0 c.permitted.result w.2 c.permitted.ensures ∙ c.if-not-permitted.false in
+    let must = sym c.must_turn_back.ensures ∙ c.if-not-must_turn_back.false in
+    let may = sym c.may_turn_back.ensures ∙ c.if-may_turn_back.true in
+    let its = turns-back vs v w.0 w.1 w.2 w.3 w.4 c.args.restrictions.now.kept opened must ∙ ap (λ (b : Bool). cond b ((v, opposite v) ∷ []) []) may in
+    c.in_ok-push.ensures.items
+    ∙ ap (λ (k : ℕ). c.args.turns.now.items ++ (v, k) ∷ []) c.other_way.ensures
+    ∙ ap (λ (l : List (ℕ × ℕ)). c.args.turns.now.items ++ l) (sym its)
 
-pub loop-e-smaller : goal.loop-e-smaller
-loop-e-smaller c =
-    let long : length c.args.fans.now.next.items ≡ 2 * c.len-none.result = c.requires.fans.nexts ∙ omega (arith, length-vertices c.args.roads.now, c.len-none.ensures.value) in
-    let lt : c.loop-e.e < length c.args.fans.now.next.items = omega arith in
-    let at : slice_get c.args.fans.now.next.items c.loop-e.e ≡ Some c.index-e.result.now = get_is c.args.fans.now.next.items c.loop-e.e c.index-e.result.now lt (sym c.index-e.ensures) in
-    let ahead : c.loop-e.e < c.index-e.result.now = IsLeft-ahead _ _ _ _ _ _ _ _ c.loop-e.invariant c.loop-e-test.true at in
-    omega arith
-
-pub loop-e-preserved : goal.loop-e-preserved
-loop-e-preserved c =
-    let long : length c.args.fans.now.next.items ≡ 2 * c.len-none.result = c.requires.fans.nexts ∙ omega (arith, length-vertices c.args.roads.now, c.len-none.ensures.value) in
-    let lt : c.loop-e.e < length c.args.fans.now.next.items = omega arith in
-    let at : slice_get c.args.fans.now.next.items c.loop-e.e ≡ Some c.index-e.result.now = get_is c.args.fans.now.next.items c.loop-e.e c.index-e.result.now lt (sym c.index-e.ensures) in
-    let says = ap (λ (k : ℕ). not (c.loop-e.e == k) || (c.args.exit_count == 0)) (sym c.other_way-back.ensures) ∙ sym c.may_turn.ensures in
-    IsLeft-next _ _ _ _ _ _ _ _ _ c.loop-e.invariant c.loop-e-test.true at
-    (elim c.if-may_turn.branch [
-      | then-may_turn+in_ok-push w ↦ let test = says ∙ w.if-may_turn.true in rw (w.turns-is, w.in_ok-push.ensures.items, test) refl
-      | else-may_turn w ↦ let test = says ∙ w.if-may_turn.false in rw (w.turns-is, test) (sym (append-nil c.loop-e.turns.items))
-    ])
-
-pub returns : goal.returns
-returns c =
-    let long : length c.args.fans.now.next.items ≡ 2 * c.len-none.result = c.requires.fans.nexts ∙ omega (arith, length-vertices c.args.roads.now, c.len-none.ensures.value) in
-    IsLeft-done _ _ _ _ _ _ _ c.loop-e.invariant c.loop-e-test.false long
+pub returns-else-may_turn_back : goal.returns-else-may_turn_back
+returns-else-may_turn_back c =
+    let vs = vertices c.args.roads.now in
+    let v = c.args.v in
+    let w = both-ways c.args.roads.now v c.requires.vertex in
+    let opened = field-at (λ z. z.permitted) vs v w.0 c.permitted.result w.2 c.permitted.ensures ∙ c.if-not-permitted.false in
+    let must = sym c.must_turn_back.ensures ∙ c.if-not-must_turn_back.false in
+    let may = sym c.may_turn_back.ensures ∙ c.if-may_turn_back.false in
+    let its = turns-back vs v w.0 w.1 w.2 w.3 w.4 c.args.restrictions.now.kept opened must ∙ ap (λ (b : Bool). cond b ((v, opposite v) ∷ []) []) may in
+    sym (ap (λ (l : List (ℕ × ℕ)). c.args.turns.now.items ++ l) its ∙ append-nil c.args.turns.now.items)

@@ -1,44 +1,51 @@
-use Rattle.std.proofs.Common.{ℕ, length, arith, sym, ap, ◌∙◌}
-use Rattle.std.specs.Prelude.{option_map}
-use Rattle.std.specs.List.{slice_get}
-use Rattle.std.proofs.lemmas.Option.{slice_get_within}
+use Rattle.std.proofs.Common.{◌≡◌, ℕ, [], ◌∷◌, Bool, true, false, cond, length, refl, sym, ap, ◌∙◌}
+use mir.Val.{bool_byte}
+use Rattle.edge_graph.specs.TurnParts.{may_turn_back}
 use Rattle.edge_graph.specs.Vertex.{opposite, vertices}
 use Rattle.edge_graph.proofs.FanLemmas.{field-at}
-use Rattle.edge_graph.proofs.TurnLemmas.{bit, both-ways, length-turns_dead, length-turns_open, turns-none}
-use Rattle.edge_graph.proofs.VertexLemmas.{length-vertices}
+use Rattle.edge_graph.proofs.TurnLemmas.{bit, both-ways, length-turns_on, turns-back, turns-none, turns-on}
 use Rattle.edge_graph.proofs.turn_lists.turn_count.Goals as goal
-
-pub permitted-requires-else-exit_count-gt0 : goal.permitted-requires-else-exit_count-gt0
-permitted-requires-else-exit_count-gt0 c =
-    let w = both-ways c.args.roads.now c.args.v c.requires.vertex in
-    omega (arith, slice_get_within (vertices c.args.roads.now) (opposite c.args.v) w.1 w.3, length-vertices c.args.roads.now, c.other_way.ensures)
 
 pub returns-then-not-permitted : goal.returns-then-not-permitted
 returns-then-not-permitted c =
     let vs = vertices c.args.roads.now in
     let w = both-ways c.args.roads.now c.args.v c.requires.vertex in
     let closed = field-at (λ z. z.permitted) vs c.args.v w.0 c.permitted.result w.2 c.permitted.ensures ∙ c.if-not-permitted.true in
-    sym (ap length (turns-none vs c.args.v w.0 w.1 w.2 w.3 w.4 closed))
+    sym (ap length (turns-none vs c.args.v w.0 w.1 w.2 w.3 w.4 c.args.restrictions.now.kept closed))
 
-pub returns-then-exit_count-gt0 : goal.returns-then-exit_count-gt0
-returns-then-exit_count-gt0 c =
+length-one : (b : Bool) (t : ℕ × ℕ) → length (cond b (t ∷ []) []) ≡ bit b
+length-one true t = refl
+length-one false t = refl
+
+byte-bit : (b : Bool) → bool_byte b ≡ bit b
+byte-bit true = refl
+byte-bit false = refl
+
+pub returns-then-must_turn_back : goal.returns-then-must_turn_back
+returns-then-must_turn_back c =
     let vs = vertices c.args.roads.now in
+    let kept = c.args.restrictions.now.kept in
     let w = both-ways c.args.roads.now c.args.v c.requires.vertex in
     let opened = field-at (λ z. z.permitted) vs c.args.v w.0 c.permitted.result w.2 c.permitted.ensures ∙ c.if-not-permitted.false in
-    omega (arith, length-turns_open vs c.args.v w.0 w.1 w.2 w.3 w.4 opened (omega (arith, c.requires.exits)), c.requires.exits)
+    let must = sym c.must_turn_back.ensures ∙ c.if-must_turn_back.true in
+    let all = ap length (turns-back vs c.args.v w.0 w.1 w.2 w.3 w.4 kept opened must) ∙ length-one (may_turn_back vs kept c.args.v) (c.args.v, opposite c.args.v) in
+    c.from.ensures ∙ ap bool_byte c.may_turn_back.ensures ∙ byte-bit (may_turn_back vs kept c.args.v) ∙ sym all
 
-pub returns-then-permitted : goal.returns-then-permitted
-returns-then-permitted c =
+pub returns-then-is_ruled : goal.returns-then-is_ruled
+returns-then-is_ruled c =
     let vs = vertices c.args.roads.now in
+    let kept = c.args.restrictions.now.kept in
     let w = both-ways c.args.roads.now c.args.v c.requires.vertex in
     let opened = field-at (λ z. z.permitted) vs c.args.v w.0 c.permitted.result w.2 c.permitted.ensures ∙ c.if-not-permitted.false in
-    let back = field-at (λ z. z.permitted) vs (opposite c.args.v) w.1 c.permitted-else-exit_count-gt0.result w.3 (ap (λ (k : ℕ). option_map (λ z. z.permitted) (slice_get vs k)) (sym c.other_way.ensures) ∙ c.permitted-else-exit_count-gt0.ensures) ∙ c.if-permitted.true in
-    omega (arith, length-turns_dead vs c.args.v w.0 w.1 w.2 w.3 w.4 opened (omega (arith, c.requires.exits)), ap bit back)
+    let on = sym c.must_turn_back.ensures ∙ c.if-must_turn_back.false in
+    c.count_on.ensures ∙ sym (ap length (turns-on vs c.args.v w.0 w.1 w.2 w.3 w.4 kept opened on))
 
-pub returns-else-permitted : goal.returns-else-permitted
-returns-else-permitted c =
+pub returns-else-is_ruled : goal.returns-else-is_ruled
+returns-else-is_ruled c =
     let vs = vertices c.args.roads.now in
+    let kept = c.args.restrictions.now.kept in
     let w = both-ways c.args.roads.now c.args.v c.requires.vertex in
     let opened = field-at (λ z. z.permitted) vs c.args.v w.0 c.permitted.result w.2 c.permitted.ensures ∙ c.if-not-permitted.false in
-    let back = field-at (λ z. z.permitted) vs (opposite c.args.v) w.1 c.permitted-else-exit_count-gt0.result w.3 (ap (λ (k : ℕ). option_map (λ z. z.permitted) (slice_get vs k)) (sym c.other_way.ensures) ∙ c.permitted-else-exit_count-gt0.ensures) ∙ c.if-permitted.false in
-    omega (arith, length-turns_dead vs c.args.v w.0 w.1 w.2 w.3 w.4 opened (omega (arith, c.requires.exits)), ap bit back)
+    let on = sym c.must_turn_back.ensures ∙ c.if-must_turn_back.false in
+    let unruled = sym c.is_ruled.ensures ∙ c.if-is_ruled.false in
+    c.requires.exits ∙ sym (ap length (turns-on vs c.args.v w.0 w.1 w.2 w.3 w.4 kept opened on) ∙ length-turns_on vs c.args.v w.0 w.1 w.2 w.3 w.4 kept unruled)

@@ -6,4 +6,4 @@ use Rattle.edge_graph.proofs.turn_lists.turn_list.Given as goal
 
 -- the turns from the vertices so far are listed
 abbrev pub invariant-loop-v : goal.invariant-loop-v
-invariant-loop-v l = l.list.items ++ flat_map (turns_from (vertices l.roads)) (enumerate_from l.v (drop l.v (vertices l.roads))) ≡ turns (vertices l.roads)
+invariant-loop-v l = l.list.items ++ flat_map (turns_from (vertices l.roads) l.restrictions.kept) (enumerate_from l.v (drop l.v (vertices l.roads))) ≡ turns (vertices l.roads) l.restrictions.kept

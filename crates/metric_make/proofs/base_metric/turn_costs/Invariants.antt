@@ -1,11 +1,11 @@
 use Rattle.std.proofs.Common.{◌≡◌, ◌++◌, All, drop, map}
-use Rattle.metric_make.specs.MetricOf.{cost_of_turn}
+use Rattle.metric_make.specs.MetricOf.{turn_cost}
 use Rattle.search_graph.specs.Durations.{durlen_ops}
 use Rattle.metric_make.proofs.base_metric.turn_costs.Given as goal
 
 -- the turns so far have their costs
 abbrev pub invariant-loop-i : goal.invariant-loop-i
 invariant-loop-i l = record {
-  rest : l.costs.items ++ map (cost_of_turn l.turn_back) (drop l.i l.graph.arcs) ≡ map (cost_of_turn l.turn_back) l.graph.arcs;
+  rest : l.costs.items ++ map (turn_cost l.network) (drop l.i l.network.turns) ≡ map (turn_cost l.network) l.network.turns;
   unit : All (λ a. durlen_ops.units a 1) l.costs.items;
 }

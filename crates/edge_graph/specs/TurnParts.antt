@@ -1,0 +1,33 @@
+-- The turns from one vertex in parts: whether the vehicle can only turn back at its end, and where else it
+-- may go.
+use Rattle.std.specs.Prelude.{ℕ, ◌==◌, Bool, false, not, ◌&&◌, ◌||◌, List, [], map, filter}
+use Rattle.std.specs.List.{list_any, slice_get}
+use Rattle.std.specs.Option.{option_map_or}
+use Rattle.std.specs.Ordering.{int_eq}
+use Rattle.turn_rules.specs.Rules.{Rule}
+use Rattle.edge_graph.specs.Fans.{leavers}
+use Rattle.edge_graph.specs.Restrictions.{is_forbidden}
+use Rattle.edge_graph.specs.Turn.{exits}
+use Rattle.edge_graph.specs.Vertex.{Vertex, opposite}
+
+-- nothing else leaves the head of v, or it is closed
+abbrev pub must_turn_back : List Vertex → ℕ → Bool
+must_turn_back vs v = (exits vs v == 0) || option_map_or (λ x. x.closed) (slice_get vs v) false
+
+-- the other direction of v's segment is permitted, and no rule forbids to turn onto it
+abbrev pub may_turn_back : List Vertex → List Rule → ℕ → Bool
+may_turn_back vs rules v =
+    option_map_or (λ x. option_map_or (λ y. y.permitted && not (is_forbidden rules (v, x) (opposite v, y))) (slice_get vs (opposite v)) false) (slice_get vs v) false
+
+-- some rule stands at the head of v
+abbrev pub is_ruled : List Vertex → List Rule → ℕ → Bool
+is_ruled vs rules v = option_map_or (λ x. list_any (λ rule. int_eq rule.via x.head) rules) (slice_get vs v) false
+
+-- e is not the other direction of v's segment, and no rule forbids to turn onto it
+abbrev pub may_turn_on : List Vertex → List Rule → ℕ → ℕ → Bool
+may_turn_on vs rules v e =
+    not (e == opposite v) && option_map_or (λ x. option_map_or (λ y. not (is_forbidden rules (v, x) (e, y))) (slice_get vs e) false) (slice_get vs v) false
+
+-- the turns from v onto those that leave its head, but for the other direction of its segment
+abbrev pub turns_on : List Vertex → List Rule → ℕ → List (ℕ × ℕ)
+turns_on vs rules v = option_map_or (λ x. map (λ e. (v, e.0)) (filter (λ e. may_turn_on vs rules v e.0) (leavers vs x.head 0))) (slice_get vs v) []
