@@ -4,7 +4,9 @@ mod Falls
 mod Far
 mod Grown
 mod Offered
+mod Paged
 mod Queues
+mod Rewritten
 mod Settled
 mod Taken
 mod Trails

@@ -1,27 +1,30 @@
--- What the contracts of the labels cite: labels as the list of their entries, read as two functions of the vertex.
-use Rattle.std.specs.Prelude.{ℕ, Bool, false, cond, List, Option, Some, None}
+-- What the contracts of the labels cite: labels as their pages and slots, read as two functions of the vertex.
+use Rattle.std.specs.Prelude.{ℕ, Bool, true, false, cond, List, Option, Some, None}
 use Rattle.std.specs.Prelude.{nat_eq}
-use Rattle.std.specs.Map.{lookup}
+use Rattle.step_search.specs.Paged.{slot_at}
 use Rattle.step_search.specs.declared.labels.Label.{Label}
-use Rattle.step_search.specs.declared.labels.Entry.{Entry}
+use Rattle.step_search.specs.declared.labels.Slot.{Slot}
+use Rattle.step_search.specs.declared.labels.Slot.TheVariants.{Untouched, Labelled, Settled}
 
--- the label in an entry, if there is one
-abbrev pub label_in : {C : Type 0} → Option (Entry C) → Option (Label C)
-label_in None = None
-label_in (Some e) = Some e.label
+-- the label in a slot, if there is one
+abbrev pub label_in : {C : Type 0} → Slot C → Option (Label C)
+label_in Untouched = None
+label_in (Labelled l) = Some l
+label_in (Settled l) = Some l
 
--- whether there is an entry that is settled
-abbrev pub settled_in : {C : Type 0} → Option (Entry C) → Bool
-settled_in None = false
-settled_in (Some e) = e.settled
+-- whether a slot is settled
+abbrev pub settled_in : {C : Type 0} → Slot C → Bool
+settled_in Untouched = false
+settled_in (Labelled l) = false
+settled_in (Settled l) = true
 
 -- the label of the vertex v
-abbrev pub label_of : {C : Type 0} → List (ℕ × Entry C) → ℕ → Option (Label C)
-label_of es v = label_in (lookup (nat_eq v) es)
+abbrev pub label_of : {C : Type 0} → List ℕ × List (Slot C) → ℕ → Option (Label C)
+label_of s v = label_in (slot_at s.0 s.1 v)
 
 -- whether the vertex v is settled
-abbrev pub settled_of : {C : Type 0} → List (ℕ × Entry C) → ℕ → Bool
-settled_of es v = settled_in (lookup (nat_eq v) es)
+abbrev pub settled_of : {C : Type 0} → List ℕ × List (Slot C) → ℕ → Bool
+settled_of s v = settled_in (slot_at s.0 s.1 v)
 
 -- f, but y at v
 abbrev pub changed : {Y : Type 0} → (ℕ → Y) → ℕ → Y → ℕ → Y

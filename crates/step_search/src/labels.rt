@@ -1,10 +1,11 @@
-//! The labels of the vertices that a search has come to. Vertices that it hasn't touched cost nothing.
+//! The labels of the vertices that a search has come to. They stand on pages of neighbouring vertices, and a
+//! page is made when one of its vertices is first labelled.
 
 ghost use Rattle.std.specs.Prelude.{◌≡◌, [], true, false, Some, IsSome, OnOk};
 ghost use Rattle.step_search.specs.Labelled.{label_of, settled_of, changed};
 
+use crate::pages::{ensure_page, read, write};
 use std::alloc::{AllocError, Global};
-use std::collections::HashMap;
 use std::marker::Model;
 
 /// The cheapest way to a vertex so far: what is paid up to it and with it, and the node of the tree that it
@@ -15,35 +16,41 @@ pub struct Label<C> {
     pub node: usize,
 }
 
-/// A vertex's label, and whether it is settled, so that no cheaper way can come.
+/// What a search knows of a vertex: nothing, a label, or a label than which no cheaper way can come.
 #[derive(Clone, Copy, Drop)]
-pub struct Entry<C> {
-    pub label: Label<C>,
-    pub settled: bool,
+pub enum Slot<C> {
+    Untouched,
+    Labelled(Label<C>),
+    Settled(Label<C>),
 }
 
 /// The labels by vertex.
 #[derive(Drop)]
 pub struct Labels<C> {
-    map: HashMap<u32, Entry<C>>,
+    pages: Vec<usize>,
+    slots: Vec<Slot<C>>,
 }
 
 impl<C> Model for Labels<C> {
     ghost use Rattle.std.specs.Prelude.{ℕ, List};
-    ghost use Rattle.step_search.specs.declared.labels.Entry.{Entry};
+    ghost use Rattle.step_search.specs.declared.labels.Slot.{Slot};
+    ghost use Rattle.step_search.specs.Paged.{IsPaged};
 
-    ghost Value = { List (ℕ × Entry C) };
+    ghost Value = { List ℕ × List (Slot C) };
 
-    ghost view = { λ s. s.map.entries };
+    ghost view = { λ s. (s.pages.items, s.slots.items) };
+
+    ghost invariant = { λ s. IsPaged s.pages.items s.slots.items };
 }
 
 impl<C: Copy> Labels<C> {
     /// No labels.
     pub fn new(alloc: Global) -> Labels<C>
-        ensures { result ≡ [] }
+        ensures { result ≡ ([], []) }
     {
         Labels {
-            map: HashMap::new(alloc),
+            pages: Vec::new(alloc),
+            slots: Vec::new(alloc),
         }
     }
 
@@ -51,9 +58,10 @@ impl<C: Copy> Labels<C> {
     pub fn label(&self, v: u32) -> Option<Label<C>>
         ensures { result ≡ label_of self.now v }
     {
-        match self.map.get(&v) {
-            Some(entry) => Some(entry.label),
-            None => None,
+        match read(self.pages.as_slice(), self.slots.as_slice(), v) {
+            Slot::Untouched => None,
+            Slot::Labelled(label) => Some(label),
+            Slot::Settled(label) => Some(label),
         }
     }
 
@@ -61,9 +69,10 @@ impl<C: Copy> Labels<C> {
     pub fn is_settled(&self, v: u32) -> bool
         ensures { result ≡ settled_of self.now v }
     {
-        match self.map.get(&v) {
-            Some(entry) => entry.settled,
-            None => false,
+        match read(self.pages.as_slice(), self.slots.as_slice(), v) {
+            Slot::Untouched => false,
+            Slot::Labelled(_) => false,
+            Slot::Settled(_) => true,
         }
     }
 
@@ -73,11 +82,13 @@ impl<C: Copy> Labels<C> {
         ensures label { OnOk result (label_of self.new ≡ changed (label_of self.old) v (Some label)) }
         ensures settled { OnOk result (settled_of self.new ≡ settled_of self.old) }
     {
-        let entry = Entry {
-            label,
-            settled: false,
-        };
-        self.map.insert(v, entry)?;
+        ensure_page(&mut self.pages, &mut self.slots, v)?;
+        write(
+            self.pages.as_slice(),
+            &mut self.slots,
+            v,
+            Slot::Labelled(label),
+        );
         Ok(())
     }
 
@@ -87,8 +98,13 @@ impl<C: Copy> Labels<C> {
         ensures label { label_of self.new ≡ label_of self.old }
         ensures settled { settled_of self.new ≡ changed (settled_of self.old) v true }
     {
-        if let Some(entry) = self.map.get_mut(&v) {
-            entry.settled = true;
+        if let Slot::Labelled(label) = read(self.pages.as_slice(), self.slots.as_slice(), v) {
+            write(
+                self.pages.as_slice(),
+                &mut self.slots,
+                v,
+                Slot::Settled(label),
+            );
         }
     }
 }
