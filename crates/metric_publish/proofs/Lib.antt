@@ -1,0 +1,7 @@
+pub mod Fronts
+pub mod Runs
+pub mod Kin
+pub mod Adding
+pub mod Turns
+pub mod Publishing
+pub mod Reading
