@@ -1,106 +1,86 @@
 -- How an answer comes from its parts.
-use Rattle.std.proofs.Common.{◌≡◌, ℕ, ◌+◌, ◌*◌, ◌/◌, ◌<◌, ◌≤◌, List, [], ◌∷◌, Option, Some, None, sym, ap, subst, arith, refl, ◌∙◌, ap₂}
-use Rattle.std.specs.Prelude.{ℤ, pos, negsuc, option_map}
-use Rattle.std.specs.List.{slice_get}
-use Rattle.std.specs.Prelude.{Result, Ok, Err, IfOk}
-use Rattle.std.proofs.lemmas.Option.{slice_get_within, same_Some}
-use Rattle.std.proofs.lemmas.Bool.Decides.{nat_tests}
-use Rattle.std.proofs.Math.Nat.{div-lt_iff_lt-mul}
+use Rattle.std.proofs.Common.{◌≡◌, ℕ, ◌+◌, ◌-◌, ◌*◌, ◌<◌, List, length, drop, get_or, sym, ap, ap₂, refl, ◌∙◌, subst, arith, length-drop}
+use Rattle.std.specs.Prelude.{Option, Some, None, Result, Ok, Err, OnOk, option_map}
+use Rattle.std.specs.List.{AllZip, slice_get}
+use Rattle.std.proofs.lemmas.Option.{same_Some, slice_get-get_or}
+use Rattle.std.proofs.lemmas.Slice.Zip.{length-zip}
+use Rattle.road_base.specs.declared.coordinates.Point.{Point}
 use Rattle.road_base.specs.declared.segments.Place.{Place}
 use Rattle.geo_integer.specs.Position.{Position, position_of}
-use Rattle.geo_integer.specs.Plane.{distance_of, plane_between}
-use Rattle.geo_integer.specs.Project.{position_at, share_of, scalar_product}
+use Rattle.geo_integer.specs.Plane.{distance_of}
+use Rattle.geo_integer.specs.Project.{position_at}
 use Rattle.search_graph.specs.declared.costs.DurLen.{DurLen}
-use Rattle.search_graph.specs.Digraph.{Weighting}
+use Rattle.search_graph.specs.Digraph.{Digraph, Weighting}
+use Rattle.plain_search.specs.declared.found.Found.{Found}
 use Rattle.edge_graph.specs.Segment.{Segment}
-use Rattle.edge_graph.specs.Vertex.{Vertex, vertices}
 use Rattle.edge_graph.specs.NetworkView.{NetworkView, graph_of}
+use Rattle.edge_graph.specs.Vertex.{Vertex, vertices}
 use Rattle.edge_graph.proofs.VertexLemmas.{vertices-even}
+use Rattle.reply_core.specs.Answers.{HasNoWalk, IsLeastAlong, StandsFor, legs_of, waypoint_of, waypoint_on}
+use Rattle.reply_core.specs.Legs.{IsRouteAnswer}
 use Rattle.reply_core.specs.Places.{IsPlaceOf}
-use Rattle.reply_core.specs.Permitted.{HasNoRoute, IsLeastRoute}
-use Rattle.reply_core.specs.Request.{IsNoRequest}
-use Rattle.reply_core.specs.Snapped.{HasNoPlace, IsSnapped}
-use Rattle.reply_core.specs.Texts.{bad_request_text, no_segment_text, no_route_text, waypoint_text}
-use Rattle.reply_core.specs.Answers.{AnswersRequest, IsAnswer, IsAnswerOf, IsRouteText, IsWaypoint, Refuses}
-use Rattle.reply_core.specs.declared.answers.Answer.{Answer}
-use Rattle.reply_core.specs.declared.answers.Code.{Code}
-use Rattle.reply_core.specs.declared.answers.Code.TheVariants as code
-use Rattle.reply_core.proofs.SnapLemmas.{spot-by, nearest-by}
+use Rattle.reply_core.specs.RoadMetric.{RoadMetric}
+use Rattle.reply_core.specs.Snapped.{HasNoPlace, IsSnapped, spot_on}
+use Rattle.reply_core.specs.Texts.{waypoint_text}
+use Rattle.reply_core.proofs.PairLemmas.{all_zip-first, slice_get-rest, slice_get-zip}
+use Rattle.reply_core.proofs.SnapLemmas.{place-of, spot-by}
 
-part-bound : (p n : ℕ) → p < n → (2048 * p + n) / (2 * n) ≤ 1024
-part-bound p n h =
-    let some : 0 < 2 * n = omega arith in
-    let below : 2048 * p + n < 1025 * (2 * n) = omega arith in
-    let less : (2048 * p + n) / (2 * n) < 1025 = (div-lt_iff_lt-mul {k = 2 * n} {x = 2048 * p + n} {y = 1025} some).1 below in
-    omega arith
-
--- a share is at most the whole
-share-bound : (z : ℤ) (n : ℕ) → share_of z n ≤ 1024
-share-bound (negsuc p) n = omega arith
-share-bound (pos p) n = grind (arith, nat_tests, part-bound)
-
--- where a position is snapped to is a place of the network
-pub place-of : (network : NetworkView) (w : Weighting DurLen) (from : Position) (place : Place) → IsSnapped network.segments w from place → IsPlaceOf (graph_of network).vertices place
-place-of network w from place s =
-    let lt = slice_get_within network.segments place.segment s.segment s.is_segment in
-    record {
-      on_segment = omega (arith, lt);
-      within = subst (λ n. n ≤ 1024) (sym (s.nearest ∙ nearest-by s.segment from)) (share-bound (scalar_product from (position_of s.segment.from) (position_of s.segment.to)) (plane_between (position_of s.segment.from) (position_of s.segment.to)));
-    }
-
-waypoint-of : (segments : List Segment) (from : Position) (place : Place) (spot : Position) (name : List ℕ) (distance : ℕ) (text : List ℕ) (x : Segment)
-    → slice_get segments place.segment ≡ Some x → position_at (position_of x.from) (position_of x.to) place.at ≡ spot → x.street.name ≡ name
-    → distance ≡ distance_of from spot → text ≡ waypoint_text distance name spot.lon spot.lat → IsWaypoint segments from place text
-waypoint-of segments from place spot name distance text x is at named far e = record {
-  segment = x;
-  is_segment = is;
-  spot = spot;
-  is_spot = sym at ∙ sym (spot-by x place.at);
-  is_text = e ∙ ap₂ (λ d n. waypoint_text d n spot.lon spot.lat) far (sym named);
-}
+-- what holds after an `Ok` follows from what holds after it
+pub on_ok : {T E : Type 0} {P Q : Type 0} (r : Result T E) → (P → Q) → OnOk r P → OnOk r Q
+on_ok (Ok x) f h = f h
+on_ok (Err e) f h = h
 
 name-of : (segments : List Segment) (k : ℕ) (x : Segment) (name : List ℕ) → slice_get segments k ≡ Some x → option_map {U = List ℕ} (λ v. v.name) (slice_get (vertices segments) (2 * k)) ≡ Some name → x.street.name ≡ name
 name-of segments k x name is e = same_Some x.street.name name (sym (ap (option_map {U = List ℕ} (λ (v : Vertex). v.name)) (vertices-even segments k x (2 * k) is refl)) ∙ e)
 
+waypoint-at : (coordinate : Point) (at : ℕ) (point : Point) (name : List ℕ) (distance : ℕ) (x : Segment)
+    → position_at (position_of x.from) (position_of x.to) at ≡ position_of point → x.street.name ≡ name → distance ≡ distance_of (position_of coordinate) (position_of point)
+    → waypoint_text distance name point.lon point.lat ≡ waypoint_on (Some x) (position_of coordinate) at
+waypoint-at coordinate at point name distance x is named far =
+    let here : spot_on x at ≡ position_of point = spot-by x at ∙ is in
+    ap₂ (λ d n. waypoint_text d n point.lon point.lat) far (sym named)
+    ∙ sym (ap (λ (p : Position). waypoint_text (distance_of (position_of coordinate) p) x.street.name p.lon p.lat) here)
+
 -- what the network tells of a place is its waypoint
-pub waypoint-is : (segments : List Segment) (from : Position) (place : Place) (spot : Position) (name : List ℕ) (distance : ℕ) (text : List ℕ) (o : Option Segment)
-    → slice_get segments place.segment ≡ o → option_map {U = Position} (λ x. position_at (position_of x.from) (position_of x.to) place.at) o ≡ Some spot
+pub waypoint-is : (segments : List Segment) (coordinate : Point) (place : Place) (point : Point) (name : List ℕ) (distance : ℕ) (o : Option Segment)
+    → slice_get segments place.segment ≡ o → option_map {U = Position} (λ x. position_at (position_of x.from) (position_of x.to) place.at) o ≡ Some (position_of point)
     → option_map {U = List ℕ} (λ v. v.name) (slice_get (vertices segments) (2 * place.segment)) ≡ Some name
-    → distance ≡ distance_of from spot → text ≡ waypoint_text distance name spot.lon spot.lat → IsWaypoint segments from place text
-waypoint-is segments from place spot name distance text None is at named far e = cc
-waypoint-is segments from place spot name distance text (Some x) is at named far e =
-    waypoint-of segments from place spot name distance text x is (same_Some _ _ at) (name-of segments place.segment x name is named) far e
+    → distance ≡ distance_of (position_of coordinate) (position_of point) → waypoint_text distance name point.lon point.lat ≡ waypoint_of segments (coordinate, place)
+waypoint-is segments coordinate place point name distance None is at named far = cc
+waypoint-is segments coordinate place point name distance (Some x) is at named far =
+    waypoint-at coordinate place.at point name distance x (same_Some _ _ at) (name-of segments place.segment x name is named) far
+    ∙ sym (ap (λ (o : Option Segment). waypoint_on o (position_of coordinate) place.at) is)
 
-module _ (network : NetworkView) (w : Weighting DurLen) (number : ℕ) (answer : Answer) where
-  -- each case by its code
-  by-code : (k : Code) (line : List ℕ) → answer.code ≡ k → IsAnswerOf k network w number line answer → IsAnswer network w number line answer
-  by-code k line e h = subst (λ x. IsAnswerOf x network w number line answer) (sym e) h
+-- what was found over a metric's own network and weights
+module _ (m : RoadMetric) (n : NetworkView) (w : Weighting DurLen) (network : n ≡ m.network) (weights : w ≡ m.weights) where
+  pub stands-for : (coordinate : Point) (place : Place) → IsSnapped n.segments w (position_of coordinate) place → StandsFor m coordinate place
+  stands-for coordinate place h =
+      subst (λ (x : NetworkView). IsSnapped x.segments m.weights (position_of coordinate) place) network (subst (λ (x : Weighting DurLen). IsSnapped n.segments x (position_of coordinate) place) weights h)
 
-  pub bad_request-is : (line : List ℕ) → answer.code ≡ code.BadRequest → IsNoRequest line → Refuses answer bad_request_text → IsAnswer network w number line answer
-  bad_request-is line e h r = by-code code.BadRequest line e (h, r)
+  pub has-no_place : HasNoPlace n.segments w → HasNoPlace m.network.segments m.weights
+  has-no_place h = subst (λ (x : NetworkView). HasNoPlace x.segments m.weights) network (subst (λ (x : Weighting DurLen). HasNoPlace n.segments x) weights h)
 
-  pub no_segment-is : (from to : Position) → answer.code ≡ code.NoSegment → HasNoPlace network.segments w → Refuses answer (no_segment_text number 0) → AnswersRequest network w number from to answer
-  no_segment-is from to e h r = λ line asked. by-code code.NoSegment line e ((from, to, asked, h), r)
+module _ (m : RoadMetric) (g : Digraph) (w : Weighting DurLen) (graph : g ≡ graph_of m.network) (weights : w ≡ m.weights) (leg : Place × Place) where
+  over : (o : Option (Found DurLen)) → IsRouteAnswer g w leg.0 leg.1 o → IsRouteAnswer (graph_of m.network) m.weights leg.0 leg.1 o
+  over o h = subst (λ (x : Digraph). IsRouteAnswer x m.weights leg.0 leg.1 o) graph (subst (λ (x : Weighting DurLen). IsRouteAnswer g x leg.0 leg.1 o) weights h)
 
-  module _ (from to : Position) (first last : Place) (is_first : IsSnapped network.segments w from first) (is_last : IsSnapped network.segments w to last) where
-    pub no_route-is : answer.code ≡ code.NoRoute → HasNoRoute (graph_of network) w first last → Refuses answer (no_route_text number 0) → AnswersRequest network w number from to answer
-    no_route-is e h r = λ line asked. by-code code.NoRoute line e ((first, last, record { from = from; to = to; asked = asked; is_first = is_first; is_last = is_last }, h), r)
+  pub least-along : (o : Option (Found DurLen)) (route : Found DurLen) → IsRouteAnswer g w leg.0 leg.1 o → o ≡ Some route → IsLeastAlong m leg route
+  least-along o route h e = subst (λ (x : Option (Found DurLen)). IsRouteAnswer (graph_of m.network) m.weights leg.0 leg.1 x) e (over o h)
 
-    pub found-is : (walk : List ℕ) (cost : DurLen) → answer.code ≡ code.Ok → answer.places ≡ first ∷ last ∷ [] → answer.walks ≡ walk ∷ [] → IsLeastRoute (graph_of network) w first last walk cost
-        → IsRouteText network.segments number from first to last cost answer.text → AnswersRequest network w number from to answer
-    found-is walk cost e places walks least text = λ line asked. by-code code.Ok line e (record {
-      first = first;
-      last = last;
-      placed = record { from = from; to = to; asked = asked; is_first = is_first; is_last = is_last };
-      places = places;
-      walk = walk;
-      cost = cost;
-      least = least;
-      walks = walks;
-      text = text;
-    })
+  pub no-walk : (o : Option (Found DurLen)) → IsRouteAnswer g w leg.0 leg.1 o → o ≡ None → HasNoWalk m leg
+  no-walk o h e = subst (λ (x : Option (Found DurLen)). IsRouteAnswer (graph_of m.network) m.weights leg.0 leg.1 x) e (over o h)
 
--- what holds of an `Ok` follows from what holds of it
-pub ok_weaker : {T E : Type 0} {P Q : T → Type 0} (r : Result T E) → ((x : T) → P x → Q x) → IfOk r P → IfOk r Q
-ok_weaker (Ok x) f h = f x h
-ok_weaker (Err e) f h = h
+-- the leg of a number
+pub leg-at : (places : List Place) (k : ℕ) (d : Place) → k + 1 < length places → slice_get (legs_of places) k ≡ Some (get_or places k d, get_or places (k + 1) d)
+leg-at places k d lt =
+    let inside : k < length places = omega arith in
+    slice_get-zip places (drop 1 places) k (get_or places k d) (get_or places (k + 1) d) (slice_get-get_or places k d inside) (slice_get-rest places k ∙ slice_get-get_or places (k + 1) d lt)
+
+pub length-legs_of : (places : List Place) → length (legs_of places) ≡ length places - 1
+length-legs_of places = let e = length-zip places (drop 1 places) in let f = length-drop 1 places in omega (arith, e, f)
+
+-- a place that stands for some coordinate is one of the network
+pub are-places : (m : RoadMetric) (coordinates : List Point) (places : List Place) → AllZip (StandsFor m) coordinates places → (k : ℕ) (place : Place) → slice_get places k ≡ Some place → IsPlaceOf (2 * length m.network.segments) place
+are-places m coordinates places h k place at =
+    let of = all_zip-first (StandsFor m) coordinates places k place h at in
+    place-of m.network m.weights (position_of of.0) place of.1

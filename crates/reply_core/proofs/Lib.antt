@@ -1,8 +1,10 @@
 pub mod AnswerLemmas
 pub mod CheapestLemmas
-pub mod Cuts
 pub mod EndLemmas
 pub mod LegLemmas
-pub mod Requests
+pub mod LineLemmas
+pub mod ListLemmas
+pub mod PairLemmas
+pub mod RequestLemmas
 pub mod SnapLemmas
 pub mod TurnLemmas

@@ -1,84 +1,135 @@
--- What an answer to a line is, over a road network under one metric that was published under a number. The
--- cases exclude each other and leave no line out: the line is no request; no segment may be driven along; no
--- permitted walk joins the two places; there is a least route.
-use Rattle.std.specs.Prelude.{◌≡◌, ℕ, List, [], ◌∷◌, Some}
-use Rattle.std.specs.List.{slice_get}
+-- What an answer to a target, or to a line, is, over a road network under one metric that was published under
+-- a number. The cases exclude each other and leave nothing out: the line is of no form; the target is refused;
+-- a coordinate has no place; a leg has no permitted walk; there is a least route.
+use Rattle.std.specs.Prelude.{◌≡◌, ℕ, ◌<◌, ◌⊎◌, List, [], map, drop, Option, Some, None, Result, Ok, Err}
+use Rattle.std.specs.List.{AllZip, slice_get, zip}
+use Rattle.road_base.specs.declared.coordinates.Point.{Point}
 use Rattle.road_base.specs.declared.segments.Place.{Place}
-use Rattle.geo_integer.specs.Position.{Position}
+use Rattle.geo_integer.specs.Position.{Position, position_of}
 use Rattle.geo_integer.specs.Plane.{distance_of}
 use Rattle.search_graph.specs.declared.costs.DurLen.{DurLen}
-use Rattle.search_graph.specs.Digraph.{Weighting}
+use Rattle.plain_search.specs.declared.found.Found.{Found}
 use Rattle.edge_graph.specs.Segment.{Segment}
-use Rattle.edge_graph.specs.NetworkView.{NetworkView, graph_of}
-use Rattle.reply_core.specs.Permitted.{IsLeastRoute, HasNoRoute}
-use Rattle.reply_core.specs.Request.{IsRequest, IsNoRequest}
+use Rattle.edge_graph.specs.NetworkView.{graph_of}
+use Rattle.url_read.specs.Request.{request_of}
+use Rattle.url_read.specs.declared.refusals.Refusal.{Refusal}
+use Rattle.url_read.specs.declared.refusals.RefusalCode.{RefusalCode}
+use Rattle.url_read.specs.declared.refusals.RefusalCode.TheVariants as refused
+use Rattle.url_read.specs.declared.requests.Request.{Request}
+use Rattle.reply_core.specs.Permitted.{IsPermitted, IsLeastRoute, HasNoRoute}
+use Rattle.reply_core.specs.Request.{target_of}
+use Rattle.reply_core.specs.RoadMetric.{RoadMetric}
 use Rattle.reply_core.specs.Snapped.{IsSnapped, HasNoPlace, spot_on}
-use Rattle.reply_core.specs.Texts.{bad_request_text, no_segment_text, no_route_text, found_text, waypoint_text}
+use Rattle.reply_core.specs.Texts.{bad_request_text, found_text, no_route_text, no_segment_text, refusal_text, waypoint_text}
 use Rattle.reply_core.specs.declared.answers.Answer.{Answer}
 use Rattle.reply_core.specs.declared.answers.Code.{Code}
 use Rattle.reply_core.specs.declared.answers.Code.TheVariants as code
 
--- an answer without places and walks, of this text
-pub record Refuses (answer : Answer) (body : List ℕ) : Type 0 where
+-- the place stands for the coordinate
+abbrev pub StandsFor : RoadMetric → Point → Place → Type 0
+StandsFor metric coordinate place = IsSnapped metric.network.segments metric.weights (position_of coordinate) place
+
+-- some place does
+abbrev pub HasPlace : RoadMetric → Point → Type 0
+HasPlace metric coordinate = (place : Place) × StandsFor metric coordinate place
+
+-- the legs of a route through these places: from each to the next
+abbrev pub legs_of : List Place → List (Place × Place)
+legs_of places = zip places (drop 1 places)
+
+-- the route is a permitted walk along the leg with its cost, and none costs less
+abbrev pub IsLeastAlong : RoadMetric → Place × Place → Found DurLen → Type 0
+IsLeastAlong metric leg route = IsLeastRoute (graph_of metric.network) metric.weights leg.0 leg.1 route.walk route.cost
+
+-- some permitted walk leads along the leg
+abbrev pub HasWalk : RoadMetric → Place × Place → Type 0
+HasWalk metric leg = (walk : List ℕ) × (cost : DurLen) × IsPermitted (graph_of metric.network) metric.weights leg.0 leg.1 walk cost
+
+-- none does
+abbrev pub HasNoWalk : RoadMetric → Place × Place → Type 0
+HasNoWalk metric leg = HasNoRoute (graph_of metric.network) metric.weights leg.0 leg.1
+
+-- number n is that of the first of the list, from 0, that fails; those before it pass
+pub record IsFirstFailure {A : Type 0} (Passes Fails : A → Type 0) (all : List A) (n : ℕ) : Type 0 where
+  pub it : A
+  pub is_there : slice_get all n ≡ Some it
+  pub fails : Fails it
+  pub before : (k : ℕ) (one : A) → k < n → slice_get all k ≡ Some one → Passes one
+
+-- what the reply tells of a coordinate's place, which lies on this segment: how far it lies from the
+-- coordinate, its way's name, and where it lies
+abbrev pub waypoint_on : Option Segment → Position → ℕ → List ℕ
+waypoint_on None from at = []
+waypoint_on (Some segment) from at =
+    let spot = spot_on segment at in waypoint_text (distance_of from spot) segment.street.name spot.lon spot.lat
+
+abbrev pub waypoint_of : List Segment → Point × Place → List ℕ
+waypoint_of segments (coordinate, place) = waypoint_on (slice_get segments place.segment) (position_of coordinate) place.at
+
+-- the waypoints of all coordinates, in their order
+abbrev pub waypoints_of : List Segment → List Point → List Place → List (List ℕ)
+waypoints_of segments coordinates places = map (waypoint_of segments) (zip coordinates places)
+
+-- an answer of this code and text, without places and walks
+pub record Refuses (answer : Answer) (kind : Code) (body : List ℕ) : Type 0 where
+  pub code : answer.code ≡ kind
+  pub status : answer.status ≡ 400
   pub places : answer.places ≡ []
   pub walks : answer.walks ≡ []
   pub text : answer.text ≡ body
 
--- the line asks for a route, and this is where its two ends are snapped to
-pub record IsPlaced (network : NetworkView) (w : Weighting DurLen) (line : List ℕ) (first last : Place) : Type 0 where
-  pub from : Position
-  pub to : Position
-  pub asked : IsRequest line from to
-  pub is_first : IsSnapped network.segments w from first
-  pub is_last : IsSnapped network.segments w to last
+-- the first coordinate that has no place is refused
+pub record SaysNoSegment (metric : RoadMetric) (number : ℕ) (coordinates : List Point) (answer : Answer) : Type 0 where
+  pub coordinate : ℕ
+  pub first : IsFirstFailure (HasPlace metric) (λ _. HasNoPlace metric.network.segments metric.weights) coordinates coordinate
+  pub refuses : Refuses answer code.NoSegment (no_segment_text number coordinate)
 
--- the text tells of a place: how far it lies from the coordinate, its way's name, and where it lies
-pub record IsWaypoint (segments : List Segment) (from : Position) (place : Place) (text : List ℕ) : Type 0 where
-  pub segment : Segment
-  pub is_segment : slice_get segments place.segment ≡ Some segment
-  pub spot : Position
-  pub is_spot : spot ≡ spot_on segment place.at
-  pub is_text : text ≡ waypoint_text (distance_of from spot) segment.street.name spot.lon spot.lat
+-- each coordinate has a place, and the first leg that has no permitted walk is refused
+pub record SaysNoRoute (metric : RoadMetric) (number : ℕ) (coordinates : List Point) (answer : Answer) : Type 0 where
+  pub places : List Place
+  pub snapped : AllZip (StandsFor metric) coordinates places
+  pub leg : ℕ
+  pub first : IsFirstFailure (HasWalk metric) (HasNoWalk metric) (legs_of places) leg
+  pub refuses : Refuses answer code.NoRoute (no_route_text number leg)
 
--- the text tells of a route of this cost between two places
-pub record IsRouteText (segments : List Segment) (number : ℕ) (from : Position) (first : Place) (to : Position) (last : Place) (cost : DurLen) (text : List ℕ) : Type 0 where
-  pub first_text : List ℕ
-  pub is_first : IsWaypoint segments from first first_text
-  pub last_text : List ℕ
-  pub is_last : IsWaypoint segments to last last_text
-  pub is_text : text ≡ found_text number cost first_text last_text
+-- the places of the coordinates, a least route along each leg, and the text of exactly these
+pub record SaysRoute (metric : RoadMetric) (number : ℕ) (coordinates : List Point) (answer : Answer) : Type 0 where
+  pub code : answer.code ≡ code.Ok
+  pub status : answer.status ≡ 200
+  pub snapped : AllZip (StandsFor metric) coordinates answer.places
+  pub routes : List (Found DurLen)
+  pub least : AllZip (IsLeastAlong metric) (legs_of answer.places) routes
+  pub walks : answer.walks ≡ map (λ route. route.walk) routes
+  pub text : answer.text ≡ found_text number (map (λ route. route.cost) routes) (waypoints_of metric.network.segments coordinates answer.places)
 
--- an answer with one walk that is a least route between the two places, and with the text of exactly its cost
-pub record IsFoundAnswer (network : NetworkView) (w : Weighting DurLen) (number : ℕ) (line : List ℕ) (answer : Answer) : Type 0 where
-  pub first : Place
-  pub last : Place
-  pub placed : IsPlaced network w line first last
-  pub places : answer.places ≡ first ∷ last ∷ []
-  pub walk : List ℕ
-  pub cost : DurLen
-  pub least : IsLeastRoute (graph_of network) w first last walk cost
-  pub walks : answer.walks ≡ walk ∷ []
-  pub text : IsRouteText network.segments number placed.from first placed.to last cost answer.text
+-- the answer to a request for a route through these coordinates
+abbrev pub IsRouteReply : RoadMetric → ℕ → List Point → Answer → Type 0
+IsRouteReply metric number coordinates answer =
+    SaysNoSegment metric number coordinates answer ⊎ (SaysNoRoute metric number coordinates answer ⊎ SaysRoute metric number coordinates answer)
 
--- the line asks for a route, but no segment may be driven along
-abbrev pub IsUnplaced : NetworkView → Weighting DurLen → List ℕ → Type 0
-IsUnplaced network w line = (from to : Position) × IsRequest line from to × HasNoPlace network.segments w
+-- the code of the answer to a target that is refused
+abbrev pub code_of : RefusalCode → Code
+code_of refused.InvalidUrl = code.InvalidUrl
+code_of refused.InvalidService = code.InvalidService
+code_of refused.InvalidVersion = code.InvalidVersion
+code_of refused.InvalidOptions = code.InvalidOptions
+code_of refused.InvalidQuery = code.InvalidQuery
+code_of refused.InvalidValue = code.InvalidValue
+code_of refused.TooBig = code.TooBig
 
--- the line asks for a route, but no permitted walk leads from the first place to the last
-abbrev pub IsUnreached : NetworkView → Weighting DurLen → List ℕ → Type 0
-IsUnreached network w line = (first last : Place) × IsPlaced network w line first last × HasNoRoute (graph_of network) w first last
+-- the answer to a request, or to the target that was refused
+abbrev pub IsReply : RoadMetric → ℕ → Result Request Refusal → Answer → Type 0
+IsReply metric number (Ok request) answer = IsRouteReply metric number request.points answer
+IsReply metric number (Err refusal) answer = Refuses answer (code_of refusal.code) (refusal_text (code_of refusal.code) refusal.message)
 
--- the answer is right for its code
-abbrev pub IsAnswerOf : Code → NetworkView → Weighting DurLen → ℕ → List ℕ → Answer → Type 0
-IsAnswerOf code.BadRequest network w number line answer = IsNoRequest line × Refuses answer bad_request_text
-IsAnswerOf code.NoSegment network w number line answer = IsUnplaced network w line × Refuses answer (no_segment_text number 0)
-IsAnswerOf code.NoRoute network w number line answer = IsUnreached network w line × Refuses answer (no_route_text number 0)
-IsAnswerOf code.Ok network w number line answer = IsFoundAnswer network w number line answer
+-- the answer is one to the target
+abbrev pub IsAnswer : RoadMetric → ℕ → List ℕ → Answer → Type 0
+IsAnswer metric number target answer = IsReply metric number (request_of target) answer
 
--- the answer is one to the line
-abbrev pub IsAnswer : NetworkView → Weighting DurLen → ℕ → List ℕ → Answer → Type 0
-IsAnswer network w number line answer = IsAnswerOf answer.code network w number line answer
+abbrev pub IsAnswerToAny : RoadMetric → ℕ → Option (List ℕ) → Answer → Type 0
+IsAnswerToAny metric number (Some target) answer = IsAnswer metric number target answer
+IsAnswerToAny metric number None answer = Refuses answer code.BadRequest bad_request_text
 
--- the answer is one to each line that asks for a route between these two positions
-abbrev pub AnswersRequest : NetworkView → Weighting DurLen → ℕ → Position → Position → Answer → Type 0
-AnswersRequest network w number from to answer = (line : List ℕ) → IsRequest line from to → IsAnswer network w number line answer
+-- the answer is one to the line: to its target, or that it is of no form
+abbrev pub IsLineAnswer : RoadMetric → ℕ → List ℕ → Answer → Type 0
+IsLineAnswer metric number line answer = IsAnswerToAny metric number (target_of line) answer

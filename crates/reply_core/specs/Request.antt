@@ -1,35 +1,12 @@
--- The lines that ask for a route: the request of OSRM's HTTP API, version 1, between two coordinates and
--- without the route's geometry.
-use Rattle.std.specs.Prelude.{◌≡◌, ℕ, ◌≤◌, ◌==◌, Bool, List, ◌++◌, length, codes, Some}
-use Rattle.std.specs.List.{before_first, after_first}
-use Rattle.road_base.specs.Earth.{IsOnEarth}
-use Rattle.decimal_text.specs.Decimal.{microdegrees_of}
-use Rattle.geo_integer.specs.Position.{Position}
+-- The lines that ask for an answer: `GET` and a target.
+use Rattle.std.specs.Prelude.{ℕ, Bool, ◌&&◌, List, length, take, drop, codes, bytes_eq, nat_le, Option, Some, None, if◌then◌else◌}
+use Rattle.std.specs.Str.{is_utf8}
 
-abbrev pub is_comma : ℕ → Bool
-is_comma b = b == 44
+-- the line is text of at most 8192 bytes that begins with `GET` and one blank
+abbrev pub asks : List ℕ → Bool
+asks line = nat_le (length line) 8192 && (is_utf8 line && bytes_eq (take 4 line) (codes "GET "))
 
-abbrev pub is_semicolon : ℕ → Bool
-is_semicolon b = b == 59
-
--- the text is two decimals in degrees parted by a comma, the longitude and the latitude of a position on Earth
-pub record IsCoordinate (text : List ℕ) (p : Position) : Type 0 where
-  pub longitude : microdegrees_of (before_first is_comma text) ≡ Some p.lon
-  pub latitude : microdegrees_of (after_first is_comma text) ≡ Some p.lat
-  pub on_earth : IsOnEarth p.lon p.lat
-
--- the line asks for a route, and these are its coordinates
-abbrev pub HasCoordinates : List ℕ → List ℕ → Type 0
-HasCoordinates line coordinates = line ≡ codes "GET /route/v1/car/" ++ (coordinates ++ codes "?overview=false")
-
--- the line asks for a route between these two positions; it has at most 8192 bytes
-pub record IsRequest (line : List ℕ) (from to : Position) : Type 0 where
-  pub within : length line ≤ 8192
-  pub coordinates : List ℕ
-  pub has : HasCoordinates line coordinates
-  pub first : IsCoordinate (before_first is_semicolon coordinates) from
-  pub second : IsCoordinate (after_first is_semicolon coordinates) to
-
--- the line is of another form
-abbrev pub IsNoRequest : List ℕ → Type 0
-IsNoRequest line = (from to : Position) → ¬ IsRequest line from to
+-- the target that a line asks for: all that follows `GET` and one blank, further blanks too; None where the
+-- line is of another form
+abbrev pub target_of : List ℕ → Option (List ℕ)
+target_of line = if asks line then Some (drop 4 line) else None

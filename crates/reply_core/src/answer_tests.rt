@@ -1,17 +1,56 @@
 //! Whole answers over small towns.
 
+use crate::answering::{answer, line_answer};
 use crate::answers::{Answer, Code, ReplyFault};
-use crate::line_answers::line_answer;
+use crate::grids::Grid;
+use crate::metrics::Metric;
 use edge_graph::Network;
 use metric_make::base;
+use metric_publish::held::Held;
 use road_base::{Ids, Node, Object, Point, Tags, Text, Way};
 use std::alloc::Global;
+use std::sync::Arc;
 use way_profile::Profile;
 
 const SETTINGS: &[u8] =
     b"name = \"car\"\nvehicle = \"motorcar\"\nu_turn_penalty = 200\n[speeds]\nresidential = 40\n";
 
-// A node at these thousandths of a degree.
+/// Two streets that meet at a right angle.
+const CORNER: Town = Town {
+    nodes: &[(0, 0), (0, 1), (1, 1)],
+    way: &[1, 2, 3],
+    oneway: "no",
+};
+
+/// A block that is driven round one way.
+const BLOCK: Town = Town {
+    nodes: &[(0, 0), (1, 0), (1, 1), (0, 1)],
+    way: &[1, 2, 3, 4, 1],
+    oneway: "yes",
+};
+
+/// A lane that is driven one way.
+const LANE: Town = Town {
+    nodes: &[(0, 0), (1, 0)],
+    way: &[1, 2],
+    oneway: "yes",
+};
+
+/// No streets.
+const DESERT: Town = Town {
+    nodes: &[],
+    way: &[],
+    oneway: "no",
+};
+
+// Nodes at these thousandths of a degree, numbered from 1, and a residential way through some of them.
+#[derive(Clone, Copy)]
+struct Town {
+    nodes: &'static [(i32, i32)],
+    way: &'static [i64],
+    oneway: &'static str,
+}
+
 fn node(alloc: Global, id: i64, x: i32, y: i32) -> Object {
     Object::Node(Node {
         id,
@@ -20,7 +59,6 @@ fn node(alloc: Global, id: i64, x: i32, y: i32) -> Object {
     })
 }
 
-// A residential way through these nodes.
 fn way(alloc: Global, nodes: &[i64], oneway: &str) -> Result<Object, ReplyFault> {
     let mut tags = Vec::new(alloc);
     tags.push((
@@ -38,63 +76,74 @@ fn way(alloc: Global, nodes: &[i64], oneway: &str) -> Result<Object, ReplyFault>
     }))
 }
 
-// Nodes at these places, numbered from 1, and a way through some of them.
-fn town(
-    alloc: Global,
-    places: &[(i32, i32)],
-    nodes: &[i64],
-    oneway: &str,
-) -> Result<Vec<Object>, ReplyFault> {
+fn objects_of(alloc: Global, town: Town) -> Result<Vec<Object>, ReplyFault> {
     let mut objects = Vec::new(alloc);
     let mut id = 0i64;
-    for (x, y) in places {
+    for (x, y) in town.nodes {
         id = id.saturating_add(1);
         objects.push(node(alloc, id, *x, *y))?;
     }
-    objects.push(way(alloc, nodes, oneway)?)?;
+    objects.push(way(alloc, town.way, town.oneway)?)?;
     Ok(objects)
 }
 
-fn answer(alloc: Global, objects: &[Object], line: &[u8]) -> Result<Answer, ReplyFault> {
+fn network_of(alloc: Global, town: Town) -> Result<Network, ReplyFault> {
+    let objects = objects_of(alloc, town)?;
     let Ok(profile) = Profile::read(alloc, SETTINGS) else {
         return Err(ReplyFault::Memory);
     };
-    let Ok(network) = Network::build(alloc, objects, &profile) else {
-        return Err(ReplyFault::Memory);
+    match Network::build(alloc, &objects, &profile) {
+        Ok(network) => Ok(network),
+        Err(_) => Err(ReplyFault::Memory),
+    }
+}
+
+// The answer to a target or to a line, under a metric of this number.
+fn ask(rt: &HostRuntime, town: Town, asked: Asked<'_>) -> Result<Answer, ReplyFault> {
+    let alloc = rt.alloc();
+    let network = network_of(alloc, town)?;
+    let grid = Grid::of(alloc, &network)?;
+    let base = base(alloc, &network)?;
+    let held = Held {
+        number: 7,
+        value: Arc::new(alloc, Metric::make(Arc::new(alloc, network)?, base))?,
     };
-    let metric = base(alloc, &network)?;
-    line_answer(alloc, &network, &metric, 0, line)
+    match asked {
+        Asked::Target(target) => answer(rt, alloc, &held, &grid, target.as_bytes()),
+        Asked::Line(line) => line_answer(rt, alloc, &held, &grid, line),
+    }
+}
+
+#[derive(Clone, Copy)]
+enum Asked<'a> {
+    Target(&'a str),
+    Line(&'a [u8]),
 }
 
 #[test]
 fn the_first_route(rt: HostRuntime) -> Result<(), ReplyFault> {
-    let objects = town(rt.alloc(), &[(0, 0), (0, 1), (1, 1)], &[1, 2, 3], "no")?;
-    let line = b"GET /route/v1/car/0,0;0.001,0.001?overview=false";
-    let answer = answer(rt.alloc(), &objects, line)?;
+    let target = Asked::Target("/route/v1/car/0,0;0.001,0.001?overview=false");
+    let answer = ask(&rt, CORNER, target)?;
     assert_eq!(rt; answer.code, Code::Ok);
+    assert_eq!(rt; answer.status, 200);
     assert_eq!(rt;
         answer.text.as_str(),
-        "{\"code\":\"Ok\",\"data_version\":\"0\",\"routes\":[{\"distance\":222.2,\"duration\":19.8,\"weight\":19.8,\"weight_name\":\"duration\",\"legs\":[{\"distance\":222.2,\"duration\":19.8,\"weight\":19.8,\"summary\":\"\",\"steps\":[]}]}],\"waypoints\":[{\"distance\":0.0,\"name\":\"\",\"location\":[0.000000,0.000000]},{\"distance\":0.0,\"name\":\"\",\"location\":[0.001000,0.001000]}]}"
+        "{\"code\":\"Ok\",\"data_version\":\"7\",\"routes\":[{\"distance\":222.2,\"duration\":19.8,\"weight\":19.8,\"weight_name\":\"duration\",\"legs\":[{\"distance\":222.2,\"duration\":19.8,\"weight\":19.8,\"summary\":\"\",\"steps\":[]}]}],\"waypoints\":[{\"distance\":0.0,\"name\":\"\",\"location\":[0.000000,0.000000]},{\"distance\":0.0,\"name\":\"\",\"location\":[0.001000,0.001000]}]}"
     );
     Ok(())
 }
 
 #[test]
 fn round_a_oneway_block(rt: HostRuntime) -> Result<(), ReplyFault> {
-    let objects = town(
-        rt.alloc(),
-        &[(0, 0), (1, 0), (1, 1), (0, 1)],
-        &[1, 2, 3, 4, 1],
-        "yes",
-    )?;
-    let line = b"GET /route/v1/car/0.00075,0;0.00025,0?overview=false";
-    let answer = answer(rt.alloc(), &objects, line)?;
+    let target = Asked::Target("/route/v1/car/0.00075,0;0.00025,0?overview=false");
+    let answer = ask(&rt, BLOCK, target)?;
     assert_eq!(rt; answer.code, Code::Ok);
     assert!(rt;
         answer.text.as_str().contains(
             "\"distance\":388.8,\"duration\":34.6,\"weight\":34.6,\"weight_name\""
         )
     );
+    assert_eq!(rt; answer.walks.as_slice().len(), 1);
     for walk in answer.walks.as_slice() {
         assert_eq!(rt; walk.as_slice(), &[0, 2, 4, 6, 0][..]);
     }
@@ -102,20 +151,122 @@ fn round_a_oneway_block(rt: HostRuntime) -> Result<(), ReplyFault> {
 }
 
 #[test]
-fn refusals(rt: HostRuntime) -> Result<(), ReplyFault> {
-    let line = b"GET /route/v1/car/0.00075,0;0.00025,0?overview=false";
-    let lane = town(rt.alloc(), &[(0, 0), (1, 0)], &[1, 2], "yes")?;
-    let no_route = answer(rt.alloc(), &lane, line)?;
+fn a_route_through_three_coordinates(rt: HostRuntime) -> Result<(), ReplyFault> {
+    let target = Asked::Target("/route/v1/car/0,0;0.00001,0.0005;0.001,0.001?overview=false");
+    let answer = ask(&rt, CORNER, target)?;
     assert_eq!(rt;
-        no_route.text.as_str(),
-        "{\"code\":\"NoRoute\",\"data_version\":\"0\",\"message\":\"leg 0\"}"
+        answer.text.as_str(),
+        "{\"code\":\"Ok\",\"data_version\":\"7\",\"routes\":[{\"distance\":222.2,\"duration\":19.8,\"weight\":19.8,\"weight_name\":\"duration\",\"legs\":[{\"distance\":55.5,\"duration\":4.9,\"weight\":4.9,\"summary\":\"\",\"steps\":[]},{\"distance\":166.7,\"duration\":14.9,\"weight\":14.9,\"summary\":\"\",\"steps\":[]}]}],\"waypoints\":[{\"distance\":0.0,\"name\":\"\",\"location\":[0.000000,0.000000]},{\"distance\":1.1,\"name\":\"\",\"location\":[0.000000,0.000500]},{\"distance\":0.0,\"name\":\"\",\"location\":[0.001000,0.001000]}]}"
     );
-    let no_segment = answer(rt.alloc(), &[], line)?;
-    assert_eq!(rt;
-        no_segment.text.as_str(),
-        "{\"code\":\"NoSegment\",\"data_version\":\"0\",\"message\":\"coordinate 0\"}"
-    );
-    let bad_request = answer(rt.alloc(), &lane, b"GET /")?;
-    assert_eq!(rt; bad_request.text.as_str(), "{\"code\":\"BadRequest\"}");
+    Ok(())
+}
+
+#[test]
+fn refusals_under_a_metric(rt: HostRuntime) -> Result<(), ReplyFault> {
+    for (town, target, text) in [
+        (
+            LANE,
+            "/route/v1/car/0.00075,0;0.00025,0?overview=false",
+            "{\"code\":\"NoRoute\",\"data_version\":\"7\",\"message\":\"leg 0\"}",
+        ),
+        (
+            LANE,
+            "/route/v1/car/0,0;0.001,0;0,0?overview=false",
+            "{\"code\":\"NoRoute\",\"data_version\":\"7\",\"message\":\"leg 1\"}",
+        ),
+        (
+            DESERT,
+            "/route/v1/car/0,0;0,0?overview=false",
+            "{\"code\":\"NoSegment\",\"data_version\":\"7\",\"message\":\"coordinate 0\"}",
+        ),
+    ] {
+        let answer = ask(&rt, town, Asked::Target(target))?;
+        assert_eq!(rt; answer.status, 400);
+        assert_eq!(rt; answer.text.as_str(), text);
+        assert_eq!(rt; answer.places.as_slice().len(), 0);
+    }
+    Ok(())
+}
+
+#[test]
+fn refusals_of_targets(rt: HostRuntime) -> Result<(), ReplyFault> {
+    let mut many = String::from_str(rt.alloc(), "/route/v1/car/0,0")?;
+    for _ in 0..500 {
+        many.push_str(";0,0")?;
+    }
+    many.push_str("?overview=false")?;
+    for (target, text) in [
+        (
+            "/route/v1/car/0,0;0,0/?overview=false",
+            "{\"code\":\"InvalidUrl\",\"message\":\"path\"}",
+        ),
+        (
+            "/trip/v1/car/0,0;0,0?overview=false",
+            "{\"code\":\"InvalidService\",\"message\":\"service trip\"}",
+        ),
+        (
+            "/route/v2/car/0,0;0,0?foo=1",
+            "{\"code\":\"InvalidVersion\",\"message\":\"version v2\"}",
+        ),
+        (
+            "/route/v1/car/0,0;0,0",
+            "{\"code\":\"InvalidOptions\",\"message\":\"option overview\"}",
+        ),
+        (
+            "/route/v1/car/0,0;0,0?a\"b=1",
+            "{\"code\":\"InvalidOptions\",\"message\":\"option a\\\"b\"}",
+        ),
+        (
+            "/route/v1/car/0,0;x,0?overview=false",
+            "{\"code\":\"InvalidQuery\",\"message\":\"coordinate 1\"}",
+        ),
+        (
+            "/route/v1/car/200,0;0,0?overview=false",
+            "{\"code\":\"InvalidValue\",\"message\":\"coordinate 0\"}",
+        ),
+        (
+            many.as_str(),
+            "{\"code\":\"TooBig\",\"message\":\"501 coordinates, at most 500\"}",
+        ),
+    ] {
+        let answer = ask(&rt, LANE, Asked::Target(target))?;
+        assert_eq!(rt; answer.status, 400);
+        assert_eq!(rt; answer.text.as_str(), text);
+    }
+    Ok(())
+}
+
+#[test]
+fn lines(rt: HostRuntime) -> Result<(), ReplyFault> {
+    let mut long = String::from_str(rt.alloc(), "GET ")?;
+    for _ in 0..8188 {
+        long.push_str("/")?;
+    }
+    let mut too_long = String::from_str(rt.alloc(), long.as_str())?;
+    too_long.push_str("/")?;
+    for (line, code) in [
+        (
+            b"GET /route/v1/car/0,0;0.001,0?overview=false".as_slice(),
+            Code::Ok,
+        ),
+        (
+            b"GET  /route/v1/car/0,0;0.001,0?overview=false",
+            Code::InvalidUrl,
+        ),
+        (
+            b"get /route/v1/car/0,0;0.001,0?overview=false",
+            Code::BadRequest,
+        ),
+        (b"GET", Code::BadRequest),
+        (b"GET \xff", Code::BadRequest),
+        (long.as_bytes(), Code::InvalidUrl),
+        (too_long.as_bytes(), Code::BadRequest),
+    ] {
+        let answer = ask(&rt, LANE, Asked::Line(line))?;
+        assert_eq!(rt; answer.code, code);
+    }
+    let answer = ask(&rt, LANE, Asked::Line(b"TRAFFIC - -"))?;
+    assert_eq!(rt; answer.status, 400);
+    assert_eq!(rt; answer.text.as_str(), "{\"code\":\"BadRequest\"}");
     Ok(())
 }

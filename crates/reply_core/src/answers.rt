@@ -7,7 +7,7 @@ use road_base::{Place, Text};
 use std::alloc::{AllocError, AllocFailed};
 use std::marker::Model;
 
-/// Why a line got no answer.
+/// Why a line or a target got no answer.
 #[derive(Clone, Copy, Debug, PartialEq, Eq)]
 pub enum ReplyFault {
     /// Memory ran out.
@@ -32,17 +32,31 @@ impl From<SearchFault> for ReplyFault {
     }
 }
 
-/// What became of a request, in the words of OSRM's HTTP API, version 1.
+/// What became of a line or a target, in the words of OSRM's HTTP API, version 1.
 #[derive(Clone, Copy, Debug, PartialEq, Eq)]
 pub enum Code {
     /// There is a route.
     Ok,
-    /// The line is no request.
-    BadRequest,
-    /// No segment may be driven along, so no coordinate has a place.
+    /// The target isn't of the form of a path and a query.
+    InvalidUrl,
+    /// The service isn't served.
+    InvalidService,
+    /// The version isn't `v1`.
+    InvalidVersion,
+    /// An option is unknown, not of its form, or lacking.
+    InvalidOptions,
+    /// A coordinate isn't of its form, or there are too few.
+    InvalidQuery,
+    /// A coordinate isn't on the Earth.
+    InvalidValue,
+    /// There are too many coordinates.
+    TooBig,
+    /// A coordinate has no place, since no segment may be driven along.
     NoSegment,
-    /// No permitted walk joins the two places.
+    /// No permitted walk leads along a leg.
     NoRoute,
+    /// The line is of no form.
+    BadRequest,
 }
 
 /// A list of places.
@@ -106,10 +120,12 @@ impl Walks {
     }
 }
 
-/// An answer to a request, with its text and what the text tells of.
+/// An answer to a target or a line, with its text and what the text tells of.
 #[derive(Drop)]
 pub struct Answer {
     pub code: Code,
+    /// 200 where there is a route, else 400
+    pub status: u32,
     /// where the request's coordinates are snapped to, in their order; empty where there is no route
     pub places: Places,
     /// the vertices of the least route of each leg; empty where there is no route

@@ -1,24 +1,25 @@
-//! Numbers as replies write them.
+//! Numbers as replies write them, behind what stands in a text.
 
-ghost use Rattle.std.specs.Prelude.{◌≡◌, ◌<◌, IfOk, string_bytes};
+ghost use Rattle.std.specs.Prelude.{◌≡◌, ◌++◌, OnOk, string_bytes};
 ghost use Rattle.reply_core.specs.Texts.{tenths, six_digits, millionths, degrees, sign_of};
 
-use std::alloc::{AllocError, Global};
+use std::alloc::AllocError;
 
 /// A count of tenths with one decimal: metres of decimetres, seconds of deciseconds.
 #[tactic(auto, unfolding(crate::specs::Texts::tenths))]
-pub fn tenths(alloc: Global, count: u64) -> Result<String, AllocError>
-    ensures { IfOk result (λ text. string_bytes text ≡ tenths count) }
+pub fn push_tenths(out: &mut String, count: u128) -> Result<(), AllocError>
+    ensures { OnOk result (string_bytes out.new ≡ string_bytes out.old ++ tenths count) }
 {
-    format!(in alloc; "{}.{}", count / 10, count % 10)
+    write!(out, "{}.{}", count / 10, count % 10)
 }
 
 /// Millionths below one as six digits.
 #[tactic(auto, unfolding(crate::specs::Texts::six_digits))]
-fn six_digits(alloc: Global, count: u32) -> Result<String, AllocError>
-    ensures { IfOk result (λ text. string_bytes text ≡ six_digits count) }
+fn push_six_digits(out: &mut String, count: u32) -> Result<(), AllocError>
+    ensures { OnOk result (string_bytes out.new ≡ string_bytes out.old ++ six_digits count) }
 {
-    format!(in alloc;
+    write!(
+        out,
         "{}{}{}{}{}{}",
         count / 100_000 % 10,
         count / 10_000 % 10,
@@ -29,22 +30,14 @@ fn six_digits(alloc: Global, count: u32) -> Result<String, AllocError>
     )
 }
 
-/// A count of millionths with six decimals.
-#[tactic(auto, unfolding(crate::specs::Texts::millionths))]
-fn millionths(alloc: Global, count: u32) -> Result<String, AllocError>
-    ensures { IfOk result (λ text. string_bytes text ≡ millionths count) }
-{
-    let fraction = six_digits(alloc, count % 1_000_000)?;
-    format!(in alloc; "{}.{}", count / 1_000_000, fraction)
-}
-
 /// Microdegrees in degrees, with six decimals, a minus sign in front of what is below 0.
-#[tactic(auto, unfolding(crate::specs::Texts::degrees))]
-pub fn degrees(alloc: Global, microdegrees: i32) -> Result<String, AllocError>
-    ensures { IfOk result (λ text. string_bytes text ≡ degrees microdegrees) }
+pub fn push_degrees(out: &mut String, microdegrees: i32) -> Result<(), AllocError>
+    ensures { OnOk result (string_bytes out.new ≡ string_bytes out.old ++ degrees microdegrees) }
 {
-    let size = millionths(alloc, microdegrees.unsigned_abs())?;
-    format!(in alloc; "{}{size}", sign(microdegrees))
+    let size = microdegrees.unsigned_abs();
+    write!(out, "{}{}.", sign(microdegrees), size / 1_000_000)?;
+    push_six_digits(out, size % 1_000_000)?;
+    Ok(())
 }
 
 // A minus sign for a number below 0.

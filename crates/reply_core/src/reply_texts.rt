@@ -1,10 +1,18 @@
-//! The texts of replies, in the form of OSRM's HTTP API, version 1.
+//! The texts of replies, in the form of OSRM's HTTP API, version 1. Each call writes behind what stands in
+//! a text; after an error, which is want of memory, the text is of no use.
 
-ghost use Rattle.std.specs.Prelude.{◌≡◌, IfOk, string_bytes};
-ghost use Rattle.reply_core.specs.Texts.{found_text, json_text, leg_text, location_text, no_route_text, no_segment_text, route_text, totals_text, waypoint_text};
+ghost use Rattle.std.specs.Prelude.{◌≡◌, ℕ, ◌*◌, ◌^◌, ◌<◌, ◌≤◌, ◌++◌, Some, IfOk, OnOk, length, map, string_bytes, sum_by};
+ghost use Rattle.std.specs.List.{slice_get};
+ghost use Rattle.reply_core.specs.Answers.{waypoint_of, waypoints_of};
+ghost use Rattle.reply_core.specs.Places.{IsPlaceOf};
+ghost use Rattle.reply_core.specs.Texts.{code_text, comma_before, found_text, json_text, leg_text, listed, location_text, no_route_text, no_segment_text, refusal_text, route_text, totals_text, waypoint_text};
 
-use crate::number_texts::{degrees, tenths};
-use road_base::Point;
+use crate::answers::Code;
+use crate::number_texts::{push_degrees, push_tenths};
+use edge_graph::Network;
+use geo_integer::distance;
+use plain_search::Found;
+use road_base::{Place, Point};
 use search_graph::DurLen;
 use serde_json::Value;
 use std::alloc::{AllocError, Global};
@@ -15,32 +23,6 @@ pub const BAD_REQUEST: &str = "{\"code\":\"BadRequest\"}";
 /// The reply for which there was no memory.
 pub const BUSY: &str = "{\"code\":\"Busy\"}";
 
-/// A snapped place: its distance from the coordinate in decimetres, its way's name, where it lies.
-#[tactic(auto, unfolding(crate::specs::Texts::waypoint_text))]
-pub fn waypoint_text(
-    alloc: Global,
-    distance: u64,
-    name: &str,
-    point: Point,
-) -> Result<String, AllocError>
-    ensures { IfOk result (λ text. string_bytes text ≡ waypoint_text distance name.now point.lon point.lat) }
-{
-    let metres = tenths(alloc, distance)?;
-    let name = json_text(alloc, name)?;
-    let location = location_text(alloc, point)?;
-    format!(in alloc; "{{\"distance\":{metres},\"name\":{name},\"location\":{location}}}")
-}
-
-// A position, longitude first.
-#[tactic(auto, unfolding(crate::specs::Texts::location_text))]
-fn location_text(alloc: Global, point: Point) -> Result<String, AllocError>
-    ensures { IfOk result (λ text. string_bytes text ≡ location_text point.lon point.lat) }
-{
-    let lon = degrees(alloc, point.lon)?;
-    let lat = degrees(alloc, point.lat)?;
-    format!(in alloc; "[{lon},{lat}]")
-}
-
 // A text as JSON has it.
 #[tactic(auto, unfolding(crate::specs::Texts::json_text))]
 fn json_text(alloc: Global, text: &str) -> Result<String, AllocError>
@@ -50,51 +32,186 @@ fn json_text(alloc: Global, text: &str) -> Result<String, AllocError>
     value.to_string(alloc)
 }
 
-// What a route or a leg costs: its length in metres, its duration and its weight in seconds.
-#[tactic(auto, unfolding(crate::specs::Texts::totals_text))]
-fn totals_text(alloc: Global, cost: DurLen) -> Result<String, AllocError>
-    ensures { IfOk result (λ text. string_bytes text ≡ totals_text cost) }
+// A text as it stands.
+fn push_text(out: &mut String, text: &str) -> Result<(), AllocError>
+    ensures { OnOk result (string_bytes out.new ≡ string_bytes out.old ++ text.now) }
 {
-    let metres = tenths(alloc, cost.length)?;
-    let seconds = tenths(alloc, cost.duration)?;
-    format!(in alloc; "\"distance\":{metres},\"duration\":{seconds},\"weight\":{seconds}")
+    out.push_str(text)
+}
+
+// A position, longitude first.
+fn push_location(out: &mut String, point: Point) -> Result<(), AllocError>
+    ensures { OnOk result (string_bytes out.new ≡ string_bytes out.old ++ location_text point.lon point.lat) }
+{
+    push_text(out, "[")?;
+    push_degrees(out, point.lon)?;
+    push_text(out, ",")?;
+    push_degrees(out, point.lat)?;
+    push_text(out, "]")?;
+    Ok(())
+}
+
+// A snapped place: its distance from the coordinate in decimetres, its way's name, where it lies.
+fn push_snapped(
+    alloc: Global,
+    out: &mut String,
+    distance: u64,
+    name: &str,
+    point: Point,
+) -> Result<(), AllocError>
+    ensures { OnOk result (string_bytes out.new ≡ string_bytes out.old ++ waypoint_text distance name.now point.lon point.lat) }
+{
+    let name = json_text(alloc, name)?;
+    push_text(out, "{\"distance\":")?;
+    push_tenths(out, u128::from(distance))?;
+    push_text(out, ",\"name\":")?;
+    push_text(out, name.as_str())?;
+    push_text(out, ",\"location\":")?;
+    push_location(out, point)?;
+    push_text(out, "}")?;
+    Ok(())
+}
+
+// The waypoint of a coordinate that is snapped to this place.
+fn push_waypoint(
+    alloc: Global,
+    out: &mut String,
+    network: &Network,
+    coordinate: Point,
+    place: Place,
+) -> Result<(), AllocError>
+    requires few { length network.now.segments ≤ 2 ^ 22 }
+    requires segment { place.segment < length network.now.segments }
+    requires within { place.at ≤ 1024 }
+    ensures { OnOk result (string_bytes out.new ≡ string_bytes out.old ++ waypoint_of network.now.segments (coordinate, place)) }
+{
+    let point = network.point(place);
+    let name = network.name(2 * place.segment);
+    push_snapped(alloc, out, distance(coordinate, point), name, point)
+}
+
+// The comma in front of the element of a list of this number, from 0.
+fn comma_before(number: usize) -> &'static str
+    ensures { result.now ≡ comma_before number }
+{
+    if number == 0 { "" } else { "," }
+}
+
+// What a route or a leg costs: its length in metres, its duration and its weight in seconds.
+fn push_totals(out: &mut String, decimetres: u128, deciseconds: u128) -> Result<(), AllocError>
+    ensures { OnOk result (string_bytes out.new ≡ string_bytes out.old ++ totals_text decimetres deciseconds) }
+{
+    push_text(out, "\"distance\":")?;
+    push_tenths(out, decimetres)?;
+    push_text(out, ",\"duration\":")?;
+    push_tenths(out, deciseconds)?;
+    push_text(out, ",\"weight\":")?;
+    push_tenths(out, deciseconds)?;
+    Ok(())
 }
 
 // A leg without steps.
-#[tactic(auto, unfolding(crate::specs::Texts::leg_text))]
-fn leg_text(alloc: Global, cost: DurLen) -> Result<String, AllocError>
-    ensures { IfOk result (λ text. string_bytes text ≡ leg_text cost) }
+fn push_leg(out: &mut String, cost: DurLen) -> Result<(), AllocError>
+    ensures { OnOk result (string_bytes out.new ≡ string_bytes out.old ++ leg_text cost) }
 {
-    let totals = totals_text(alloc, cost)?;
-    format!(in alloc; "{{{totals},\"summary\":\"\",\"steps\":[]}}")
+    push_text(out, "{")?;
+    push_totals(out, u128::from(cost.length), u128::from(cost.duration))?;
+    push_text(out, ",\"summary\":\"\",\"steps\":[]}")?;
+    Ok(())
 }
 
-// A route of one leg.
-#[tactic(auto, unfolding(crate::specs::Texts::route_text))]
-fn route_text(alloc: Global, cost: DurLen) -> Result<String, AllocError>
-    ensures { IfOk result (λ text. string_bytes text ≡ route_text cost) }
+// The legs of a route.
+fn push_legs(out: &mut String, routes: &[Found<DurLen>]) -> Result<(), AllocError>
+    ensures { OnOk result (string_bytes out.new ≡ string_bytes out.old ++ listed (map (λ route. leg_text route.cost) routes.now)) }
 {
-    let totals = totals_text(alloc, cost)?;
-    let leg = leg_text(alloc, cost)?;
-    format!(in alloc; "{{{totals},\"weight_name\":\"duration\",\"legs\":[{leg}]}}")
+    for (leg, route) in routes.iter().enumerate() {
+        push_text(out, comma_before(leg))?;
+        push_leg(out, route.cost)?;
+    }
+    Ok(())
 }
 
-/// The reply with a route of one leg of this cost between two snapped places, whose texts as waypoints
-/// are handed in.
-#[tactic(auto, unfolding(crate::specs::Texts::found_text))]
+// How long the routes are together, in decimetres.
+fn decimetres_of(routes: &[Found<DurLen>]) -> u128
+    requires { length routes.now < 2 ^ 32 }
+    ensures { result ≡ sum_by (λ route. route.cost.length) routes.now }
+{
+    routes
+        .iter()
+        .map(|route| u128::from(route.cost.length))
+        .sum()
+}
+
+// How many deciseconds they take together.
+fn deciseconds_of(routes: &[Found<DurLen>]) -> u128
+    requires { length routes.now < 2 ^ 32 }
+    ensures { result ≡ sum_by (λ route. route.cost.duration) routes.now }
+{
+    routes
+        .iter()
+        .map(|route| u128::from(route.cost.duration))
+        .sum()
+}
+
+// A route of these legs.
+fn push_route(out: &mut String, routes: &[Found<DurLen>]) -> Result<(), AllocError>
+    requires { length routes.now < 2 ^ 32 }
+    ensures { OnOk result (string_bytes out.new ≡ string_bytes out.old ++ route_text (map (λ route. route.cost) routes.now)) }
+{
+    push_text(out, "{")?;
+    push_totals(out, decimetres_of(routes), deciseconds_of(routes))?;
+    push_text(out, ",\"weight_name\":\"duration\",\"legs\":[")?;
+    push_legs(out, routes)?;
+    push_text(out, "]}")?;
+    Ok(())
+}
+
+// The waypoints of coordinates that are snapped to these places.
+fn push_waypoints(
+    alloc: Global,
+    out: &mut String,
+    network: &Network,
+    coordinates: &[Point],
+    places: &[Place],
+) -> Result<(), AllocError>
+    requires few { length network.now.segments ≤ 2 ^ 22 }
+    requires as_many { length places.now ≡ length coordinates.now }
+    requires placed { (k : ℕ) (place : Place) → slice_get places.now k ≡ Some place → IsPlaceOf (2 * length network.now.segments) place }
+    ensures { OnOk result (string_bytes out.new ≡ string_bytes out.old ++ listed (waypoints_of network.now.segments coordinates.now places.now)) }
+{
+    for number in 0..coordinates.len() {
+        push_text(out, comma_before(number))?;
+        push_waypoint(alloc, out, network, coordinates[number], places[number])?;
+    }
+    Ok(())
+}
+
+/// The reply with a route of these legs through coordinates that are snapped to these places, under a metric
+/// of this number.
 pub fn found_text(
     alloc: Global,
+    network: &Network,
     number: u32,
-    cost: DurLen,
-    first: &str,
-    last: &str,
+    coordinates: &[Point],
+    places: &[Place],
+    routes: &[Found<DurLen>],
 ) -> Result<String, AllocError>
-    ensures { IfOk result (λ text. string_bytes text ≡ found_text number cost first.now last.now) }
+    requires few { length network.now.segments ≤ 2 ^ 22 }
+    requires as_many { length places.now ≡ length coordinates.now }
+    requires placed { (k : ℕ) (place : Place) → slice_get places.now k ≡ Some place → IsPlaceOf (2 * length network.now.segments) place }
+    requires legs { length routes.now < 2 ^ 32 }
+    ensures { IfOk result (λ text. string_bytes text ≡ found_text number (map (λ route. route.cost) routes.now) (waypoints_of network.now.segments coordinates.now places.now)) }
 {
-    let route = route_text(alloc, cost)?;
-    format!(in alloc;
-        "{{\"code\":\"Ok\",\"data_version\":\"{number}\",\"routes\":[{route}],\"waypoints\":[{first},{last}]}}"
-    )
+    let mut out = String::new(alloc);
+    write!(
+        out,
+        "{{\"code\":\"Ok\",\"data_version\":\"{number}\",\"routes\":["
+    )?;
+    push_route(&mut out, routes)?;
+    push_text(&mut out, "],\"waypoints\":[")?;
+    push_waypoints(alloc, &mut out, network, coordinates, places)?;
+    push_text(&mut out, "]}")?;
+    Ok(out)
 }
 
 /// The coordinate of this number, from 0, has no place.
@@ -115,4 +232,33 @@ pub fn no_route_text(alloc: Global, number: u32, leg: u32) -> Result<String, All
     format!(in alloc;
         "{{\"code\":\"NoRoute\",\"data_version\":\"{number}\",\"message\":\"leg {leg}\"}}"
     )
+}
+
+/// A refusal that no metric has part in.
+#[tactic(auto, unfolding(crate::specs::Texts::refusal_text))]
+pub fn refusal_text(alloc: Global, kind: Code, message: &str) -> Result<String, AllocError>
+    ensures { IfOk result (λ text. string_bytes text ≡ refusal_text kind message.now) }
+{
+    let code = code_text(kind);
+    let message = json_text(alloc, message)?;
+    format!(in alloc; "{{\"code\":\"{code}\",\"message\":{message}}}")
+}
+
+// A code as replies write it.
+fn code_text(kind: Code) -> &'static str
+    ensures { result.now ≡ code_text kind }
+{
+    match kind {
+        Code::Ok => "Ok",
+        Code::InvalidUrl => "InvalidUrl",
+        Code::InvalidService => "InvalidService",
+        Code::InvalidVersion => "InvalidVersion",
+        Code::InvalidOptions => "InvalidOptions",
+        Code::InvalidQuery => "InvalidQuery",
+        Code::InvalidValue => "InvalidValue",
+        Code::TooBig => "TooBig",
+        Code::NoSegment => "NoSegment",
+        Code::NoRoute => "NoRoute",
+        Code::BadRequest => "BadRequest",
+    }
 }

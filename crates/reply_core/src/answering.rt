@@ -1,0 +1,121 @@
+//! Answers to targets and to lines.
+
+ghost use Rattle.std.specs.Prelude.{◌≡◌, IfOk, option_map};
+ghost use Rattle.std.specs.Arc.{arc_value};
+ghost use Rattle.reply_core.specs.Answers.{IsAnswer, IsLineAnswer, Refuses, code_of};
+ghost use Rattle.reply_core.specs.Lines.{lines_of};
+ghost use Rattle.reply_core.specs.Request.{target_of};
+ghost use Rattle.reply_core.specs.Texts.{bad_request_text, refusal_text};
+ghost use Rattle.reply_core.specs.declared.answers.Code.TheVariants as code;
+
+use crate::answers::{Answer, Code, ReplyFault};
+use crate::grids::Grid;
+use crate::metrics::Metric;
+use crate::reply_texts::{BAD_REQUEST, refusal_text};
+use crate::route_answers::{refusal, route_answer};
+use metric_publish::held::Held;
+use std::alloc::{AllocError, Global};
+use url_read::{Refusal, RefusalCode, RequestFault, request};
+
+/// How many bytes a line may have.
+const LONGEST_LINE: usize = 8192;
+
+/// The answer to a target under what was published: a refusal with status 400 for a target that is no request,
+/// for the first coordinate that has no place, or for the first leg that has no permitted walk, else a least
+/// route with status 200. The grid is that of the metric's network. `rt` is not used so far.
+///
+/// It answers `Memory` only where memory runs out.
+pub fn answer<R>(
+    rt: &R,
+    alloc: Global,
+    held: &Held<Metric>,
+    grid: &Grid,
+    target: &[u8],
+) -> Result<Answer, ReplyFault>
+    requires { grid.now ≡ lines_of (arc_value held.now.value).network.segments }
+    ensures { IfOk result (IsAnswer (arc_value held.now.value) held.now.number target.now) }
+{
+    let _ = rt;
+    target_answer(alloc, held.value(), held.number(), grid, target)
+}
+
+/// The answer to a line, which stands without its newline: `answer`'s to the target of a line `GET TARGET` that
+/// is text of at most 8192 bytes, blanks in the target included. Any other line is refused with `BadRequest`
+/// and status 400.
+///
+/// It answers `Memory` only where memory runs out.
+pub fn line_answer<R>(
+    rt: &R,
+    alloc: Global,
+    held: &Held<Metric>,
+    grid: &Grid,
+    line: &[u8],
+) -> Result<Answer, ReplyFault>
+    requires { grid.now ≡ lines_of (arc_value held.now.value).network.segments }
+    ensures { IfOk result (IsLineAnswer (arc_value held.now.value) held.now.number line.now) }
+{
+    match target_in(line) {
+        Some(target) => answer(rt, alloc, held, grid, target),
+        None => Ok(bad_request(alloc)?),
+    }
+}
+
+// The answer to a target under a metric of this number.
+fn target_answer(
+    alloc: Global,
+    metric: &Metric,
+    number: u32,
+    grid: &Grid,
+    target: &[u8],
+) -> Result<Answer, ReplyFault>
+    requires { grid.now ≡ lines_of metric.now.network.segments }
+    ensures { IfOk result (IsAnswer metric.now number target.now) }
+{
+    match request(alloc, target) {
+        Ok(request) => route_answer(alloc, metric, number, grid, request.points.as_slice()),
+        Err(RequestFault::Refused(refusal)) => Ok(refused(alloc, refusal)?),
+        Err(RequestFault::Memory) => Err(ReplyFault::Memory),
+    }
+}
+
+// The target that a line asks for, or None where the line is of another form.
+fn target_in(line: &[u8]) -> Option<&[u8]>
+    ensures { option_map (λ target. target.now) result ≡ target_of line.now }
+{
+    if line.len() > LONGEST_LINE || std::str::from_utf8(line).is_err() {
+        return None;
+    }
+    line.strip_prefix(b"GET ")
+}
+
+// The target is refused.
+fn refused(alloc: Global, refused: Refusal) -> Result<Answer, AllocError>
+    ensures { IfOk result (λ answer. Refuses answer (code_of refused.code) (refusal_text (code_of refused.code) refused.message)) }
+{
+    let code = code_of(refused.code);
+    let text = refusal_text(alloc, code, refused.message.as_str())?;
+    Ok(refusal(alloc, code, text))
+}
+
+// The code of the answer to a target that is refused.
+fn code_of(kind: RefusalCode) -> Code
+    ensures { result ≡ code_of kind }
+{
+    match kind {
+        RefusalCode::InvalidUrl => Code::InvalidUrl,
+        RefusalCode::InvalidService => Code::InvalidService,
+        RefusalCode::InvalidVersion => Code::InvalidVersion,
+        RefusalCode::InvalidOptions => Code::InvalidOptions,
+        RefusalCode::InvalidQuery => Code::InvalidQuery,
+        RefusalCode::InvalidValue => Code::InvalidValue,
+        RefusalCode::TooBig => Code::TooBig,
+    }
+}
+
+// The line is of no form.
+fn bad_request(alloc: Global) -> Result<Answer, AllocError>
+    ensures { IfOk result (λ answer. Refuses answer code.BadRequest bad_request_text) }
+{
+    let text = String::from_str(alloc, BAD_REQUEST)?;
+    Ok(refusal(alloc, Code::BadRequest, text))
+}

@@ -1,0 +1,47 @@
+-- How a target is refused: a code, and a message that names the place of the fault.
+use Rattle.std.specs.Prelude.{◌≡◌, ℕ, List, ◌++◌, codes, Option, Some, Result, Err}
+use Rattle.std.specs.Fmt.{decimal}
+use Rattle.url_read.specs.declared.refusals.RefusalCode.TheVariants.{InvalidUrl, InvalidService, InvalidVersion, InvalidOptions, InvalidQuery, InvalidValue, TooBig}
+use Rattle.url_read.specs.declared.refusals.Refusal.{Refusal}
+use Rattle.url_read.specs.declared.refusals.RequestFault.{RequestFault}
+use Rattle.url_read.specs.declared.refusals.RequestFault.TheVariants.{Refused, Memory}
+
+-- the target is not of the form of a path and a query
+abbrev pub bad_path : Refusal
+bad_path = record { code = InvalidUrl; message = codes "path" }
+
+abbrev pub bad_service : List ℕ → Refusal
+bad_service name = record { code = InvalidService; message = codes "service " ++ name }
+
+abbrev pub bad_version : List ℕ → Refusal
+bad_version name = record { code = InvalidVersion; message = codes "version " ++ name }
+
+-- the option's name as it stands in the target
+abbrev pub bad_option : List ℕ → Refusal
+bad_option name = record { code = InvalidOptions; message = codes "option " ++ name }
+
+-- the coordinate of this number, from 0, is not of its form
+abbrev pub bad_coordinate : ℕ → Refusal
+bad_coordinate number = record { code = InvalidQuery; message = codes "coordinate " ++ decimal number }
+
+-- the coordinate of this number, from 0, is not on the Earth
+abbrev pub out_of_range : ℕ → Refusal
+out_of_range number = record { code = InvalidValue; message = codes "coordinate " ++ decimal number }
+
+-- so many coordinates are too few
+abbrev pub too_few : ℕ → Refusal
+too_few count = record { code = InvalidQuery; message = decimal count ++ codes " coordinates" }
+
+-- or too many
+abbrev pub too_many : ℕ → Refusal
+too_many count = record { code = TooBig; message = decimal count ++ codes " coordinates, at most 500" }
+
+-- the fault is the refusal that the definition gives, or want of memory
+abbrev pub IsFaultOf : {A : Type 0} → Result A Refusal → RequestFault → Type 0
+IsFaultOf defined (Refused refusal) = defined ≡ Err refusal
+IsFaultOf defined Memory = Unit {0}
+
+-- the same where the definition says whether anything is refused
+abbrev pub IsRefusalIn : Option Refusal → RequestFault → Type 0
+IsRefusalIn defined (Refused refusal) = defined ≡ Some refusal
+IsRefusalIn defined Memory = Unit {0}
