@@ -1,41 +1,43 @@
 -- How what is told of an input goes on, byte by byte and piece by piece.
-use Rattle.std.proofs.Common.{◌≡◌, ℕ, ◌+◌, ◌-◌, ◌^◌, ◌<◌, ◌≤◌, min, false, ◌==◌, Result, Ok, Err, OnErr, get_or, drop, add-one, take-suc, take-append-drop, List, [], ◌∷◌, ◌++◌, length, take, refl, sym, ap, ◌∙◌, subst, inl, inr, append_assoc, append-nil, arith, length-append, length-take}
+use Rattle.std.proofs.Common.{Bool, true, nat_le, Option, None, ◌≡◌, ℕ, ◌+◌, ◌-◌, ◌^◌, ◌<◌, ◌≤◌, min, false, ◌==◌, Result, Ok, Err, OnErr, get_or, drop, add-one, take-suc, take-append-drop, List, [], ◌∷◌, ◌++◌, length, take, refl, sym, ap, ◌∙◌, subst, inl, inr, append_assoc, append-nil, arith, length-append, length-take}
+use Rattle.std.proofs.lemmas.Bool.Decides.{nat_tests}
 use Rattle.std.specs.Io.KnownBytes.{Consumes, IsAtEnd}
 use Rattle.std.specs.Str.Lines.{lines, strip_carriage_return}
-use Rattle.search_graph.specs.declared.costs.DurLen.{DurLen}
-use Rattle.search_graph.specs.Digraph.{Weighting}
-use Rattle.edge_graph.specs.NetworkView.{NetworkView}
-use Rattle.reply_core.specs.Answers.{IsAnswerOf}
+use Rattle.reply_core.specs.Answers.{IsAnswerToAny, IsLineAnswer}
+use Rattle.reply_core.specs.Request.{target_of}
+use Rattle.reply_core.specs.RoadMetric.{RoadMetric}
 use Rattle.reply_core.specs.Texts.{busy_text}
 use Rattle.reply_core.specs.declared.answers.Answer.{Answer}
-use Rattle.reply_core.specs.declared.answers.Code.{Code}
-use Rattle.reply_core.specs.declared.answers.Code.TheVariants as code
 use Rattle.road_io.specs.Told.{appends_none, appends_then, front_none, front_of_first, front_of_second}
 use Rattle.line_session.specs.Leading.{AddsAll, AddsFront, Goes, GoesStopped, Leads, NoNewline, TakenSoFar, TellsAll, TellsFront}
 use Rattle.line_session.specs.Outside.{InputView, OutputView, Took}
-use Rattle.line_session.specs.Publication.{IsReply, Publication}
+use Rattle.line_session.specs.Publication.{IsReplyLine, Publication, newline}
 use Rattle.line_session.specs.Stopping.{ToldAll, ToldPart}
-use Rattle.line_session.specs.Told.{Adds, IsToldFront, Told, newline}
+use Rattle.line_session.specs.Told.{Adds, IsToldFront, Told}
 use Rattle.line_session.proofs.LineLaws.{lines_at, lines_last, long_lines}
 use Rattle.line_session.proofs.TakingLaws.{content_all, content_rest, content_some, took_all, took_end, took_none, took_piece}
 
+-- a line that is too long asks for nothing
+target_of-long : (line : List ℕ) → 8192 < length line → target_of line ≡ None
+target_of-long line long = go (nat_le (length line) 8192) refl
+  where
+    go : (within : Bool) → nat_le (length line) 8192 ≡ within → target_of line ≡ None
+    go true e = let short : length line ≤ 8192 = grind (arith, nat_tests) in absurd (omega arith)
+    go false e = rw e refl
+
 -- an answer to a line that is too long is one to any other such line
-answer_of_long : (c : Code) (network : NetworkView) (w : Weighting DurLen) (number : ℕ) (line other : List ℕ) (answer : Answer) → 8192 < length line → 8192 < length other → IsAnswerOf c network w number line answer → IsAnswerOf c network w number other answer
-answer_of_long code.BadRequest network w number line other answer long long_other is =
-    ((λ from to asked. let within : length other ≤ 8192 = asked.within in absurd (omega arith)), is.1)
-answer_of_long code.NoSegment network w number line other answer long long_other is =
-    let within : length line ≤ 8192 = is.0.2.within in absurd (omega arith)
-answer_of_long code.NoRoute network w number line other answer long long_other is =
-    let within : length line ≤ 8192 = is.0.2.asked.within in absurd (omega arith)
-answer_of_long code.Ok network w number line other answer long long_other is =
-    let within : length line ≤ 8192 = is.placed.asked.within in absurd (omega arith)
+answer_of_long : (metric : RoadMetric) (number : ℕ) (line other : List ℕ) (answer : Answer) → 8192 < length line → 8192 < length other → IsLineAnswer metric number line answer → IsLineAnswer metric number other answer
+answer_of_long metric number line other answer long long_other is =
+    subst (λ (target : Option (List ℕ)). IsAnswerToAny metric number target answer) (target_of-long line long ∙ sym (target_of-long other long_other)) is
 
 -- two lines that are too long add the same
 adds_long : (last next : Publication) (line other text : List ℕ) → 8192 < length line → 8192 < length other → Adds last line text next → Adds last other text next
 adds_long last next [] other text long long_other adds = absurd (omega arith)
 adds_long last next (b ∷ line) [] text long long_other adds = absurd (omega arith)
 adds_long last next (b ∷ line) (c ∷ other) text long long_other (inl answers) =
-    inl (answers.0, (answers.1.0, answer_of_long answers.1.0.code last.network last.weights last.number (b ∷ line) (c ∷ other) answers.1.0 long long_other answers.1.1, answers.1.2), answers.2, answers.3)
+    let reply = answers.0 in
+    let answer = reply.1.0 in
+    inl ((reply.0, (answer, answer_of_long last.value last.number (b ∷ line) (c ∷ other) answer long long_other reply.1.1, reply.1.2), reply.2), answers.1)
 adds_long last next (b ∷ line) (c ∷ other) text long long_other (inr busy) = inr busy
 
 told_long : (last : Publication) (line other : List ℕ) (more : List (List ℕ)) (out : List ℕ) → 8192 < length line → 8192 < length other → Told last (line ∷ more) out → Told last (other ∷ more) out
@@ -154,9 +156,9 @@ stopped_byte last held mid piece index before middle after bound one two =
     (stopped_longer last held (take (index + 1) piece) (drop (index + 1) piece) before after taken)
 
 -- what a line adds that is not empty
-pub adds_reply : (last : Publication) (line reply : List ℕ) → 0 < length line → IsReply last line reply → Adds last line (reply ++ newline) last
-adds_reply last [] reply some is = absurd (omega arith)
-adds_reply last (b ∷ line) reply some is = inl (reply, is, refl, refl)
+pub adds_reply : (last : Publication) (line text : List ℕ) → 0 < length line → IsReplyLine last line text → Adds last line text last
+adds_reply last [] text some is = absurd (omega arith)
+adds_reply last (b ∷ line) text some is = inl (is, refl)
 
 pub adds_busy : (last : Publication) (line : List ℕ) → 0 < length line → Adds last line (busy_text ++ newline) last
 adds_busy last [] some = absurd (omega arith)

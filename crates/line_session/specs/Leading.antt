@@ -1,21 +1,14 @@
 -- How what was told of the input so far goes on, whatever comes after: a way to speak of half a line.
-use Rattle.std.specs.Prelude.{◌≡◌, ℕ, ◌+◌, ◌-◌, ◌^◌, ◌<◌, ◌≤◌, min, List, [], ◌++◌, All, length, false, ◌==◌, Option}
+use Rattle.std.specs.Prelude.{◌≡◌, ℕ, ◌+◌, ◌-◌, ◌^◌, ◌<◌, ◌≤◌, min, List, [], ◌++◌, All, length, false, ◌==◌}
 use Rattle.std.specs.Io.KnownBytes.{Appends, Consumes}
 use Rattle.std.specs.Str.Lines.{lines}
 use Rattle.road_io.specs.Told.{AppendsFront}
 use Rattle.line_session.specs.Outside.{InputView, OutputView}
 use Rattle.line_session.specs.Publication.{Publication}
-use Rattle.line_session.specs.Told.{Told, Adds, IsToldFront, newline}
+use Rattle.line_session.specs.Told.{Told, Adds, IsToldFront}
 
 abbrev pub NoNewline : List ℕ → Type 0
 NoNewline bytes = All (λ b. (b == 10) ≡ false) bytes
-
--- the output grew by a text and a newline, or by a front of these
-abbrev pub AppendsLine : Option (List ℕ) → Option (List ℕ) → List ℕ → Type 0
-AppendsLine old new text = Appends old new (text ++ newline)
-
-abbrev pub AppendsLineFront : Option (List ℕ) → Option (List ℕ) → List ℕ → Type 0
-AppendsLineFront old new text = AppendsFront old new (text ++ newline)
 
 -- a line adds this much, or a front of it
 abbrev pub AddsAll : Publication → List ℕ → OutputView → OutputView → Type 0

@@ -1,21 +1,27 @@
--- What is published: the metric of a road network, under a number.
-use Rattle.std.specs.Prelude.{◌≡◌, ℕ, List}
+-- What is published: a metric of a road network, under a number.
+use Rattle.std.specs.Prelude.{◌≡◌, ℕ, List, [], ◌∷◌, ◌++◌}
 use Rattle.edge_graph.specs.NetworkView.{NetworkView}
 use Rattle.metric_make.specs.MetricOf.{metric_of}
-use Rattle.reply_core.specs.Answers.{IsAnswer}
+use Rattle.metric_publish.specs.History.{entry}
+use Rattle.metric_publish.specs.declared.entry.Entry.{Entry}
+use Rattle.reply_core.specs.Answers.{IsLineAnswer}
+use Rattle.reply_core.specs.RoadMetric.{RoadMetric}
 use Rattle.reply_core.specs.declared.answers.Answer.{Answer}
-use Rattle.search_graph.specs.Digraph.{Weighting}
-use Rattle.search_graph.specs.declared.costs.DurLen.{DurLen}
 
-pub record Publication : Type 0 where
-  pub number : ℕ
-  pub network : NetworkView
-  pub weights : Weighting DurLen
+abbrev pub Publication : Type 0
+Publication = Entry RoadMetric
 
 -- the first publication of a network: number 0, and the metric of its vehicle's profile alone
 abbrev pub opening : NetworkView → Publication
-opening network = record { number = 0; network = network; weights = (metric_of network).weights }
+opening network = entry 0 (record { network = network; weights = (metric_of network).weights })
+
+abbrev pub newline : List ℕ
+newline = 10 ∷ []
 
 -- the text is that of an answer to the line under this publication
 abbrev pub IsReply : Publication → List ℕ → List ℕ → Type 0
-IsReply p line text = (answer : Answer) × IsAnswer p.network p.weights p.number line answer × (text ≡ answer.text)
+IsReply p line text = (answer : Answer) × IsLineAnswer p.value p.number line answer × (text ≡ answer.text)
+
+-- the same with a newline behind it
+abbrev pub IsReplyLine : Publication → List ℕ → List ℕ → Type 0
+IsReplyLine p line text = (reply : List ℕ) × IsReply p line reply × (text ≡ reply ++ newline)

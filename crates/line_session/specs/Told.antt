@@ -4,14 +4,11 @@ use Rattle.std.specs.Prelude.{◌≡◌, ℕ, List, [], ◌∷◌, ◌++◌, ◌
 use Rattle.std.specs.Str.Lines.{lines}
 use Rattle.road_io.specs.Told.{IsFront}
 use Rattle.reply_core.specs.Texts.{busy_text}
-use Rattle.line_session.specs.Publication.{Publication, IsReply}
-
-abbrev pub newline : List ℕ
-newline = 10 ∷ []
+use Rattle.line_session.specs.Publication.{Publication, IsReplyLine, newline}
 
 -- the reply to a line under the last publication, and the last publication after it
 abbrev pub Answers : Publication → List ℕ → List ℕ → Publication → Type 0
-Answers last line text next = (reply : List ℕ) × IsReply last line reply × (text ≡ reply ++ newline) × (next ≡ last)
+Answers last line text next = IsReplyLine last line text × (next ≡ last)
 
 -- there was no memory for the reply
 abbrev pub IsBusy : Publication → List ℕ → Publication → Type 0

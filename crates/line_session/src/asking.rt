@@ -3,7 +3,7 @@
 ghost use Rattle.std.specs.Prelude.{◌≡◌, ◌≤◌, ◌<◌, ◌∷◌, [], OnOk, OnErr, IfErr, take, vec_capacity};
 ghost use Rattle.std.specs.Str.Lines.{strip_carriage_return};
 ghost use Rattle.road_io.specs.Faults.{HasCause};
-ghost use Rattle.line_session.specs.Leading.{AddsAll, AddsFront, AppendsLine, AppendsLineFront, Goes, GoesStopped, NoNewline, TellsAll, TellsFront};
+ghost use Rattle.line_session.specs.Leading.{AddsAll, AddsFront, Goes, GoesStopped, NoNewline, TellsAll, TellsFront};
 ghost use Rattle.line_session.specs.Outside.{input_view, output_view};
 ghost use Rattle.line_session.specs.Stopping.{StopCause, ToldAll, ToldPart};
 
@@ -25,7 +25,7 @@ pub enum Stop {
 }
 
 /// What is put in place of a reply where there was no memory for it.
-const BUSY: &[u8] = b"{\"code\":\"Busy\"}";
+const BUSY: &[u8] = b"{\"code\":\"Busy\"}\n";
 
 /// How many bytes of a line are held: those of the longest request, its carriage return, and one more,
 /// with which it is no request, whatever follows.
@@ -45,16 +45,6 @@ struct LineBuffer {
     ghost room: { 8194 ≤ vec_capacity held },
 }
 
-// Puts a text and a newline.
-fn put_line<O: Sink>(output: &mut O, text: &[u8]) -> Result<(), Failed>
-    ensures all { OnOk result (AppendsLine (O.written output.old) (O.written output.new) text.now) }
-    ensures part { OnErr result (AppendsLineFront (O.written output.old) (O.written output.new) text.now) }
-    ensures cause { HasCause (O.faults output.old) (O.faults output.new) result }
-{
-    put_all(output, text)?;
-    put_all(output, b"\n")
-}
-
 // Puts the reply to a line, or nothing where the line is empty.
 fn put_reply<O: Sink>(
     alloc: Global,
@@ -69,9 +59,9 @@ fn put_reply<O: Sink>(
     if line.is_empty() {
         return Ok(());
     }
-    match published.reply(alloc, line) {
-        Ok(text) => put_line(output, text.as_bytes()),
-        Err(_) => put_line(output, BUSY),
+    match published.reply_line(alloc, line) {
+        Ok(text) => put_all(output, text.as_bytes()),
+        Err(_) => put_all(output, BUSY),
     }
 }
 

@@ -1,21 +1,24 @@
 //! The metric that was published last.
 
 ghost use Rattle.std.specs.Prelude.{◌≡◌, IfOk};
-ghost use Rattle.line_session.specs.Publication.{IsReply};
+ghost use Rattle.edge_graph.specs.NetworkView.{NetworkView};
+ghost use Rattle.line_session.specs.Publication.{IsReplyLine, opening};
 
 use edge_graph::Network;
-use metric_make::BaseMetric;
-use reply_core::{ReplyFault, line_answer};
+use metric_make::base;
+use metric_publish::local_board::LocalBoard;
+use reply_core::{Grid, Metric, ReplyFault, line_answer};
 use road_base::Text;
-use std::alloc::Global;
+use std::alloc::{AllocError, Global};
 use std::marker::Model;
+use std::sync::Arc;
 
-/// A road network with the metric that was published last and its number.
+/// A board with the metrics of one road network, of which the last is published, and where its segments
+/// lie. Contracts see the last publication.
 #[derive(Drop)]
 pub struct Published {
-    pub number: u32,
-    pub network: Network,
-    pub base: BaseMetric,
+    board: LocalBoard<Metric>,
+    grid: Grid,
 }
 
 impl Model for Published {
@@ -23,21 +26,38 @@ impl Model for Published {
 
     ghost Value = { Publication };
 
-    ghost use Rattle.edge_graph.specs.NetworkView.{graph_of};
-    ghost use Rattle.search_graph.specs.Durations.{durlen_ops};
-    ghost use Rattle.search_graph.specs.Weighted.{IsWeighting};
+    ghost use Rattle.std.specs.Prelude.{◌≡◌};
+    ghost use Rattle.std.specs.Arc.{arc_value};
+    ghost use Rattle.metric_publish.specs.History.{entry_of};
+    ghost use Rattle.reply_core.specs.Lines.{lines_of};
 
-    ghost view = { λ p. record { number = p.number; network = p.network; weights = p.base.weights } };
+    ghost view = { λ p. entry_of p.board.page.put };
 
-    ghost invariant = { λ p. IsWeighting durlen_ops (graph_of p.network) p.base.weights };
+    ghost invariant = { λ p. p.grid ≡ lines_of (arc_value p.board.page.put.value).network.segments };
 }
 
 impl Published {
-    /// The reply to a line that is not empty. It answers an error only where memory runs out.
-    pub fn reply(&self, alloc: Global, line: &[u8]) -> Result<Text, ReplyFault>
-        ensures { IfOk result (λ text. IsReply self.now line.now text) }
+    /// The board of a network on which the metric by its profile alone is published, under number 0. It
+    /// answers an error only where memory runs out.
+    pub fn opening(alloc: Global, network: Network) -> Result<Published, AllocError>
+        ensures { IfOk result (λ p. p ≡ opening network) }
     {
-        let answer = line_answer(alloc, &self.network, &self.base, self.number, line)?;
-        Ok(answer.text)
+        let base = base(alloc, &network)?;
+        let grid = Grid::of(alloc, &network)?;
+        let metric = Metric::make(Arc::new(alloc, network)?, base);
+        let board = LocalBoard::of(alloc, Arc::new(alloc, metric)?, 0)?;
+        Ok(Published { board, grid })
+    }
+
+    /// The reply to a line that is not empty, with a newline behind it. It answers an error only where
+    /// memory runs out.
+    pub fn reply_line(&self, alloc: Global, line: &[u8]) -> Result<Text, ReplyFault>
+        ensures { IfOk result (λ text. IsReplyLine self.now line.now text) }
+    {
+        let held = self.board.enter()?;
+        let answer = line_answer(&(), alloc, &held, &self.grid, line)?;
+        let mut text = answer.text.into_string();
+        text.push('\n')?;
+        Ok(Text::of(text))
     }
 }

@@ -1,8 +1,7 @@
 -- Lines put behind what stands in the output.
-use Rattle.std.proofs.Common.{◌≡◌, ◌≤◌, ℕ, List, [], ◌∷◌, ◌++◌, ◌⊎◌, inl, inr, Option, Some, None, Result, Ok, Err, OnErr, refl, ap, sym, ◌∙◌, subst, append-nil}
+use Rattle.std.proofs.Common.{◌≡◌, ◌≤◌, ℕ, List, [], ◌∷◌, ◌++◌, ◌⊎◌, ⊎_elim, inl, inr, Option, Some, None, Result, Ok, Err, OnErr, refl, ap, sym, ◌∙◌, subst, append-nil}
 use Rattle.std.specs.Io.KnownBytes.{Appends}
-use Rattle.line_session.specs.Outside.{FilesView, InputView, OutputView, outside, Closes}
-use Rattle.line_session.specs.Publication.{Publication}
+use Rattle.line_session.specs.Outside.{FilesView, InputView, OutputView, FilesRose, InputRose, OutputRose, outside, Closes}
 use Rattle.line_session.specs.Stopping.{ToldPart}
 use Rattle.road_base.specs.declared.program_status.Status.{Status}
 use Rattle.road_base.specs.declared.program_status.Status.TheVariants as status
@@ -10,9 +9,14 @@ use Rattle.road_io.specs.FailedNames.{AppendsNames}
 use Rattle.road_io.specs.Faults.{Rose, rose_since}
 use Rattle.road_io.specs.declared.failures.FileFault.{FileFault}
 use Rattle.road_io.specs.declared.failures.FileFault.TheVariants as file
-use Rattle.road_io.specs.Told.{appends_then, appends_front_then}
-use Rattle.road_router.specs.Ending.{BegunFrom, Ends, cannot_read}
-use Rattle.road_router.specs.Loading.{memory_line}
+use Rattle.road_io.specs.Told.{IsContent, appends_then, appends_front_then}
+use Rattle.edge_graph.specs.NetworkView.{NetworkView}
+use Rattle.line_session.specs.Publication.{Publication, opening}
+use Rattle.opl_read.specs.Objects.{opl_objects}
+use Rattle.road_base.specs.declared.osm_objects.Object.{Object}
+use Rattle.map_loading.specs.Counting.{check_text, counts_of}
+use Rattle.road_router.specs.Ending.{AreRead, Begun, BegunFrom, CountedFront, Ends, EndsCheck, EndsCountOver, EndsFrom, EndsOver, EndsPut, IsCounted, IsLeft, IsRefused, IsUnread, NamesOf, answered, cannot_read, count_exhausted, count_refused, counted, exhausted, long_line, refused}
+use Rattle.map_loading.specs.Loading.{load_of, memory_line}
 
 -- what holds anyhow holds of a failure
 pub on_err_always : {T E P : Type 0} (r : Result T E) → P → OnErr r P
@@ -41,22 +45,179 @@ names_then (Some told) None new names none more = absurd none
 names_then (Some told) (Some held) None names none more = absurd more
 names_then (Some told) (Some held) (Some now) names none more = more ∙ ap (λ (l : List (List ℕ)). l ++ names) (none ∙ append-nil told)
 
--- where the second file is not read, the run ends for it
-pub unread_second : (code : Status) (fault : FileFault) (first middle last : FilesView) (input : InputView) (before after : OutputView) (map settings : List ℕ)
-    → (fault ≡ file.Failed → (code ≡ status.Outside) × Closes before after (cannot_read settings))
+-- both files were read
+pub both_read : (first middle last : FilesView) (map settings map_bytes settings_bytes : List ℕ)
+    → IsContent (first.content map) map_bytes → IsContent (first.content settings) settings_bytes
+    → AppendsNames first.failed_names middle.failed_names [] → AppendsNames middle.failed_names last.failed_names []
+    → middle.faults ≡ first.faults → last.faults ≡ middle.faults
+    → AreRead first last map settings map_bytes settings_bytes
+both_read first middle last map settings map_bytes settings_bytes is_map are_settings none none_more steady steady_more = record {
+  is_map = is_map;
+  are_settings = are_settings;
+  told = names_then first.failed_names middle.failed_names last.failed_names [] none none_more;
+  steady = steady_more ∙ steady;
+}
+
+-- the second file was not read
+pub left_second : (first middle last : FilesView) (map settings : List ℕ) (fault : FileFault)
+    → AppendsNames first.failed_names middle.failed_names [] → middle.faults ≡ first.faults
+    → (fault ≡ file.Failed → AppendsNames middle.failed_names last.failed_names (settings ∷ []) × Rose middle.faults last.faults)
+    → (fault ≡ file.Memory → AppendsNames middle.failed_names last.failed_names [])
+    → IsLeft first last map settings settings fault
+left_second first middle last map settings fault none steady failed memory = record {
+  named = inr refl;
+  failed = λ e. let h = failed e in (
+    names_then first.failed_names middle.failed_names last.failed_names (settings ∷ []) none h.0,
+    subst (λ (n : ℕ). Rose n last.faults) steady h.1,
+  );
+  memory = λ e. names_then first.failed_names middle.failed_names last.failed_names [] none (memory e);
+}
+
+-- how a run ends that did not read a file: failed, or for want of memory
+pub data EndsLeft (code : Status) (before after : OutputView) (name : List ℕ) (fault : FileFault) : Type 0 where
+  by_failure : fault ≡ file.Failed → code ≡ status.Outside → Closes before after (cannot_read name) → EndsLeft code before after name fault
+  by_memory : fault ≡ file.Memory → code ≡ status.Memory → Closes before after memory_line → EndsLeft code before after name fault
+
+pub ends_left : (code : Status) (before after : OutputView) (name : List ℕ) (fault : FileFault)
+    → (fault ≡ file.Failed → (code ≡ status.Outside) × Closes before after (cannot_read name))
     → (fault ≡ file.Memory → (code ≡ status.Memory) × Closes before after memory_line)
-    → AppendsNames first.failed_names middle.failed_names [] → (fault ≡ file.Failed → AppendsNames middle.failed_names last.failed_names (settings ∷ []))
-    → first.faults ≤ middle.faults → (fault ≡ file.Failed → Rose middle.faults last.faults)
+    → EndsLeft code before after name fault
+ends_left code before after name file.Failed failed memory = let h = failed refl in by_failure refl h.0 h.1
+ends_left code before after name file.Memory failed memory = let h = memory refl in by_memory refl h.0 h.1
+
+unread_of : (first last : FilesView) (before after : OutputView) (map settings name : List ℕ) (fault : FileFault)
+    → IsLeft first last map settings name fault → fault ≡ file.Failed → Closes before after (cannot_read name) → IsUnread first last before after map settings
+unread_of first last before after map settings name fault left failed put =
+    let h = left.failed failed in record {
+      name = name;
+      named = left.named;
+      told = h.0;
+      rose = h.1;
+      put = put;
+    }
+
+-- where a file is not read, the run ends for it
+pub ends_of_left : (code : Status) (first last : FilesView) (input : InputView) (before after : OutputView) (map settings name : List ℕ) (fault : FileFault)
+    → IsLeft first last map settings name fault → EndsLeft code before after name fault
     → Ends code (outside first input before) (outside last input after) map settings
-unread_second code file.Failed first middle last input before after map settings failed memory none told later rose =
-    let h = failed refl in
-    subst (λ (c : Status). Ends c (outside first input before) (outside last input after) map settings) (sym h.0) (inl (record {
-      name = settings;
-      named = inr refl;
-      told = names_then first.failed_names middle.failed_names last.failed_names (settings ∷ []) none (told refl);
-      rose = rose_since first.faults middle.faults last.faults later (rose refl);
-      put = h.1;
-    }))
-unread_second code file.Memory first middle last input before after map settings failed memory none told later rose =
-    let h = memory refl in
-    subst (λ (c : Status). Ends c (outside first input before) (outside last input after) map settings) (sym h.0) (inl h.1)
+ends_of_left code first last input before after map settings name fault left (by_failure failed is put) =
+    subst (λ (c : Status). Ends c (outside first input before) (outside last input after) map settings) (sym is) (inl (unread_of first last before after map settings name fault left failed put))
+ends_of_left code first last input before after map settings name fault left (by_memory memory is put) =
+    subst (λ (c : Status). Ends c (outside first input before) (outside last input after) map settings) (sym is) (inl put)
+
+pub check_of_left : (code : Status) (first last : FilesView) (input : InputView) (before after : OutputView) (map settings name : List ℕ) (fault : FileFault)
+    → IsLeft first last map settings name fault → EndsLeft code before after name fault
+    → EndsCheck code (outside first input before) (outside last input after) map settings
+check_of_left code first last input before after map settings name fault left (by_failure failed is put) =
+    subst (λ (c : Status). EndsCheck c (outside first input before) (outside last input after) map settings) (sym is) (inl (unread_of first last before after map settings name fault left failed put))
+check_of_left code first last input before after map settings name fault left (by_memory memory is put) =
+    subst (λ (c : Status). EndsCheck c (outside first input before) (outside last input after) map settings) (sym is) put
+
+pub names_of_left : (code : Status) (first last : FilesView) (before after : OutputView) (map settings name : List ℕ) (fault : FileFault)
+    → IsLeft first last map settings name fault → EndsLeft code before after name fault → NamesOf code first last
+names_of_left code first last before after map settings name fault left (by_failure failed is put) =
+    subst (λ (c : Status). NamesOf c first last) (sym is) (inl (left.failed failed).1)
+names_of_left code first last before after map settings name fault left (by_memory memory is put) =
+    subst (λ (c : Status). NamesOf c first last) (sym is) (left.memory memory)
+
+-- where both files are read, no name is told
+pub names_of_read : (code : Status) (first last : FilesView) → AppendsNames first.failed_names last.failed_names [] → NamesOf code first last
+names_of_read status.Ok first last none = none
+names_of_read status.Outside first last none = inr none
+names_of_read status.Words first last none = none
+names_of_read status.Refused first last none = none
+names_of_read status.Memory first last none = none
+
+begun_of : (first last : FilesView) (input_before input_after : InputView) (before after : OutputView) (map settings map_bytes settings_bytes line : List ℕ) (network : NetworkView)
+    → AreRead first last map settings map_bytes settings_bytes → load_of map_bytes settings_bytes ≡ Ok network
+    → BegunFrom (opening network) input_before before after line → Begun (outside first input_before before) (outside last input_after after) map settings line
+begun_of first last input_before input_after before after map settings map_bytes settings_bytes line network read loads begun = record {
+  network = network;
+  loaded = record { map_bytes = map_bytes; is_map = read.is_map; settings_bytes = settings_bytes; are_settings = read.are_settings; loads = loads };
+  begun = begun;
+}
+
+-- how answering over what was loaded ends, by its status
+ends_from : (code : Status) (first last : FilesView) (input_before input_after : InputView) (before after : OutputView) (map settings map_bytes settings_bytes : List ℕ) (network : NetworkView)
+    → AreRead first last map settings map_bytes settings_bytes → load_of map_bytes settings_bytes ≡ Ok network
+    → EndsFrom code (opening network) input_before input_after before after
+    → Ends code (outside first input_before before) (outside last input_after after) map settings
+ends_from status.Ok first last input_before input_after before after map settings map_bytes settings_bytes network read loads h = (
+  record { files = read.steady; input = h.0; output = h.1 },
+  record {
+    network = network;
+    loaded = record { map_bytes = map_bytes; is_map = read.is_map; settings_bytes = settings_bytes; are_settings = read.are_settings; loads = loads };
+    told = h.2;
+  },
+)
+ends_from status.Outside first last input_before input_after before after map settings map_bytes settings_bytes network read loads h =
+    inr (h.0, begun_of first last input_before input_after before after map settings map_bytes settings_bytes [] network read loads h.1)
+ends_from status.Words first last input_before input_after before after map settings map_bytes settings_bytes network read loads h = absurd h
+ends_from status.Refused first last input_before input_after before after map settings map_bytes settings_bytes network read loads h =
+    inr (h.0, begun_of first last input_before input_after before after map settings map_bytes settings_bytes long_line network read loads h.1)
+ends_from status.Memory first last input_before input_after before after map settings map_bytes settings_bytes network read loads h =
+    inr (begun_of first last input_before input_after before after map settings map_bytes settings_bytes memory_line network read loads h)
+
+refused_of : (first last : FilesView) (map settings map_bytes settings_bytes line : List ℕ)
+    → AreRead first last map settings map_bytes settings_bytes → load_of map_bytes settings_bytes ≡ Err line → IsRefused first map settings line
+refused_of first last map settings map_bytes settings_bytes line read refuses =
+    record { map_bytes = map_bytes; is_map = read.is_map; settings_bytes = settings_bytes; are_settings = read.are_settings; refuses = refuses }
+
+-- how a run ends that read its files and answers
+pub ends_of_read : (code : Status) (first last : FilesView) (input_before input_after : InputView) (before after : OutputView) (map settings map_bytes settings_bytes : List ℕ)
+    → AreRead first last map settings map_bytes settings_bytes
+    → EndsOver code (load_of map_bytes settings_bytes) input_before input_after before after
+    → Ends code (outside first input_before before) (outside last input_after after) map settings
+ends_of_read code first last input_before input_after before after map settings map_bytes settings_bytes read (answered network loads from) =
+    ends_from code first last input_before input_after before after map settings map_bytes settings_bytes network read loads from
+ends_of_read code first last input_before input_after before after map settings map_bytes settings_bytes read (refused line refuses is put) =
+    subst (λ (c : Status). Ends c (outside first input_before before) (outside last input_after after) map settings) (sym is)
+    (inl (line, refused_of first last map settings map_bytes settings_bytes line read refuses, put))
+ends_of_read code first last input_before input_after before after map settings map_bytes settings_bytes read (exhausted is put) =
+    subst (λ (c : Status). Ends c (outside first input_before before) (outside last input_after after) map settings) (sym is) (inl put)
+
+counted_of : (first last : FilesView) (map settings map_bytes settings_bytes : List ℕ) (objects : List Object) (network : NetworkView)
+    → AreRead first last map settings map_bytes settings_bytes → opl_objects map_bytes ≡ Ok objects → load_of map_bytes settings_bytes ≡ Ok network
+    → IsCounted first map settings (check_text (counts_of objects) network)
+counted_of first last map settings map_bytes settings_bytes objects network read are loads = record {
+  map_bytes = map_bytes;
+  is_map = read.is_map;
+  settings_bytes = settings_bytes;
+  are_settings = read.are_settings;
+  objects = objects;
+  are_objects = are;
+  network = network;
+  loads = loads;
+  is_text = refl;
+}
+
+-- how putting the counts ends, by its status
+count_from : (code : Status) (first last : FilesView) (input : InputView) (before after : OutputView) (map settings text : List ℕ)
+    → last.faults ≡ first.faults → IsCounted first map settings text → EndsPut code text before after
+    → EndsCheck code (outside first input before) (outside last input after) map settings
+count_from status.Ok first last input before after map settings text steady is h = (record { files = steady; input = refl; output = h.0 }, (text, is, h.1))
+count_from status.Outside first last input before after map settings text steady is h = inr (h.0, (text, is, h.1))
+count_from status.Words first last input before after map settings text steady is h = absurd h
+count_from status.Refused first last input before after map settings text steady is h = absurd h
+count_from status.Memory first last input before after map settings text steady is h = h
+
+-- how a run ends that read its files and counts
+pub check_of_read : (code : Status) (first last : FilesView) (input : InputView) (before after : OutputView) (map settings map_bytes settings_bytes : List ℕ)
+    → AreRead first last map settings map_bytes settings_bytes
+    → EndsCountOver code map_bytes settings_bytes before after
+    → EndsCheck code (outside first input before) (outside last input after) map settings
+check_of_read code first last input before after map settings map_bytes settings_bytes read (counted objects network are loads put) =
+    count_from code first last input before after map settings (check_text (counts_of objects) network) read.steady (counted_of first last map settings map_bytes settings_bytes objects network read are loads) put
+check_of_read code first last input before after map settings map_bytes settings_bytes read (count_refused line refuses is put) =
+    subst (λ (c : Status). EndsCheck c (outside first input before) (outside last input after) map settings) (sym is)
+    (line, refused_of first last map settings map_bytes settings_bytes line read refuses, put)
+check_of_read code first last input before after map settings map_bytes settings_bytes read (count_exhausted is put) =
+    subst (λ (c : Status). EndsCheck c (outside first input before) (outside last input after) map settings) (sym is) put
+
+-- a run that counts ends for the outside only where a count of faults rose
+pub check_outside : (code : Status) (first last : FilesView) (input : InputView) (before after : OutputView) (map settings : List ℕ)
+    → EndsCheck code (outside first input before) (outside last input after) map settings
+    → code ≡ status.Outside → FilesRose first last ⊎ (InputRose input input ⊎ OutputRose before after)
+check_outside code first last input before after map settings ends is =
+    let h : EndsCheck status.Outside (outside first input before) (outside last input after) map settings = subst (λ (c : Status). EndsCheck c (outside first input before) (outside last input after) map settings) is ends in
+    ⊎_elim (λ (unread : IsUnread first last before after map settings). inl unread.rose) (λ (rest : OutputRose before after × CountedFront (outside first input before) (outside last input after) map settings). inr (inr rest.0)) h

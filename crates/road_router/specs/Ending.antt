@@ -1,13 +1,19 @@
 -- How a run of the program ends, by its status (this project's rule): what stands in the output, and what
 -- it comes from.
 use Rattle.std.specs.Prelude.{◌≡◌, ℕ, ◌^◌, ◌≤◌, ◌⊎◌, List, [], ◌∷◌, ◌++◌, length, codes, Option, Some, None, Result, Ok, Err}
+use Rattle.std.specs.Io.KnownBytes.{Appends}
 use Rattle.edge_graph.specs.NetworkView.{NetworkView}
 use Rattle.road_base.specs.declared.program_status.Status.{Status}
 use Rattle.road_base.specs.declared.program_status.Status.TheVariants as status
 use Rattle.road_io.specs.FailedNames.{AppendsNames}
-use Rattle.road_io.specs.Told.{IsContent}
-use Rattle.road_router.specs.Commands.{Command, Ask, usage_line}
-use Rattle.road_router.specs.Loading.{load_of, memory_line}
+use Rattle.road_io.specs.declared.failures.FileFault.{FileFault}
+use Rattle.road_io.specs.declared.failures.FileFault.TheVariants as file
+use Rattle.road_io.specs.Told.{AppendsFront, IsContent}
+use Rattle.command_words.specs.Commands.{Command, Ask, Check}
+use Rattle.opl_read.specs.Objects.{opl_objects}
+use Rattle.road_base.specs.declared.osm_objects.Object.{Object}
+use Rattle.map_loading.specs.Counting.{check_text, counts_of}
+use Rattle.map_loading.specs.Loading.{load_of, memory_line}
 use Rattle.line_session.specs.Outside.{Outside, FilesView, InputView, OutputView, NoneRose, FilesRose, InputRose, OutputRose, Closes, Took}
 use Rattle.line_session.specs.Publication.{Publication, opening}
 use Rattle.line_session.specs.Stopping.{ToldAll}
@@ -77,18 +83,31 @@ abbrev pub cannot_read : List ℕ → List ℕ
 cannot_read name = codes "cannot read " ++ (name ++ codes "\n")
 
 -- the file of this name, one of the two of the words, could not be read; it is the one failed read
-pub record IsUnread (before after : Outside) (map settings : List ℕ) : Type 0 where
+pub record IsUnread (files_before files_after : FilesView) (before after : OutputView) (map settings : List ℕ) : Type 0 where
   pub name : List ℕ
   pub named : (name ≡ map) ⊎ (name ≡ settings)
-  pub told : AppendsNames before.files.failed_names after.files.failed_names (name ∷ [])
-  pub rose : FilesRose before.files after.files
-  pub put : Closes before.output after.output (cannot_read name)
+  pub told : AppendsNames files_before.failed_names files_after.failed_names (name ∷ [])
+  pub rose : FilesRose files_before files_after
+  pub put : Closes before after (cannot_read name)
+
+-- both files were read, and hold these bytes
+pub record AreRead (files_before files_after : FilesView) (map settings map_bytes settings_bytes : List ℕ) : Type 0 where
+  pub is_map : IsContent (files_before.content map) map_bytes
+  pub are_settings : IsContent (files_before.content settings) settings_bytes
+  pub told : AppendsNames files_before.failed_names files_after.failed_names []
+  pub steady : files_after.faults ≡ files_before.faults
+
+-- of the two files the one of this name was not read, with this fault
+pub record IsLeft (before after : FilesView) (map settings name : List ℕ) (fault : FileFault) : Type 0 where
+  pub named : (name ≡ map) ⊎ (name ≡ settings)
+  pub failed : fault ≡ file.Failed → AppendsNames before.failed_names after.failed_names (name ∷ []) × FilesRose before after
+  pub memory : fault ≡ file.Memory → AppendsNames before.failed_names after.failed_names []
 
 -- the end of a run that answers lines, by its status
 abbrev pub Ends : Status → Outside → Outside → List ℕ → List ℕ → Type 0
 Ends status.Ok before after map settings = NoneRose before after × Whole before after map settings
 Ends status.Outside before after map settings =
-    IsUnread before after map settings
+    IsUnread before.files after.files before.output after.output map settings
     ⊎ ((InputRose before.input after.input ⊎ OutputRose before.output after.output) × Begun before after map settings [])
 Ends status.Words before after map settings = ⊥
 Ends status.Refused before after map settings =
@@ -97,12 +116,69 @@ Ends status.Refused before after map settings =
 Ends status.Memory before after map settings =
     Closes before.output after.output memory_line ⊎ Begun before after map settings memory_line
 
+-- the files of the words hold a map and settings, whose counts these are
+pub record IsCounted (files : FilesView) (map settings text : List ℕ) : Type 0 where
+  pub map_bytes : List ℕ
+  pub is_map : IsContent (files.content map) map_bytes
+  pub settings_bytes : List ℕ
+  pub are_settings : IsContent (files.content settings) settings_bytes
+  pub objects : List Object
+  pub are_objects : opl_objects map_bytes ≡ Ok objects
+  pub network : NetworkView
+  pub loads : load_of map_bytes settings_bytes ≡ Ok network
+  pub is_text : text ≡ check_text (counts_of objects) network
+
+-- the counts stand in the output, or a front of them where it failed
+abbrev pub Counted : Outside → Outside → List ℕ → List ℕ → Type 0
+Counted before after map settings = (text : List ℕ) × IsCounted before.files map settings text × Appends before.output.written after.output.written text
+
+abbrev pub CountedFront : Outside → Outside → List ℕ → List ℕ → Type 0
+CountedFront before after map settings = (text : List ℕ) × IsCounted before.files map settings text × AppendsFront before.output.written after.output.written text
+
+-- the end of putting a text, by its status
+abbrev pub EndsPut : Status → List ℕ → OutputView → OutputView → Type 0
+EndsPut status.Ok text before after = (after.faults ≡ before.faults) × Appends before.written after.written text
+EndsPut status.Outside text before after = OutputRose before after × AppendsFront before.written after.written text
+EndsPut status.Words text before after = ⊥
+EndsPut status.Refused text before after = ⊥
+EndsPut status.Memory text before after = Closes before after memory_line
+
+-- the end of counting over the bytes of a map and settings
+pub data EndsCountOver (code : Status) (map settings : List ℕ) (before after : OutputView) : Type 0 where
+  counted : (objects : List Object) (network : NetworkView) → opl_objects map ≡ Ok objects → load_of map settings ≡ Ok network → EndsPut code (check_text (counts_of objects) network) before after → EndsCountOver code map settings before after
+  count_refused : (line : List ℕ) → load_of map settings ≡ Err line → code ≡ status.Refused → Closes before after line → EndsCountOver code map settings before after
+  count_exhausted : code ≡ status.Memory → Closes before after memory_line → EndsCountOver code map settings before after
+
+-- the end of a run that counts, by its status; it takes nothing of the input
+abbrev pub EndsCheck : Status → Outside → Outside → List ℕ → List ℕ → Type 0
+EndsCheck status.Ok before after map settings = NoneRose before after × Counted before after map settings
+EndsCheck status.Outside before after map settings =
+    IsUnread before.files after.files before.output after.output map settings
+    ⊎ (OutputRose before.output after.output × CountedFront before after map settings)
+EndsCheck status.Words before after map settings = ⊥
+EndsCheck status.Refused before after map settings = (line : List ℕ) × IsRefused before.files map settings line × Closes before.output after.output line
+EndsCheck status.Memory before after map settings = Closes before.output after.output memory_line
+
 -- a failed read is told only where a run ends for it, and then it is the one of `IsUnread`
 abbrev pub NamesOf : Status → FilesView → FilesView → Type 0
 NamesOf status.Outside before after = FilesRose before after ⊎ AppendsNames before.failed_names after.failed_names []
 NamesOf _ before after = AppendsNames before.failed_names after.failed_names []
 
+abbrev pub usage_line : List ℕ
+usage_line = codes "usage: road_router check OPL SETTINGS | ask OPL SETTINGS | serve OPL SETTINGS --listen A --control B [--workers N] [--segment-speed-file F] [--turn-penalty-file F] | town N | drill N\n"
+
 -- the end of a run on these words, which may make no command
 abbrev pub EndsOn : Option Command → Status → Outside → Outside → Type 0
+EndsOn (Some (Check map settings)) code before after = EndsCheck code before after map settings × (after.input ≡ before.input)
 EndsOn (Some (Ask map settings)) code before after = Ends code before after map settings
 EndsOn None code before after = (code ≡ status.Words) × Closes before.output after.output usage_line
+
+-- there was no memory to read the words; nothing was taken
+pub record EndsWordless (code : Status) (before after : Outside) : Type 0 where
+  pub status : code ≡ status.Memory
+  pub put : Closes before.output after.output memory_line
+  pub input : after.input ≡ before.input
+
+-- the end of a run on these words
+abbrev pub EndsRun : Option Command → Status → Outside → Outside → Type 0
+EndsRun command code before after = EndsOn command code before after ⊎ EndsWordless code before after

@@ -1,4 +1,1 @@
-pub mod Commands
 pub mod Ending
-pub mod LoadCause
-pub mod Loading

@@ -1,13 +1,11 @@
-//! Walnutkiln's program: reads a map and the settings of a vehicle, and answers lines of standard input,
-//! each under the last published metric.
+//! Walnutkiln's program: reads a map and the settings of a vehicle, and counts what is in them, or answers
+//! lines of standard input, each under the last published metric.
 //!
 //! `running::run` does all that the program does over what is handed in, and its contract is the program's
 //! theorem: `specs/Ending` says what stands in the output, by the status, and what each status comes from.
 //! `main` makes the real things and calls it.
 #![tactic(auto)]
 
-mod command_words;
-mod loading;
 mod real_files;
 mod real_streams;
 mod running;

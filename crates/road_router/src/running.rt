@@ -1,17 +1,18 @@
 //! All that the program does, over what is handed in.
 
-ghost use Rattle.std.specs.Prelude.{◌≡◌, ◌⊎◌, ◌≤◌, map, string_bytes, OnOk, OnErr};
+ghost use Rattle.std.specs.Prelude.{◌≡◌, ◌⊎◌, ◌≤◌, map, string_bytes, IfOk, IfErr, OnOk, OnErr};
 ghost use Rattle.std.specs.Io.KnownBytes.{Appends};
-ghost use Rattle.line_session.specs.Outside.{outside, files_view, input_view, output_view, Closes};
+ghost use Rattle.line_session.specs.Outside.{InputView, outside, files_view, input_view, output_view, Closes};
 ghost use Rattle.road_io.specs.Faults.{HasCause, Rose};
 ghost use Rattle.road_io.specs.Told.{AppendsFront};
-ghost use Rattle.road_router.specs.Commands.{command_of};
-ghost use Rattle.road_router.specs.Ending.{Ends, EndsFrom, EndsOver, EndsOn, NamesOf, cannot_read};
-ghost use Rattle.road_router.specs.Loading.{load_of, memory_line};
+ghost use Rattle.command_words.specs.Commands.{command_of};
+ghost use Rattle.map_loading.specs.Counting.{check_text};
+ghost use Rattle.road_router.specs.Ending.{AreRead, Ends, EndsCheck, EndsCountOver, EndsFrom, EndsOver, EndsPut, EndsRun, IsLeft, NamesOf, cannot_read};
+ghost use Rattle.map_loading.specs.Loading.{load_of, memory_line};
 
-use crate::command_words::{Words, read_words};
-use crate::loading::{LoadFault, load};
+use command_words::{Words, WordsFault, read_words};
 use line_session::{Published, Stop, answer_lines};
+use map_loading::{LoadFault, Loaded, check_text, load};
 use road_base::{Status, Text};
 use road_io::{Doors, Failed, FileFault, Files, Gate, Sink, Source, put_all};
 use std::alloc::Global;
@@ -48,6 +49,15 @@ fn put_unread<O: Sink>(output: &mut O, name: &str) -> Result<(), Failed>
     put_all(output, b"\n")
 }
 
+// Ends a run for which there was no memory.
+fn end_exhausted<O: Sink>(output: &mut O) -> Status
+    ensures status { result ≡ Status.Memory }
+    ensures put { Closes (output_view (O.written output.old) (O.faults output.old)) (output_view (O.written output.new) (O.faults output.new)) memory_line }
+{
+    close(output, MEMORY);
+    Status::Memory
+}
+
 // Ends a run for a file that could not be read, or for which there was no memory.
 fn end_unread<O: Sink>(output: &mut O, name: &str, fault: FileFault) -> Status
     ensures failed { fault ≡ FileFault.Failed → (result ≡ Status.Outside) × Closes (output_view (O.written output.old) (O.faults output.old)) (output_view (O.written output.new) (O.faults output.new)) (cannot_read name.now) }
@@ -58,10 +68,7 @@ fn end_unread<O: Sink>(output: &mut O, name: &str, fault: FileFault) -> Status
             let _ = put_unread(output, name);
             Status::Outside
         }
-        FileFault::Memory => {
-            close(output, MEMORY);
-            Status::Memory
-        }
+        FileFault::Memory => end_exhausted(output),
     }
 }
 
@@ -83,31 +90,7 @@ fn answer<I: Source, O: Sink>(
             close(output, LONG);
             Status::Refused
         }
-        Err(Stop::Memory) => {
-            close(output, MEMORY);
-            Status::Memory
-        }
-    }
-}
-
-// Answers lines over a map and settings that were read, or refuses them.
-fn ask_over<I: Source, O: Sink>(
-    alloc: Global,
-    map: &[u8],
-    settings: &[u8],
-    input: &mut I,
-    output: &mut O,
-) -> Status
-    ensures { EndsOver result (load_of map.now settings.now) (input_view (I.left input.old) (I.taken input.old) (I.faults input.old)) (input_view (I.left input.new) (I.taken input.new) (I.faults input.new))
-        (output_view (O.written output.old) (O.faults output.old)) (output_view (O.written output.new) (O.faults output.new)) }
-{
-    match load(alloc, map, settings) {
-        Ok(published) => answer(alloc, &published, input, output),
-        Err(LoadFault::Refused(line)) => end_refused(output, line),
-        Err(LoadFault::Memory) => {
-            close(output, MEMORY);
-            Status::Memory
-        }
+        Err(Stop::Memory) => end_exhausted(output),
     }
 }
 
@@ -118,6 +101,57 @@ fn end_refused<O: Sink>(output: &mut O, line: Text) -> Status
 {
     close(output, line.as_bytes());
     Status::Refused
+}
+
+/// The file that was not read, and why.
+#[derive(Clone, Copy)]
+struct Unread<'a> {
+    name: &'a str,
+    fault: FileFault,
+}
+
+// Reads the files of a map and settings, in this order.
+fn read_files<'a, F: Files>(
+    alloc: Global,
+    map: &'a str,
+    settings: &'a str,
+    files: &mut F,
+) -> Result<(Vec<u8>, Vec<u8>), Unread<'a>>
+    ensures read { IfOk result (λ both. AreRead (files_view (F.content files.old) (F.failed_names files.old) (F.faults files.old)) (files_view (F.content files.new) (F.failed_names files.new) (F.faults files.new)) map.now settings.now both.0.items both.1.items) }
+    ensures unread { IfErr result (λ u. IsLeft (files_view (F.content files.old) (F.failed_names files.old) (F.faults files.old)) (files_view (F.content files.new) (F.failed_names files.new) (F.faults files.new)) map.now settings.now u.name.now u.fault) }
+{
+    let map_bytes = match files.read(alloc, map) {
+        Ok(bytes) => bytes,
+        Err(fault) => return Err(Unread { name: map, fault }),
+    };
+    match files.read(alloc, settings) {
+        Ok(settings_bytes) => Ok((map_bytes, settings_bytes)),
+        Err(fault) => Err(Unread {
+            name: settings,
+            fault,
+        }),
+    }
+}
+
+// Answers lines over a map and settings that were read, or refuses them.
+fn ask_over<I: Source, O: Sink>(
+    alloc: Global,
+    map: Vec<u8>,
+    settings: &[u8],
+    input: &mut I,
+    output: &mut O,
+) -> Status
+    ensures { EndsOver result (load_of map.items settings.now) (input_view (I.left input.old) (I.taken input.old) (I.faults input.old)) (input_view (I.left input.new) (I.taken input.new) (I.faults input.new))
+        (output_view (O.written output.old) (O.faults output.old)) (output_view (O.written output.new) (O.faults output.new)) }
+{
+    match load(alloc, map, settings) {
+        Ok(loaded) => match Published::opening(alloc, loaded.network) {
+            Ok(published) => answer(alloc, &published, input, output),
+            Err(_) => end_exhausted(output),
+        },
+        Err(LoadFault::Refused(line)) => end_refused(output, line),
+        Err(LoadFault::Memory) => end_exhausted(output),
+    }
 }
 
 /// Answers the lines of the input over the map and the settings in the files of these names, which are
@@ -134,27 +168,60 @@ pub fn ask<F: Files, I: Source, O: Sink>(
         (outside (files_view (F.content files.new) (F.failed_names files.new) (F.faults files.new)) (input_view (I.left input.new) (I.taken input.new) (I.faults input.new)) (output_view (O.written output.new) (O.faults output.new))) map.now settings.now }
     ensures names { NamesOf result (files_view (F.content files.old) (F.failed_names files.old) (F.faults files.old)) (files_view (F.content files.new) (F.failed_names files.new) (F.faults files.new)) }
 {
-    let map_bytes = match files.read(alloc, map) {
-        Ok(bytes) => bytes,
-        Err(fault) => return end_unread(output, map, fault),
+    match read_files(alloc, map, settings, files) {
+        Ok((map, settings)) => ask_over(alloc, map, settings.as_slice(), input, output),
+        Err(unread) => end_unread(output, unread.name, unread.fault),
+    }
+}
+
+// Puts the counts of what was loaded.
+fn put_counts<O: Sink>(alloc: Global, loaded: &Loaded, output: &mut O) -> Status
+    ensures { EndsPut result (check_text loaded.now.objects loaded.now.network) (output_view (O.written output.old) (O.faults output.old)) (output_view (O.written output.new) (O.faults output.new)) }
+{
+    let Ok(text) = check_text(alloc, loaded.objects, &loaded.network) else {
+        return end_exhausted(output);
     };
-    let settings_bytes = match files.read(alloc, settings) {
-        Ok(bytes) => bytes,
-        Err(fault) => return end_unread(output, settings, fault),
-    };
-    ask_over(
-        alloc,
-        map_bytes.as_slice(),
-        settings_bytes.as_slice(),
-        input,
-        output,
-    )
+    match put_all(output, text.as_bytes()) {
+        Ok(()) => Status::Ok,
+        Err(_) => Status::Outside,
+    }
+}
+
+// Counts over a map and settings that were read, or refuses them.
+fn check_over<O: Sink>(alloc: Global, map: Vec<u8>, settings: &[u8], output: &mut O) -> Status
+    ensures { EndsCountOver result map.items settings.now (output_view (O.written output.old) (O.faults output.old)) (output_view (O.written output.new) (O.faults output.new)) }
+{
+    match load(alloc, map, settings) {
+        Ok(loaded) => put_counts(alloc, &loaded, output),
+        Err(LoadFault::Refused(line)) => end_refused(output, line),
+        Err(LoadFault::Memory) => end_exhausted(output),
+    }
+}
+
+/// Puts how many objects there are in the map in the file of the first name, and what its network is for
+/// the vehicle of the settings in the second: eight lines. The files are read first, in this order. It
+/// waits for nobody but the outside.
+pub fn check<F: Files, O: Sink>(
+    alloc: Global,
+    map: &str,
+    settings: &str,
+    files: &mut F,
+    output: &mut O,
+) -> Status
+    ensures ends { (input : InputView) → EndsCheck result (outside (files_view (F.content files.old) (F.failed_names files.old) (F.faults files.old)) input (output_view (O.written output.old) (O.faults output.old)))
+        (outside (files_view (F.content files.new) (F.failed_names files.new) (F.faults files.new)) input (output_view (O.written output.new) (O.faults output.new))) map.now settings.now }
+    ensures names { NamesOf result (files_view (F.content files.old) (F.failed_names files.old) (F.faults files.old)) (files_view (F.content files.new) (F.failed_names files.new) (F.faults files.new)) }
+{
+    match read_files(alloc, map, settings, files) {
+        Ok((map, settings)) => check_over(alloc, map, settings.as_slice(), output),
+        Err(unread) => end_unread(output, unread.name, unread.fault),
+    }
 }
 
 /// All that the program does: reads the words, does what they ask for over what is handed in, and answers
 /// how it ended. The words stand without the program's name.
 ///
-/// So far there is one command, `ask`. Neither the doors nor the gate are touched.
+/// So far there are two commands, `check` and `ask`. Neither the doors nor the gate are touched.
 pub fn run<R, F: Files, I: Source, O: Sink, N: Doors, G: Gate>(
     rt: &R,
     alloc: Global,
@@ -165,7 +232,7 @@ pub fn run<R, F: Files, I: Source, O: Sink, N: Doors, G: Gate>(
     doors: &mut N,
     gate: &G,
 ) -> Status
-    ensures ends { EndsOn (command_of (map string_bytes words.now)) result (outside (files_view (F.content files.old) (F.failed_names files.old) (F.faults files.old)) (input_view (I.left input.old) (I.taken input.old) (I.faults input.old)) (output_view (O.written output.old) (O.faults output.old)))
+    ensures ends { EndsRun (command_of (map string_bytes words.now)) result (outside (files_view (F.content files.old) (F.failed_names files.old) (F.faults files.old)) (input_view (I.left input.old) (I.taken input.old) (I.faults input.old)) (output_view (O.written output.old) (O.faults output.old)))
         (outside (files_view (F.content files.new) (F.failed_names files.new) (F.faults files.new)) (input_view (I.left input.new) (I.taken input.new) (I.faults input.new)) (output_view (O.written output.new) (O.faults output.new))) }
     ensures names { NamesOf result (files_view (F.content files.old) (F.failed_names files.old) (F.faults files.old)) (files_view (F.content files.new) (F.failed_names files.new) (F.faults files.new)) }
     ensures outside { result ≡ Status.Outside → Rose (F.faults files.old) (F.faults files.new) ⊎ (Rose (I.faults input.old) (I.faults input.new) ⊎ Rose (O.faults output.old) (O.faults output.new)) }
@@ -174,11 +241,13 @@ pub fn run<R, F: Files, I: Source, O: Sink, N: Doors, G: Gate>(
     let _ = rt;
     let _ = doors;
     let _ = gate;
-    match read_words(words) {
-        Words::Ask(map, settings) => ask(alloc, map, settings, files, input, output),
-        Words::Unknown => {
+    match read_words(alloc, words) {
+        Ok(Words::Check(map, settings)) => check(alloc, map, settings, files, output),
+        Ok(Words::Ask(map, settings)) => ask(alloc, map, settings, files, input, output),
+        Err(WordsFault::Unknown) => {
             close(output, USAGE);
             Status::Words
         }
+        Err(WordsFault::Memory) => end_exhausted(output),
     }
 }

@@ -18,6 +18,62 @@ const REPLY: &[u8] =
 
 const BAD: &[u8] = b"{\"code\":\"BadRequest\"}\n";
 
+const BAD_PATH: &[u8] = b"{\"code\":\"InvalidUrl\",\"message\":\"path\"}\n";
+
+// A crossing of three streets. From the first one it is forbidden to go into the second; another
+// restriction has no value.
+const CROSSING: &[u8] =
+    b"n1 x0 y0\nn2 x0.001 y0\nn3 x0.001 y0.001\nn4 x0.002 y0\nw1 Thighway=residential Nn1,n2\nw2 Thighway=residential Nn2,n3\nw3 Thighway=residential Nn2,n4\nr1 Ttype=restriction,restriction=no_left_turn Mw1@from,n2@via,w2@to\nr2 Ttype=restriction Mw1@from,n2@via,w3@to\n";
+
+// What `check` prints of it.
+const COUNTS: &[u8] =
+    b"nodes 4\nways 3\nrelations 2\nsegments 3\nvertices 6\nturns 8\nrestrictions 1\nignored 1\n";
+
+// A block that may be driven round one way only, and a street that may be driven one way.
+const BLOCK: &[u8] =
+    b"n1 x0 y0\nn2 x0.001 y0\nn3 x0.001 y0.001\nn4 x0 y0.001\nw20 Thighway=residential,oneway=yes Nn1,n2,n3,n4,n1\n";
+
+const STREET: &[u8] = b"n1 x0 y0\nn2 x0.001 y0\nw20 Thighway=residential,oneway=yes Nn1,n2\n";
+
+// Four streets that meet at a fifth node; its other texts have a restriction, or a signal there.
+const STAR: &[u8] =
+    b"n1 x0.001 y0\nn2 x0.002 y0.001\nn3 x0.001 y0.002\nn4 x0 y0.001\nn5 x0.001 y0.001\nw1 Thighway=residential,name=South Nn1,n5\nw2 Thighway=residential Nn5,n2\nw3 Thighway=residential Nn5,n3\nw4 Thighway=residential,name=West Nn4,n5\n";
+
+const STAR_NO_LEFT: &[u8] =
+    b"n1 x0.001 y0\nn2 x0.002 y0.001\nn3 x0.001 y0.002\nn4 x0 y0.001\nn5 x0.001 y0.001\nw1 Thighway=residential Nn1,n5\nw2 Thighway=residential Nn5,n2\nw3 Thighway=residential Nn5,n3\nw4 Thighway=residential Nn4,n5\nr1 Ttype=restriction,restriction=no_left_turn Mw1@from,n5@via,w4@to\n";
+
+const STAR_STRAIGHT: &[u8] =
+    b"n1 x0.001 y0\nn2 x0.002 y0.001\nn3 x0.001 y0.002\nn4 x0 y0.001\nn5 x0.001 y0.001\nw1 Thighway=residential Nn1,n5\nw2 Thighway=residential Nn5,n2\nw3 Thighway=residential Nn5,n3\nw4 Thighway=residential Nn4,n5\nr1 Ttype=restriction,restriction=only_straight_on Mw1@from,n5@via,w3@to\n";
+
+const STAR_EXCEPTED: &[u8] =
+    b"n1 x0.001 y0\nn2 x0.002 y0.001\nn3 x0.001 y0.002\nn4 x0 y0.001\nn5 x0.001 y0.001\nw1 Thighway=residential Nn1,n5\nw2 Thighway=residential Nn5,n2\nw3 Thighway=residential Nn5,n3\nw4 Thighway=residential Nn4,n5\nr1 Ttype=restriction,restriction=no_left_turn,except=bus;motorcar Mw1@from,n5@via,w4@to\n";
+
+const STAR_SIGNAL: &[u8] =
+    b"n1 x0.001 y0\nn2 x0.002 y0.001\nn3 x0.001 y0.002\nn4 x0 y0.001\nn5 x0.001 y0.001 Thighway=traffic_signals\nw1 Thighway=residential Nn1,n5\nw2 Thighway=residential Nn5,n2\nw3 Thighway=residential Nn5,n3\nw4 Thighway=residential Nn4,n5\n";
+
+// The town with an escaped name, with a way that was deleted, and with a barrier.
+const TOWN_NAMED: &[u8] =
+    b"n1 x0 y0\nn2 x0 y0.001\nn3 x0.001 y0.001\nw10 Nn1,n2,n3 v7 Tname=Main%20%Street%d%,highway=residential\nw11 dD Thighway=residential Nn1,n3\n";
+
+const TOWN_BARRED: &[u8] =
+    b"n1 x0 y0\nn2 x0 y0.001 Tbarrier=bollard\nn3 x0.001 y0.001\nw10 Thighway=residential Nn1,n2,n3\n";
+
+const SIGNALS: &[u8] =
+    b"name = \"car\"\nvehicle = \"motorcar\"\nu_turn_penalty = 200\nsignal_penalty = 30\n[speeds]\nresidential = 40\n";
+
+const LEFTS: &[u8] =
+    b"name = \"car\"\nvehicle = \"motorcar\"\nu_turn_penalty = 200\n[speeds]\nresidential = 40\n[turn_penalty]\nleft = 50\n";
+
+const SIGNALS_AND_LEFTS: &[u8] =
+    b"name = \"car\"\nvehicle = \"motorcar\"\nu_turn_penalty = 200\nsignal_penalty = 30\n[speeds]\nresidential = 40\n[turn_penalty]\nleft = 50\n";
+
+const BARRIERS: &[u8] =
+    b"name = \"car\"\nvehicle = \"motorcar\"\nu_turn_penalty = 200\nbarriers = [\"bollard\"]\n[speeds]\nresidential = 40\n";
+
+const BACKWARDS: &[u8] = b"GET /route/v1/car/0.00075,0;0.00025,0?overview=false\n";
+
+const SOUTH_TO_WEST: &[u8] = b"GET /route/v1/car/0.001,0;0,0.001?overview=false\n";
+
 // A run of `ask` over a map, settings and an input that comes in pieces of this size; a size of 0 is no
 // limit. The output has this much room.
 #[derive(Clone, Copy)]
@@ -109,15 +165,15 @@ fn an_input_byte_by_byte_is_answered_alike(rt: HostRuntime) -> Result<(), AllocE
 
 #[test]
 fn lines_are_answered_one_by_one(rt: HostRuntime) -> Result<(), AllocError> {
-    // An empty line, a carriage return before a newline, a line of no form, and a last line without its
-    // newline, whose carriage return belongs to it.
+    // An empty line, a carriage return before a newline, a target that is refused, a line of no form, and a
+    // last line without its newline, whose carriage return belongs to it.
     let cases: [(&[u8], &[u8]); 5] = [
         (b"", b""),
         (b"\n\r\n\n", b""),
-        (b"GET /\r\n", BAD),
+        (b"GET /\r\n", BAD_PATH),
         (
             b"GET /\nTRAFFIC - -",
-            b"{\"code\":\"BadRequest\"}\n{\"code\":\"BadRequest\"}\n",
+            b"{\"code\":\"InvalidUrl\",\"message\":\"path\"}\n{\"code\":\"BadRequest\"}\n",
         ),
         (b"\r", BAD),
     ];
@@ -131,6 +187,13 @@ fn lines_are_answered_one_by_one(rt: HostRuntime) -> Result<(), AllocError> {
 
 #[test]
 fn each_status_has_its_line(rt: HostRuntime) -> Result<(), AllocError> {
+    let escaped = Case {
+        map: b"n1 x0 y0\nn2 x0 y0.001\nn3 x0.001 y0.001\nw10 Nn1,n2,n3 Tname=%110000%\n",
+        ..Case::over_town(LINE)
+    };
+    let (status, output) = ask(&rt, escaped)?;
+    assert_eq!(rt; status, Status::Refused);
+    assert_eq!(rt; output.as_bytes(), b"opl line 4 BadEscape\n".as_slice());
     let faulty = Case {
         map: b"n1 x0 y0\nn1 x0 y0\nw",
         ..Case::over_town(LINE)
@@ -145,6 +208,13 @@ fn each_status_has_its_line(rt: HostRuntime) -> Result<(), AllocError> {
     let (status, output) = ask(&rt, nameless)?;
     assert_eq!(rt; status, Status::Refused);
     assert_eq!(rt; output.as_bytes(), b"settings Missing speeds\n".as_slice());
+    let bare = Case {
+        settings: b"",
+        ..Case::over_town(LINE)
+    };
+    let (status, output) = ask(&rt, bare)?;
+    assert_eq!(rt; status, Status::Refused);
+    assert_eq!(rt; output.as_bytes(), b"settings Missing name\n".as_slice());
     let (status, output) = run_words(
         &rt,
         Case::over_town(LINE),
@@ -152,11 +222,49 @@ fn each_status_has_its_line(rt: HostRuntime) -> Result<(), AllocError> {
     )?;
     assert_eq!(rt; status, Status::Outside);
     assert_eq!(rt; output.as_bytes(), b"cannot read none.toml\n".as_slice());
-    let (status, output) = run_words(&rt, Case::over_town(LINE), &["ask", "town.opl"])?;
-    assert_eq!(rt; status, Status::Words);
-    assert!(rt;
-        output.as_bytes().starts_with(b"usage: road_router check OPL SETTINGS | ask OPL SETTINGS")
+    Ok(())
+}
+
+#[test]
+fn other_words_get_the_usage_line(rt: HostRuntime) -> Result<(), AllocError> {
+    let lists: [&[&str]; 4] = [&[], &["ask", "town.opl"], &["check", "--help"], &["serve"]];
+    for list in lists {
+        let (status, output) = run_words(&rt, Case::over_town(LINE), list)?;
+        assert_eq!(rt; status, Status::Words);
+        assert!(rt;
+            output.as_bytes().starts_with(
+                b"usage: road_router check OPL SETTINGS | ask OPL SETTINGS"
+            )
+        );
+    }
+    Ok(())
+}
+
+#[test]
+fn maps_are_counted(rt: HostRuntime) -> Result<(), AllocError> {
+    let case = Case {
+        map: CROSSING,
+        ..Case::over_town(LINE)
+    };
+    let words = ["check", "town.opl", "settings.toml"];
+    let (status, output) = run_words(&rt, case, &words)?;
+    assert_eq!(rt; status, Status::Ok);
+    assert_eq!(rt; output.as_bytes(), COUNTS);
+    let (status, output) = run_words(&rt, Case::over_town(LINE), &words)?;
+    assert_eq!(rt; status, Status::Ok);
+    assert_eq!(rt;
+        output.as_bytes(),
+        b"nodes 3\nways 1\nrelations 0\nsegments 2\nvertices 4\nturns 4\nrestrictions 0\nignored 0\n".as_slice()
     );
+    let (status, output) = run_words(&rt, Case { map: b"", ..case }, &words)?;
+    assert_eq!(rt; status, Status::Ok);
+    assert_eq!(rt;
+        output.as_bytes(),
+        b"nodes 0\nways 0\nrelations 0\nsegments 0\nvertices 0\nturns 0\nrestrictions 0\nignored 0\n".as_slice()
+    );
+    let (status, output) = run_words(&rt, Case { room: 9, ..case }, &words)?;
+    assert_eq!(rt; status, Status::Outside);
+    assert_eq!(rt; output.as_bytes(), b"nodes 4\nw".as_slice());
     Ok(())
 }
 
@@ -184,5 +292,116 @@ fn a_map_without_roads_has_no_place(rt: HostRuntime) -> Result<(), AllocError> {
         output.as_bytes(),
         b"{\"code\":\"NoSegment\",\"data_version\":\"0\",\"message\":\"coordinate 0\"}\n".as_slice()
     );
+    Ok(())
+}
+
+// What replies over these maps and settings have in them, worked out by hand.
+#[test]
+fn routes_over_small_maps(rt: HostRuntime) -> Result<(), AllocError> {
+    let cases: [(&[u8], &[u8], &[u8], &str); 11] = [
+        (
+            BLOCK,
+            SETTINGS,
+            BACKWARDS,
+            "[{\"distance\":388.8,\"duration\":34.6,",
+        ),
+        (
+            STREET,
+            SETTINGS,
+            BACKWARDS,
+            "{\"code\":\"NoRoute\",\"data_version\":\"0\",\"message\":\"leg 0\"}",
+        ),
+        (
+            STAR,
+            SETTINGS,
+            SOUTH_TO_WEST,
+            "[{\"distance\":222.2,\"duration\":19.8,",
+        ),
+        (
+            STAR_NO_LEFT,
+            SETTINGS,
+            SOUTH_TO_WEST,
+            "[{\"distance\":444.4,\"duration\":59.6,",
+        ),
+        (
+            STAR_STRAIGHT,
+            SETTINGS,
+            SOUTH_TO_WEST,
+            "[{\"distance\":444.4,\"duration\":59.6,",
+        ),
+        (
+            STAR_EXCEPTED,
+            SETTINGS,
+            SOUTH_TO_WEST,
+            "[{\"distance\":222.2,\"duration\":19.8,",
+        ),
+        (
+            STAR_SIGNAL,
+            SIGNALS,
+            SOUTH_TO_WEST,
+            "[{\"distance\":222.2,\"duration\":22.8,",
+        ),
+        (
+            STAR,
+            LEFTS,
+            SOUTH_TO_WEST,
+            "[{\"distance\":222.2,\"duration\":24.8,",
+        ),
+        (
+            STAR_SIGNAL,
+            SIGNALS_AND_LEFTS,
+            SOUTH_TO_WEST,
+            "[{\"distance\":222.2,\"duration\":27.8,",
+        ),
+        (TOWN_NAMED, SETTINGS, LINE, "\"name\":\"Main Street\\r\""),
+        (
+            TOWN_BARRED,
+            BARRIERS,
+            LINE,
+            "{\"code\":\"NoRoute\",\"data_version\":\"0\",\"message\":\"leg 0\"}",
+        ),
+    ];
+    for (map, settings, input, expected) in cases {
+        let case = Case {
+            map,
+            settings,
+            ..Case::over_town(input)
+        };
+        let (status, output) = ask(&rt, case)?;
+        assert_eq!(rt; status, Status::Ok);
+        let told = std::str::from_utf8(output.as_bytes()).unwrap_or("");
+        assert!(rt; told.contains(expected));
+    }
+    Ok(())
+}
+
+// A map with one way that goes to and fro between two nodes, so many times.
+fn to_and_fro(alloc: Global, times: usize) -> Result<Vec<u8>, AllocError> {
+    let mut map = Vec::from_slice(
+        alloc,
+        b"n1 x0 y0\nn2 x0.001 y0\nw1 Thighway=residential Nn1",
+    )?;
+    for time in 0..times {
+        let node: &[u8] = if time % 2 == 0 { b",n2" } else { b",n1" };
+        map.extend_from_slice(node)?;
+    }
+    Ok(map)
+}
+
+#[test]
+fn past_the_limits_a_map_is_refused(rt: HostRuntime) -> Result<(), AllocError> {
+    for (times, line) in [
+        (5794, "too many turns\n"),
+        (4_194_305, "too many segments\n"),
+    ] {
+        let map = to_and_fro(rt.alloc(), times)?;
+        let case = Case {
+            map: map.as_slice(),
+            ..Case::over_town(LINE)
+        };
+        let (status, output) = ask(&rt, case)?;
+        assert_eq!(rt; status, Status::Refused);
+        assert_eq!(rt; output.as_bytes(), line.as_bytes());
+    }
     Ok(())
 }

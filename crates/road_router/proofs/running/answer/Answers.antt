@@ -1,7 +1,7 @@
 -- The line on which a run ends stands behind a front of what is told.
 use Rattle.line_session.specs.Outside.{input_view, output_view}
 use Rattle.road_router.specs.Ending.{long_line}
-use Rattle.road_router.specs.Loading.{memory_line}
+use Rattle.map_loading.specs.Loading.{memory_line}
 use Rattle.road_router.proofs.EndLaws.{begun_then}
 use Rattle.road_router.proofs.running.answer.Goals as goal
 
@@ -17,9 +17,9 @@ returns-in-Err-TooLong g c = (
 )
 
 pub returns-in-Err-Memory : goal.returns-in-Err-Memory
-returns-in-Err-Memory g c = begun_then c.args.published.now
+returns-in-Err-Memory g c = rw c.end_exhausted.ensures.status (begun_then c.args.published.now
     (input_view (g.I.Source.left c.args.input.now) (g.I.Source.taken c.args.input.now) (g.I.Source.faults c.args.input.now))
     (output_view (g.O.Sink.written c.args.output.now) (g.O.Sink.faults c.args.output.now))
     (output_view (g.O.Sink.written c.answer_lines.new.output) (g.O.Sink.faults c.answer_lines.new.output))
-    (output_view (g.O.Sink.written c.close-in-Err-Memory.new.output) (g.O.Sink.faults c.close-in-Err-Memory.new.output))
-    memory_line c.in-Err-Memory.ensures.part c.answer_lines.ensures.later.1 c.close-in-Err-Memory.ensures.put
+    (output_view (g.O.Sink.written c.end_exhausted.new.output) (g.O.Sink.faults c.end_exhausted.new.output))
+    memory_line c.in-Err-Memory.ensures.part c.answer_lines.ensures.later.1 c.end_exhausted.ensures.put)

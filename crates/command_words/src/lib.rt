@@ -1,0 +1,12 @@
+//! Reads the words of the command line: which command they make, by `clap`'s reading of them.
+//!
+//! `specs/Commands` writes the command line down as `clap` sees it, and says which words make which command.
+#![tactic(auto)]
+
+mod command_lines;
+mod words;
+
+pub use words::{Words, WordsFault, read_words};
+
+#[cfg(test)]
+mod tests;
