@@ -3,14 +3,15 @@
 //! and answers the same lines with the same bytes.
 //!
 //! It trusts its files: it tells no fault, looks for no duplicates, does not check UTF-8, and keeps only the
-//! nodes' locations and the ways that can be used. Its TOML is lines `key = value` and one table.
+//! nodes' locations, the ways that can be used, and the restrictions. Its TOML is keys with a number, a text
+//! or a list of texts, and tables of numbers.
 //!
 //!     rustc --edition 2024 -C opt-level=3 baseline.rs
 //!     baseline ask OPL SETTINGS       answers the lines of standard input
-//!     baseline count OPL SETTINGS     prints how many segments and turns there are
+//!     baseline check OPL SETTINGS     prints the counts of the program's `check`
 
 use std::cmp::Reverse;
-use std::collections::{BinaryHeap, HashMap};
+use std::collections::{BinaryHeap, HashMap, HashSet};
 use std::io::{BufRead, Write};
 
 /// Deciseconds, then decimetres.
@@ -28,9 +29,48 @@ struct Place {
     at: u64,
 }
 
+#[derive(Default)]
 struct Settings {
-    speeds: HashMap<Vec<u8>, u64>,
+    vehicle: String,
+    speeds: HashMap<String, u64>,
+    access_keys: Vec<String>,
+    denied: Vec<String>,
+    barriers: Vec<String>,
+    /// By the modifier of a turn, in the order of `MODIFIERS`.
+    penalties: [u64; 8],
     u_turn: u64,
+    signal: u64,
+}
+
+const MODIFIERS: [&str; 8] =
+    ["straight", "slight_right", "right", "sharp_right", "uturn", "sharp_left", "left", "slight_left"];
+
+/// What a restriction says of the turns at its `via` node.
+#[derive(Clone, Copy, PartialEq)]
+enum Sense {
+    No,
+    NoUTurn,
+    Only,
+}
+
+struct Restriction {
+    sense: Sense,
+    via: i64,
+    from: Vec<i64>,
+    to: Vec<i64>,
+}
+
+/// What is read of a map.
+#[derive(Default)]
+struct Map {
+    locations: HashMap<i64, Point>,
+    closed: HashSet<i64>,
+    signals: HashSet<i64>,
+    ways: Vec<Way>,
+    restrictions: Vec<Restriction>,
+    ignored: usize,
+    /// How many nodes, ways and relations.
+    counts: [usize; 3],
 }
 
 struct Way {
@@ -55,121 +95,214 @@ struct Network {
     segments: Vec<Segment>,
     /// By vertex; None where it is closed.
     costs: Vec<Option<Cost>>,
-    /// The turns of vertex v lead to `turns[first[v]..first[v + 1]]`.
+    /// The turns of vertex v lead to `turns[first[v]..first[v + 1]]`, and cost `penalties` there.
     first: Vec<u32>,
     turns: Vec<u32>,
-    u_turn: u64,
+    penalties: Vec<u32>,
+    applied: usize,
+    ignored: usize,
 }
 
 fn main() {
     let words: Vec<String> = std::env::args().skip(1).collect();
     let [command, map, settings] = words.as_slice() else {
-        panic!("usage: baseline ask|count OPL SETTINGS");
+        panic!("usage: baseline ask|check OPL SETTINGS");
     };
     let settings = read_settings(&std::fs::read_to_string(settings).expect("settings"));
-    let (locations, ways) = read_map(&std::fs::read(map).expect("map"), &settings);
-    let network = build(locations, ways, settings.u_turn);
+    let map = read_map(&std::fs::read(map).expect("map"), &settings);
+    let counts = map.counts;
+    let network = build(map, &settings);
     match command.as_str() {
         "ask" => answer_lines(&network),
-        "count" => println!("{} {}", network.segments.len(), network.turns.len()),
+        "check" => check(counts, &network),
         _ => panic!("no such command"),
     }
+}
+
+fn check([nodes, ways, relations]: [usize; 3], network: &Network) {
+    let vertices = network.costs.iter().filter(|cost| cost.is_some()).count();
+    println!("nodes {nodes}\nways {ways}\nrelations {relations}");
+    println!("segments {}\nvertices {vertices}\nturns {}", network.segments.len(), network.turns.len());
+    println!("restrictions {}\nignored {}", network.applied, network.ignored);
 }
 
 // ---- reading ----
 
 fn read_settings(text: &str) -> Settings {
-    let mut settings = Settings { speeds: HashMap::new(), u_turn: 0 };
-    let mut in_speeds = false;
-    for line in text.lines() {
+    let mut settings = Settings::default();
+    let mut table = String::new();
+    let mut lines = text.lines();
+    while let Some(line) = lines.next() {
         let line = line.trim();
         if line.starts_with('[') {
-            in_speeds = line == "[speeds]";
-        } else if let Some((key, value)) = line.split_once('=') {
-            let (key, value) = (key.trim(), value.trim());
-            if in_speeds {
-                let speed: u64 = value.parse().expect("speed");
-                settings.speeds.insert(key.as_bytes().to_vec(), speed * 1000);
-            } else if key == "u_turn_penalty" {
-                settings.u_turn = value.parse().expect("u_turn_penalty");
+            table = line.to_string();
+        } else if !line.starts_with('#') && let Some((key, value)) = line.split_once('=') {
+            let mut value = value.trim().to_string();
+            while value.starts_with('[') && !value.ends_with(']') {
+                value.push_str(lines.next().expect("a list ends").trim());
             }
+            set(&mut settings, &table, key.trim(), &value);
         }
     }
     settings
 }
 
-fn read_map(text: &[u8], settings: &Settings) -> (HashMap<i64, Point>, Vec<Way>) {
-    let mut locations = HashMap::new();
-    let mut ways = Vec::new();
+fn set(settings: &mut Settings, table: &str, key: &str, value: &str) {
+    let number = || value.parse::<u64>().expect("number");
+    let text = || value.trim_matches('"').to_string();
+    let texts = || value.split('"').skip(1).step_by(2).map(String::from).collect();
+    match (table, key) {
+        ("[speeds]", _) => _ = settings.speeds.insert(key.to_string(), number() * 1000),
+        ("[turn_penalty]", _) => {
+            let place = MODIFIERS.iter().position(|name| *name == key).expect("modifier");
+            settings.penalties[place] = number();
+        }
+        (_, "vehicle") => settings.vehicle = text(),
+        (_, "access_keys") => settings.access_keys = texts(),
+        (_, "denied") => settings.denied = texts(),
+        (_, "barriers") => settings.barriers = texts(),
+        (_, "u_turn_penalty") => settings.u_turn = number(),
+        (_, "signal_penalty") => settings.signal = number(),
+        _ => (),
+    }
+}
+
+fn read_map(text: &[u8], settings: &Settings) -> Map {
+    let mut map = Map::default();
     for line in text.split(|b| *b == b'\n') {
         let line = line.strip_suffix(b"\r").unwrap_or(line);
+        let deleted = fields(line).skip(1).any(|field| field == b"dD");
         match fields(line).next().map(|field| field[0]) {
-            Some(b'n') => read_node(line, &mut locations),
-            Some(b'w') => ways.extend(read_way(line, settings)),
+            _ if deleted => (),
+            Some(b'n') => read_node(line, settings, &mut map),
+            Some(b'w') => read_way(line, settings, &mut map),
+            Some(b'r') => read_relation(line, settings, &mut map),
             _ => (),
         }
     }
-    (locations, ways)
+    map
 }
 
 fn fields(line: &[u8]) -> impl Iterator<Item = &[u8]> {
     line.split(|b| *b == b' ' || *b == b'\t').filter(|field| !field.is_empty())
 }
 
-fn read_node(line: &[u8], locations: &mut HashMap<i64, Point>) {
-    let (mut id, mut lon, mut lat) = (0, None, None);
-    for (place, field) in fields(line).enumerate() {
-        match field[0] {
-            _ if place == 0 => id = integer(&field[1..]),
-            b'x' => lon = microdegrees(&field[1..]),
-            b'y' => lat = microdegrees(&field[1..]),
-            b'd' if field == b"dD" => return,
-            _ => (),
-        }
+/// The id of a line, and the content of its field of this letter, or nothing.
+fn id_of(line: &[u8]) -> i64 {
+    integer(&fields(line).next().unwrap()[1..])
+}
+
+fn field(line: &[u8], letter: u8) -> &[u8] {
+    fields(line).skip(1).find(|field| field[0] == letter).map_or(&b""[..], |field| &field[1..])
+}
+
+fn read_node(line: &[u8], settings: &Settings, map: &mut Map) {
+    map.counts[0] += 1;
+    let id = id_of(line);
+    if let (Some(lon), Some(lat)) = (microdegrees(field(line, b'x')), microdegrees(field(line, b'y'))) {
+        map.locations.insert(id, Point { lon: lon as i32, lat: lat as i32 });
     }
-    if let (Some(lon), Some(lat)) = (lon, lat) {
-        locations.insert(id, Point { lon: lon as i32, lat: lat as i32 });
+    let tags = field(line, b'T');
+    if tags.is_empty() {
+        return;
+    }
+    if value_of(tags, "barrier").is_some_and(|value| settings.barriers.contains(&value)) {
+        map.closed.insert(id);
+    }
+    if value_of(tags, "highway").is_some_and(|value| value == "traffic_signals") {
+        map.signals.insert(id);
     }
 }
 
-fn read_way(line: &[u8], settings: &Settings) -> Option<Way> {
-    let (mut id, mut tags, mut nodes) = (0, &b""[..], &b""[..]);
-    for (place, field) in fields(line).enumerate() {
-        match field[0] {
-            _ if place == 0 => id = integer(&field[1..]),
-            b'T' => tags = &field[1..],
-            b'N' => nodes = &field[1..],
-            b'd' if field == b"dD" => return None,
+/// The value of the first tag of this key.
+fn value_of(tags: &[u8], key: &str) -> Option<String> {
+    for tag in tags.split(|b| *b == b',') {
+        if let Some(at) = tag.iter().position(|b| *b == b'=') {
+            let same = if tag[..at].contains(&b'%') { unescaped(&tag[..at]) == key } else { &tag[..at] == key.as_bytes() };
+            if same {
+                return Some(unescaped(&tag[at + 1..]));
+            }
+        }
+    }
+    None
+}
+
+fn unescaped(text: &[u8]) -> String {
+    let text = std::str::from_utf8(text).expect("UTF-8");
+    let mut pieces = text.split('%');
+    let mut whole = String::from(pieces.next().unwrap());
+    while let (Some(code), Some(plain)) = (pieces.next(), pieces.next()) {
+        whole.push(u32::from_str_radix(code, 16).ok().and_then(char::from_u32).expect("escape"));
+        whole.push_str(plain);
+    }
+    whole
+}
+
+fn read_way(line: &[u8], settings: &Settings, map: &mut Map) {
+    map.counts[1] += 1;
+    let tags = field(line, b'T');
+    let Some(highway) = value_of(tags, "highway") else {
+        return;
+    };
+    let Some(speed) = settings.speeds.get(&highway) else {
+        return;
+    };
+    let access = settings.access_keys.iter().find_map(|key| value_of(tags, key));
+    if access.is_some_and(|value| settings.denied.contains(&value)) {
+        return;
+    }
+    let round = highway == "motorway" || value_of(tags, "junction").is_some_and(|value| value == "roundabout");
+    let (forward, backward) = match value_of(tags, "oneway").as_deref() {
+        Some("yes" | "true" | "1") => (true, false),
+        Some("-1" | "reverse") => (false, true),
+        Some("no") => (true, true),
+        _ => (true, !round),
+    };
+    let ids = field(line, b'N').split(|b| *b == b',').filter(|entry| entry.len() > 1);
+    let nodes = ids.map(|entry| integer(entry[1..].split(|b| *b == b'x').next().unwrap())).collect();
+    let name = value_of(tags, "name").unwrap_or_default();
+    map.ways.push(Way { id: id_of(line), name, speed: *speed, forward, backward, nodes });
+}
+
+fn read_relation(line: &[u8], settings: &Settings, map: &mut Map) {
+    map.counts[2] += 1;
+    let tags = field(line, b'T');
+    if value_of(tags, "type").as_deref() != Some("restriction") {
+        return;
+    }
+    let except = value_of(tags, "except").unwrap_or_default();
+    if except.split(';').any(|entry| entry.trim_matches([' ', '\t']) == settings.vehicle) {
+        return;
+    }
+    match restriction_of(tags, field(line, b'M')) {
+        Some(restriction) => map.restrictions.push(restriction),
+        None => map.ignored += 1,
+    }
+}
+
+fn restriction_of(tags: &[u8], members: &[u8]) -> Option<Restriction> {
+    let kind = value_of(tags, "restriction")?;
+    let sense = match kind.as_str() {
+        "no_u_turn" => Sense::NoUTurn,
+        "no_left_turn" | "no_right_turn" | "no_straight_on" | "no_entry" | "no_exit" => Sense::No,
+        "only_left_turn" | "only_right_turn" | "only_straight_on" => Sense::Only,
+        _ => return None,
+    };
+    let (mut from, mut via, mut to) = (Vec::new(), Vec::new(), Vec::new());
+    for member in members.split(|b| *b == b',').filter(|member| !member.is_empty()) {
+        let at = member.iter().position(|b| *b == b'@')?;
+        let (kind, id) = (member[0], integer(&member[1..at]));
+        match (unescaped(&member[at + 1..]).as_str(), kind) {
+            ("from", b'w') => from.push(id),
+            ("to", b'w') => to.push(id),
+            ("via", b'n') => via.push(id),
+            ("from" | "to" | "via", _) => return None,
             _ => (),
         }
     }
-    let (mut highway, mut oneway, mut junction, mut name) = (None, None, None, None);
-    for tag in tags.split(|b| *b == b',') {
-        let Some(at) = tag.iter().position(|b| *b == b'=') else {
-            continue;
-        };
-        let kept = match &tag[..at] {
-            b"highway" => &mut highway,
-            b"oneway" => &mut oneway,
-            b"junction" => &mut junction,
-            b"name" => &mut name,
-            _ => continue,
-        };
-        kept.get_or_insert(&tag[at + 1..]);
-    }
-    let highway: &[u8] = highway?;
-    let speed = *settings.speeds.get(highway)?;
-    let round = junction == Some(&b"roundabout"[..]) || highway == b"motorway";
-    let (forward, backward) = match oneway {
-        Some(b"yes" | b"true" | b"1") => (true, false),
-        Some(b"-1" | b"reverse") => (false, true),
-        Some(b"no") => (true, true),
-        _ => (true, !round),
-    };
-    let ids = nodes.split(|b| *b == b',').filter(|entry| entry.len() > 1);
-    let nodes = ids.map(|entry| integer(entry[1..].split(|b| *b == b'x').next().unwrap())).collect();
-    let name = String::from_utf8(name.unwrap_or(b"").to_vec()).expect("name");
-    Some(Way { id, name, speed, forward, backward, nodes })
+    let enough = !from.is_empty() && !to.is_empty() && via.len() == 1;
+    let few = (from.len() == 1 || kind == "no_entry") && (to.len() == 1 || kind == "no_exit");
+    (enough && few).then(|| Restriction { sense, via: via[0], from, to })
 }
 
 fn integer(text: &[u8]) -> i64 {
@@ -253,23 +386,92 @@ fn point_at(a: Point, b: Point, at: u64) -> Point {
     Point { lon: along(a.lon, b.lon), lat: along(a.lat, b.lat) }
 }
 
+/// Whole degrees from north, clockwise.
+fn bearing(a: Point, b: Point) -> u32 {
+    let (east, north) = stride(a, b, middle_cosine(a, b));
+    let (m, most) = (east.abs().min(north.abs()), east.abs().max(north.abs()));
+    let t = if most == 0 { 0 } else { (45_000 * m * most + 15_640 * m * (most - m)) / (most * most) };
+    let angle = if north.abs() >= east.abs() {
+        match (north >= 0, east >= 0) {
+            (true, true) => t,
+            (true, false) => 360_000 - t,
+            (false, true) => 180_000 - t,
+            (false, false) => 180_000 + t,
+        }
+    } else {
+        match (east > 0, north >= 0) {
+            (true, true) => 90_000 - t,
+            (true, false) => 90_000 + t,
+            (false, true) => 270_000 + t,
+            (false, false) => 270_000 - t,
+        }
+    };
+    ((angle + 500) / 1000 % 360) as u32
+}
+
+/// The place in `MODIFIERS` of the change of bearing.
+fn modifier(before: u32, after: u32) -> usize {
+    match (after + 360 - before) % 360 {
+        0..=20 | 340..=359 => 0,
+        21..=40 => 1,
+        41..=120 => 2,
+        121..=179 => 3,
+        180 => 4,
+        181..=239 => 5,
+        240..=319 => 6,
+        _ => 7,
+    }
+}
+
 // ---- building ----
 
-fn build(locations: HashMap<i64, Point>, mut ways: Vec<Way>, u_turn: u64) -> Network {
-    ways.sort_by_key(|way| way.id);
+fn build(mut map: Map, settings: &Settings) -> Network {
+    map.ways.sort_by_key(|way| way.id);
     let mut segments = Vec::new();
-    for (number, way) in ways.iter().enumerate() {
+    for (number, way) in map.ways.iter().enumerate() {
         for pair in way.nodes.windows(2) {
             let (tail, head) = (pair[0], pair[1]);
-            if let (true, Some(from), Some(to)) = (tail != head, locations.get(&tail), locations.get(&head)) {
+            if let (true, Some(from), Some(to)) = (tail != head, map.locations.get(&tail), map.locations.get(&head)) {
                 segments.push(Segment { tail, head, from: *from, to: *to, way: number as u32 });
             }
         }
     }
-    drop(locations);
-    let costs = vertex_costs(&ways, &segments);
-    let (first, turns) = turns_of(&segments, &costs);
-    Network { ways, segments, costs, first, turns, u_turn }
+    map.locations = HashMap::new();
+    let costs = vertex_costs(&map.ways, &segments);
+    let read = map.restrictions.len();
+    let rules = applying(&mut map, &segments);
+    let applied = rules.values().map(Vec::len).sum();
+    let (first, turns, penalties) = turns_of(&map, settings, &segments, &costs, &rules);
+    Network { ways: map.ways, segments, costs, first, turns, penalties, applied, ignored: map.ignored + read - applied }
+}
+
+/// The restrictions by their `via` node, but those one of whose ways does not meet it.
+fn applying(map: &mut Map, segments: &[Segment]) -> HashMap<i64, Vec<Restriction>> {
+    let wanted: HashSet<i64> = map.restrictions.iter().map(|rule| rule.via).collect();
+    let mut meets = HashSet::new();
+    for segment in segments {
+        for node in [segment.tail, segment.head] {
+            if wanted.contains(&node) {
+                meets.insert((map.ways[segment.way as usize].id, node));
+            }
+        }
+    }
+    let mut rules: HashMap<i64, Vec<Restriction>> = HashMap::new();
+    for rule in map.restrictions.drain(..) {
+        if rule.from.iter().chain(&rule.to).all(|way| meets.contains(&(*way, rule.via))) {
+            rules.entry(rule.via).or_default().push(rule);
+        }
+    }
+    rules
+}
+
+fn forbids(rule: &Restriction, from: i64, to: i64, back: bool) -> bool {
+    rule.from.contains(&from)
+        && match rule.sense {
+            Sense::No => rule.to.contains(&to),
+            Sense::NoUTurn => rule.to.contains(&to) && (back || rule.from != rule.to),
+            Sense::Only => !rule.to.contains(&to),
+        }
 }
 
 fn vertex_costs(ways: &[Way], segments: &[Segment]) -> Vec<Option<Cost>> {
@@ -284,25 +486,58 @@ fn vertex_costs(ways: &[Way], segments: &[Segment]) -> Vec<Option<Cost>> {
     costs
 }
 
-fn turns_of(segments: &[Segment], costs: &[Option<Cost>]) -> (Vec<u32>, Vec<u32>) {
+fn turns_of(
+    map: &Map,
+    settings: &Settings,
+    segments: &[Segment],
+    costs: &[Option<Cost>],
+    rules: &HashMap<i64, Vec<Restriction>>,
+) -> (Vec<u32>, Vec<u32>, Vec<u32>) {
     let mut leaving: HashMap<i64, Vec<u32>> = HashMap::new();
     for v in (0..costs.len()).filter(|v| costs[*v].is_some()) {
-        let segment = &segments[v / 2];
-        let tail = if v % 2 == 0 { segment.tail } else { segment.head };
-        leaving.entry(tail).or_default().push(v as u32);
+        leaving.entry(ends(segments, v).0).or_default().push(v as u32);
     }
-    let (mut first, mut turns) = (vec![0], Vec::new());
+    let bearings: Vec<u32> = (0..costs.len()).map(|v| vertex_bearing(segments, v)).collect();
+    let way_of = |v: u32| map.ways[segments[v as usize / 2].way as usize].id;
+    let (mut first, mut turns, mut penalties) = (vec![0], Vec::new(), Vec::new());
     for v in 0..costs.len() {
-        let segment = &segments[v / 2];
-        let head = if v % 2 == 0 { segment.head } else { segment.tail };
-        if let (Some(_), Some(list)) = (costs[v], leaving.get(&head)) {
+        let node = ends(segments, v).1;
+        if let (Some(_), Some(list)) = (costs[v], leaving.get(&node)) {
             let back = v as u32 ^ 1;
             let exits = list.iter().filter(|e| **e != back).count();
-            turns.extend(list.iter().filter(|e| exits == 0 || **e != back));
+            let closed = map.closed.contains(&node);
+            let signal = if map.signals.contains(&node) { settings.signal } else { 0 };
+            let here = rules.get(&node).map_or(&[][..], Vec::as_slice);
+            for e in list {
+                let open = if *e == back { exits == 0 || closed } else { !closed };
+                if !open || here.iter().any(|rule| forbids(rule, way_of(v as u32), way_of(*e), *e == back)) {
+                    continue;
+                }
+                let turn = if *e == back {
+                    settings.u_turn
+                } else if exits >= 2 {
+                    settings.penalties[modifier(bearings[v], bearings[*e as usize])]
+                } else {
+                    0
+                };
+                turns.push(*e);
+                penalties.push((turn + signal) as u32);
+            }
         }
         first.push(turns.len() as u32);
     }
-    (first, turns)
+    (first, turns, penalties)
+}
+
+/// The nodes where a vertex begins and ends.
+fn ends(segments: &[Segment], v: usize) -> (i64, i64) {
+    let segment = &segments[v / 2];
+    if v % 2 == 0 { (segment.tail, segment.head) } else { (segment.head, segment.tail) }
+}
+
+fn vertex_bearing(segments: &[Segment], v: usize) -> u32 {
+    let segment = &segments[v / 2];
+    if v % 2 == 0 { bearing(segment.from, segment.to) } else { bearing(segment.to, segment.from) }
 }
 
 // ---- routes ----
@@ -379,7 +614,7 @@ impl Labels {
         for turn in network.first[v as usize]..network.first[v as usize + 1] {
             let e = network.turns[turn as usize];
             if let Some(cost) = network.costs[e as usize] {
-                let penalty = if e == v ^ 1 { network.u_turn } else { 0 };
+                let penalty = u64::from(network.penalties[turn as usize]);
                 self.offer(e, plus(paid, plus((penalty, 0), cost)), v);
             }
         }
@@ -440,38 +675,102 @@ fn answer_lines(network: &Network) {
 }
 
 fn reply(network: &Network, labels: &mut Labels, line: &[u8]) -> String {
-    let Some((from, to)) = request(line) else {
+    let line = if line.len() > 8192 { None } else { std::str::from_utf8(line).ok() };
+    let Some(target) = line.and_then(|line| line.strip_prefix("GET ")) else {
         return String::from("{\"code\":\"BadRequest\"}");
     };
-    let (Some(first), Some(last)) = (snap(network, from), snap(network, to)) else {
-        return String::from("{\"code\":\"NoSegment\",\"data_version\":\"0\",\"message\":\"coordinate 0\"}");
+    let points = match request(target) {
+        Ok(points) => points,
+        Err((code, message)) => return format!("{{\"code\":\"{code}\",\"message\":{}}}", quoted(&message)),
     };
-    let Some(cost) = least_route(network, labels, first, last) else {
-        return String::from("{\"code\":\"NoRoute\",\"data_version\":\"0\",\"message\":\"leg 0\"}");
-    };
-    let (metres, seconds) = (tenths(cost.1), tenths(cost.0));
-    let totals = format!("\"distance\":{metres},\"duration\":{seconds},\"weight\":{seconds}");
-    format!(
-        "{{\"code\":\"Ok\",\"data_version\":\"0\",\"routes\":[{{{totals},\"weight_name\":\"duration\",\"legs\":[{{{totals},\"summary\":\"\",\"steps\":[]}}]}}],\"waypoints\":[{},{}]}}",
-        waypoint(network, from, first),
-        waypoint(network, to, last)
-    )
-}
-
-fn request(line: &[u8]) -> Option<(Point, Point)> {
-    if line.len() > 8192 {
-        return None;
+    match route(network, labels, &points) {
+        Ok(text) => text,
+        Err((code, message)) => format!("{{\"code\":\"{code}\",\"data_version\":\"0\",\"message\":\"{message}\"}}"),
     }
-    let pair = line.strip_prefix(b"GET /route/v1/car/")?.strip_suffix(b"?overview=false")?;
-    let at = pair.iter().position(|b| *b == b';')?;
-    Some((coordinate(&pair[..at])?, coordinate(&pair[at + 1..])?))
 }
 
-fn coordinate(text: &[u8]) -> Option<Point> {
-    let at = text.iter().position(|b| *b == b',')?;
-    let (lon, lat) = (microdegrees(&text[..at])?, microdegrees(&text[at + 1..])?);
-    let on_earth = lon.abs() <= 180_000_000 && lat.abs() <= 90_000_000;
-    on_earth.then_some(Point { lon: lon as i32, lat: lat as i32 })
+type Refusal = (&'static str, String);
+
+fn route(network: &Network, labels: &mut Labels, points: &[Point]) -> Result<String, Refusal> {
+    let mut places = Vec::new();
+    for (number, point) in points.iter().enumerate() {
+        places.push(snap(network, *point).ok_or_else(|| ("NoSegment", format!("coordinate {number}")))?);
+    }
+    let mut legs = Vec::new();
+    for (number, pair) in places.windows(2).enumerate() {
+        let cost = least_route(network, labels, pair[0], pair[1]);
+        legs.push(cost.ok_or_else(|| ("NoRoute", format!("leg {number}")))?);
+    }
+    let whole = legs.iter().fold((0, 0), |sum, leg| plus(sum, *leg));
+    let legs: Vec<String> = legs.iter().map(|leg| format!("{{{},\"summary\":\"\",\"steps\":[]}}", totals(*leg))).collect();
+    let waypoints: Vec<String> = points.iter().zip(&places).map(|(point, place)| waypoint(network, *point, *place)).collect();
+    Ok(format!(
+        "{{\"code\":\"Ok\",\"data_version\":\"0\",\"routes\":[{{{},\"weight_name\":\"duration\",\"legs\":[{}]}}],\"waypoints\":[{}]}}",
+        totals(whole),
+        legs.join(","),
+        waypoints.join(",")
+    ))
+}
+
+fn totals((duration, length): Cost) -> String {
+    let (metres, seconds) = (tenths(length), tenths(duration));
+    format!("\"distance\":{metres},\"duration\":{seconds},\"weight\":{seconds}")
+}
+
+/// The coordinates of a target, or its first refusal.
+fn request(target: &str) -> Result<Vec<Point>, Refusal> {
+    let (path, query) = parted(target);
+    let pieces: Vec<&str> = path.strip_prefix('/').unwrap_or("").split('/').collect();
+    if target.contains('%') || pieces.len() != 4 || pieces.contains(&"") {
+        return Err(("InvalidUrl", String::from("path")));
+    }
+    if pieces[0] != "route" {
+        return Err(("InvalidService", format!("service {}", pieces[0])));
+    }
+    if pieces[1] != "v1" {
+        return Err(("InvalidVersion", format!("version {}", pieces[1])));
+    }
+    if pieces[3].ends_with(".flatbuffers") {
+        return Err(("InvalidOptions", String::from("option format")));
+    }
+    let mut coordinates = Vec::new();
+    for (number, text) in pieces[3].split(';').enumerate() {
+        let coordinate = text.split_once(',').and_then(|(lon, lat)| Some((microdegrees(lon.as_bytes())?, microdegrees(lat.as_bytes())?)));
+        coordinates.push(coordinate.ok_or_else(|| ("InvalidQuery", format!("coordinate {number}")))?);
+    }
+    if coordinates.len() < 2 {
+        return Err(("InvalidQuery", format!("{} coordinates", coordinates.len())));
+    }
+    let options: Vec<&str> = if query.is_empty() { Vec::new() } else { query.split('&').collect() };
+    for option in &options {
+        if *option != "overview=false" {
+            return Err(("InvalidOptions", format!("option {}", option.split_once('=').map_or(*option, |(name, _)| name))));
+        }
+    }
+    if options.is_empty() {
+        return Err(("InvalidOptions", String::from("option overview")));
+    }
+    if let Some(number) = coordinates.iter().position(|(lon, lat)| lon.abs() > 180_000_000 || lat.abs() > 90_000_000) {
+        return Err(("InvalidValue", format!("coordinate {number}")));
+    }
+    if coordinates.len() > 500 {
+        return Err(("TooBig", format!("{} coordinates, at most 500", coordinates.len())));
+    }
+    Ok(coordinates.iter().map(|(lon, lat)| Point { lon: *lon as i32, lat: *lat as i32 }).collect())
+}
+
+/// The path and the query: parted at the first `?` with as many `(` as `)` before it.
+fn parted(target: &str) -> (&str, &str) {
+    let mut depth = 0;
+    for (at, byte) in target.bytes().enumerate() {
+        match byte {
+            b'(' => depth += 1,
+            b')' => depth -= 1,
+            b'?' if depth == 0 => return (&target[..at], &target[at + 1..]),
+            _ => (),
+        }
+    }
+    (target, "")
 }
 
 fn waypoint(network: &Network, from: Point, place: Place) -> String {
@@ -504,7 +803,9 @@ fn quoted(text: &str) -> String {
             '\\' => quoted.push_str("\\\\"),
             '\u{8}' => quoted.push_str("\\b"),
             '\u{c}' => quoted.push_str("\\f"),
+            '\n' => quoted.push_str("\\n"),
             '\r' => quoted.push_str("\\r"),
+            '\t' => quoted.push_str("\\t"),
             control if control < ' ' => quoted.push_str(&format!("\\u{:04x}", control as u32)),
             other => quoted.push(other),
         }

@@ -4,8 +4,7 @@
 usage: bench/reading.py [--program FILE] [--settings FILE] [--towns 50,100,200]
                         [--routes N] [--repeats N] [--tangles N] [OPL ..]
 
-For each OPL file, cut to what is read today, and for each generated town of N by N nodes it prints what
-the program and `baseline.rs` take from the start to the first reply (reading and building), for reading
+For each OPL file, and for each generated town of N by N nodes, it prints what the program and `baseline.rs` take from the start to the first reply (reading and building), for reading
 alone (with settings under which no way can be used), in memory, and for N random routes after that, each
 with the ratio of the program to the baseline. Times are processor seconds, the least of the repeats,
 which alternate between the two: other work on the machine disturbs them less than time by the clock.
@@ -13,14 +12,15 @@ What routes take is that of a whole run without its start-up; how much of it is 
 routes that end where they begin.
 
 It also compares the replies of both, byte for byte, on those routes, on lines made to be hard, and on
-small maps made to be hard (tangles); it keeps the lines and the map of a difference, and ends with status
-1 where there is one.
+small maps made to be hard (tangles), and what both print for `check`; it keeps the lines and the map of a
+difference, and ends with status 1 where there is one.
 
 The program is the one named, or that of the environment variable ROAD_ROUTER, or else it is proved and
 built by `rt run` in crates/road_router. It needs rustc for the baseline, and GNU time. An extract is made
 by `osmium cat -f opl map.osm.pbf -o map.opl`.
 """
 import argparse
+from collections import Counter
 import math
 import os
 import random
@@ -41,33 +41,19 @@ FRONT, BACK = "GET /route/v1/car/", "?overview=false"
 
 # ---- maps ----
 
-def cut(source, target):
-    """Copies OPL text without the tags that hold a `%`, since escapes are not read yet."""
-    dropped = 0
-    with open(source, encoding="utf-8", newline="\n") as lines, open(target, "w", encoding="utf-8", newline="\n") as out:
-        for line in lines:
-            fields = line.rstrip("\n").split(" ")
-            for place, field in enumerate(fields):
-                if place > 0 and field.startswith("T") and "%" in field:
-                    tags = field[1:].split(",")
-                    kept = [tag for tag in tags if "%" not in tag]
-                    dropped += len(tags) - len(kept)
-                    fields[place] = "T" + ",".join(kept)
-            out.write(" ".join(fields) + "\n")
-    return dropped
-
-
 def town(size, target):
     """Writes a town: a grid of size by size nodes with scattered locations, a street along each row and
     an avenue along each column; each sixth street is bigger, and of the avenues each fourth is one-way
-    up and each fourth one-way down."""
+    up and each fourth one-way down. Some crossings have signals, a few are closed, and at some a turn is
+    forbidden."""
     chance = random.Random(size)
     with open(target, "w", encoding="ascii", newline="\n") as out:
         for row in range(size):
             for column in range(size):
                 lon = 13.0 + column * 0.0011 + chance.randint(-2000, 2000) * 1e-7
                 lat = 53.4 + row * 0.0008 + chance.randint(-2000, 2000) * 1e-7
-                tags = "highway=crossing" if chance.random() < 0.05 else ""
+                kinds = ["highway=crossing", "highway=traffic_signals", "barrier=bollard"]
+                tags = chance.choices(["", *kinds], [900, 50, 40, 10])[0]
                 out.write(f"n{row * size + column + 1} v1 dV T{tags} x{lon:.7f} y{lat:.7f}\n")
         for row in range(size):
             kind = "secondary" if row % 6 == 0 else "residential"
@@ -76,30 +62,69 @@ def town(size, target):
         for column in range(size):
             way = {1: ",oneway=yes", 3: ",oneway=-1"}.get(column % 4, "")
             ids = ",".join(f"n{row * size + column + 1}" for row in range(size))
-            out.write(f"w{size + column + 1} v1 dV Thighway=residential,name=Avenue-{column + 1}{way} N{ids}\n")
+            out.write(f"w{size + column + 1} v1 dV Thighway=residential,name=Avenue%20%{column + 1}{way} N{ids}\n")
+        for number in range(size * size // 20):
+            row, column = chance.randrange(size), chance.randrange(size)
+            kind = chance.choice(["no_left_turn", "no_right_turn", "no_straight_on", "only_straight_on"])
+            ways = chance.sample([row + 1, size + column + 1], 2)
+            members = f"w{ways[0]}@from,n{row * size + column + 1}@via,w{ways[1]}@to"
+            out.write(f"r{number + 1} v1 dV Ttype=restriction,restriction={kind} M{members}\n")
+
+
+NODE_TAGS = ["Tbarrier=bollard", "Tbarrier=wall,highway=traffic_signals", "Thighway=traffic_signals", "Thighway=traffic%5f%signals"]
+
+KINDS = ["no_left_turn", "no_right_turn", "no_straight_on", "no_u_turn", "only_left_turn", "only_right_turn",
+         "only_straight_on", "no_entry", "no_exit"]
+
+
+def restriction(chance, id, ways):
+    """A turn restriction, often at a node where two ways meet, sometimes with a fault."""
+    meeting = [(a, n, b) for a in ways for n in ways[a] for b in ways if n in ways[b]]
+    if chance.random() < 0.8 and meeting:
+        first, via, last = chance.choice(meeting)
+    else:
+        first, via, last = chance.choice(list(ways)), chance.randrange(-50, 200), chance.choice(list(ways))
+    members = [f"w{first}@from", f"n{via}@via", f"w{last}@to"]
+    if chance.random() < 0.15:
+        members.append(chance.choice([f"w{last}@from", f"w{first}@to", f"n{via}@via", f"n{via}@from", f"w{first}@via", "w1@", "n1@location_hint"]))
+    if chance.random() < 0.05:
+        members.pop(chance.randrange(len(members)))
+    chance.shuffle(members)
+    kind = chance.choice(KINDS + ["no_parking"] if chance.random() < 0.3 else ["no_u_turn", "only_straight_on", "no_left_turn"])
+    tags = ["type=restriction", f"restriction={kind}"]
+    if chance.random() < 0.15:
+        tags.append("except=" + chance.choice(["motorcar", "bus;motorcar", "psv;%20%motorcar%9%", "bicycle", ""]))
+    if chance.random() < 0.05:
+        tags[0] = "type=route"
+    chance.shuffle(tags)
+    fields = ["T" + ",".join(tags), "M" + ",".join(members), chance.choice(["dV", "dV", "dV", "dD"])]
+    chance.shuffle(fields)
+    return f"r{id} " + " ".join(fields)
 
 
 def tangle(seed, target):
     """Writes a small map that is hard to get right, and gives the locations of its nodes: ways by odd ids,
     dead ends, loops, one-way streets of all forms, nodes that are missing, deleted, repeated or have no
-    location, names that JSON escapes, fields in any order."""
+    location, closed nodes, signals, ways without access, restrictions of all kinds with and without faults,
+    names that JSON escapes, escapes of OPL, fields in any order."""
     chance = random.Random(seed)
     middle = chance.choice([(0, 0), (13, 53.5), (-70.5, -33.25), (179.995, 0), (20, 89.99), (0, -89.995)])
     ids = chance.sample(range(-50, 200), 40)
-    points, lines = [], ["# a tangle", "", " \t", "c1 k0", "r1 Ttype=restriction Mn1@via"]
+    points, lines = [], ["# a tangle", "", " \t", "c1 k0", "r-1 Ttype=restriction Mn1@via"]
     for id in ids:
         lon = min(180, middle[0] + chance.uniform(-0.01, 0.01))
         lat = max(-90, min(90, middle[1] + chance.uniform(-0.01, 0.01)))
         points.append((lon, lat))
         digits = chance.choice([2, 3, 4, 6, 7, 9])
-        fields = [f"x{lon:.{digits}f}", f"y{lat:.{digits}f}", chance.choice(["T", "Tbarrier=gate,ref=7"]), "v3"]
+        fields = [f"x{lon:.{digits}f}", f"y{lat:.{digits}f}", chance.choice(["T", "Tbarrier=gate,ref=7", *NODE_TAGS]), "v3"]
         fields.append("dD" if chance.random() < 0.05 else "dV")
         if chance.random() < 0.1:
             fields[chance.choice([0, 1])] = chance.choice(["x", "y"])
             fields = fields[2:] if fields[0][0] == fields[1][0] else fields
         chance.shuffle(fields)
         lines.append(chance.choice(["", "", " "]) + f"n{id}" + chance.choice([" ", "\t", "  "]) + " ".join(fields))
-    names = ["A", "Gr\u00fcne-Gasse", 'say-"so"', "back\\slash", "bell\x07\x08\x0c\x1f\x7f", "a=b", "\u4e2d\u6587-\U0001f6b2", "", "c\rr"]
+    names = ["A", "Gr\u00fcne-Gasse", "%20%%4e2d%%6587%%1F6B2%%25%", "%a%%9%x%d%", "%2c%%3d%%40%", 'say-"so"', "back\\slash", "bell\x07\x08\x0c\x1f\x7f", "a=b", "\u4e2d\u6587-\U0001f6b2", "", "c\rr"]
+    ways = {}
     for id in chance.sample(range(-30, 90), 30):
         tags = ["highway=" + chance.choice(["residential", "motorway", "service", "primary", "footway", "living_street"])]
         if chance.random() < 0.6:
@@ -108,14 +133,18 @@ def tangle(seed, target):
             tags.append("junction=roundabout")
         if chance.random() < 0.8:
             tags.append("name=" + chance.choice(names))
+        if chance.random() < 0.3:
+            tags.append(chance.choice(["access", "vehicle", "motorcar", "%61%ccess"]) + "=" + chance.choice(["no", "yes", "private", ""]))
         chance.shuffle(tags)
-        tags += chance.choice([[], ["name=second", "oneway=yes", "highway=motorway"]])
+        tags += chance.choice([[], ["name=second", "oneway=yes", "highway=motorway", "access=no"]])
         refs = [chance.choice(ids + [777]) for _ in range(chance.choice([0, 1, 2, 2, 3, 4, 6]))]
         refs = [ref for ref in refs for _ in range(1 if chance.random() < 0.9 else 2)]
+        ways[id] = refs
         entries = ",".join(f"n{ref}" + chance.choice(["", "", "x1.5y2"]) for ref in refs)
         fields = ["T" + ",".join(tags), "N" + entries, "uSomeone", chance.choice(["dV", "dV", "dV", "dD"])]
         chance.shuffle(fields)
         lines.append(f"w{id} " + " ".join(fields) + chance.choice(["", " "]))
+    lines += [restriction(chance, id, ways) for id in range(30)]
     with open(target, "w", encoding="utf-8", newline="\n") as out:
         out.write("".join(line + chance.choice(["\n", "\n", "\r\n"]) for line in lines))
     return points
@@ -152,6 +181,17 @@ def random_routes(points, count, seed):
     chance = random.Random(seed)
     pairs = [(near(chance, chance.choice(points), 0.002), near(chance, chance.choice(points), 0.002)) for _ in range(count)]
     return [f"{FRONT}{a};{b}{BACK}" for a, b in pairs]
+
+
+def long_routes(points, count, seed):
+    """Routes through 3 to 12 places, not far from one another."""
+    chance = random.Random(seed)
+    lines = []
+    for _ in range(count):
+        middle = chance.choice(points)
+        places = [near(chance, middle, 0.01) for _ in range(chance.randint(3, 12))]
+        lines.append(FRONT + ";".join(places) + BACK)
+    return lines
 
 
 def standing_routes(points, count, seed):
@@ -191,7 +231,22 @@ def hard_lines(points, count, seed):
         "\r",
         f"{FRONT}13.0,53.5;13.01,53.51{BACK}\r",
     ]
-    return lines
+    return lines + REFUSED
+
+
+# Targets that are refused, or nearly so.
+REFUSED = [f"GET {target}" for target in (
+    "", "/", "route/v1/car/0,0;0,0", "/route/v1/car/0,0;0,0/", "/route//car/0,0;0,0", "/route/v1/car", "/%72oute/v1/car/0,0;0,0",
+    "/table/v1/car/0,0", "/rou\"te\\/v1/car/0,0", "/route/v2/car/x", "/route/v1/car/0,0;0,0.flatbuffers", "/route/v1/c a r/0,0;x,0",
+    "/route/v1/car/0,0;0,0.json?overview=false", "/route/v1/car/polyline(abc)?overview=false", "/route/v1/car/polyline6(a?b;0,0)?overview=false",
+    "/route/v1/car/0,0", "/route/v1/car/0,0?overview=false", "/route/v1/car/;0,0", "/route/v1/car/0,0;0,0;?overview=false",
+    "/route/v1/car/0,0;0,0", "/route/v1/car/0,0;0,0?", "/route/v1/car/0,0;0,0?&", "/route/v1/car/0,0;0,0?overview=false&",
+    "/route/v1/car/0,0;0,0?overview=false&overview=false", "/route/v1/car/0,0;0,0?overview=full", "/route/v1/car/0,0;0,0?overview",
+    "/route/v1/car/0,0;0,0?overview=false&b\u00e9=1&c=2", "/route/v1/car/0,0;0,0?=&overview=false", "/route/v1/car/0,0;0,0?overview=false=",
+    "/route/v1/car/0,0;0,0?overview=false?overview=false", "/route/v1/c(a/0,0;0,0?overview=false)/0,0;1,1?overview=false",
+    "/route/v1/c)r/0,0;0,0?overview=false", "/route/v1/car/200,0;0,0?foo=1", "/route/v1/car/0,0;0,-91;181,0?overview=false",
+    "/route/v1/bike/0,0;0,0?overview=false",
+)] + ["GET\t/route/v1/car/0,0;0,0?overview=false", "get /route", "POST /", "GET /" + "a" * 8187, "GET /" + "a" * 8188]
 
 
 # ---- runs ----
@@ -231,7 +286,7 @@ def peak(command, lines, *words):
 
 def differences(lines, outputs, keep):
     """How many replies differ. The first one is shown, and the lines are kept in a file."""
-    asked = [line for line in lines if line not in ("", "\r")]
+    asked = [line for line in lines if line.strip("\r")]
     replies = [output.split(b"\n")[:-1] for output in outputs]
     wrong = sum(a != b for a, b in zip(*replies)) + abs(len(replies[0]) - len(replies[1]))
     if wrong == 0:
@@ -246,10 +301,23 @@ def differences(lines, outputs, keep):
     return wrong
 
 
+def checked(command, path, settings):
+    return subprocess.run([command, "check", path, settings], capture_output=True, text=True, check=True).stdout
+
+
+def check_differs(both, path, settings):
+    """Whether both print other counts, as a number."""
+    counts = [checked(command, path, settings) for command in both]
+    if counts[0] == counts[1]:
+        return 0
+    print(f"  CHECK DIFFERS for {path}: {counts}")
+    return 1
+
+
 def codes_of(replies):
     """How many replies there are of each code."""
-    marks = {code: f'{{"code":"{code}"'.encode() for code in ("Ok", "NoRoute", "NoSegment", "BadRequest")}
-    return ", ".join(f"{replies.count(mark)} {code}" for code, mark in marks.items())
+    counts = Counter(re.findall(rb'^\{"code":"(\w+)"', replies, re.M))
+    return ", ".join(f"{count} {code.decode()}" for code, count in counts.most_common())
 
 
 def figure(number):
@@ -269,9 +337,10 @@ def measure(name, path, both, arguments, scratch):
         out.write(UNUSED)
     settings, repeats = arguments.settings, arguments.repeats
     megabytes = os.path.getsize(path) / 1e6
-    count = subprocess.run([both[1], "count", path, settings], capture_output=True, text=True, check=True).stdout
-    segments, turns = map(int, count.split())
-    print(f"{name}: {megabytes:.2f} MB, {segments} segments, {turns} turns")
+    wrong = check_differs(both, path, settings)
+    counts = dict(line.split() for line in checked(both[1], path, settings).splitlines())
+    segments = int(counts["segments"])
+    print(f"{name}: {megabytes:.2f} MB; " + ", ".join(f"{counts[key]} {key}" for key in ("segments", "turns", "restrictions", "ignored")))
     print(f"  {'':<30} {'program':>10} {'baseline':>10} {'ratio':>7}")
     start, _ = least(both, repeats, [], path, settings)
     reading, _ = least(both, repeats, [], path, unused)
@@ -296,10 +365,10 @@ def measure(name, path, both, arguments, scratch):
     row("  and searching, about", *[max(t - s, 1e-6) for t, s in zip(spent, snapping)], "s")
     row("routes a second", *[len(routes) / t for t in spent], "1/s", True)
     row("peak memory with routes", *[peak(command, routes, path, settings) for command in both], "MB")
-    hard = hard_lines(points, max(1, arguments.routes // 10), 2)
+    hard = hard_lines(points, max(1, arguments.routes // 10), 2) + long_routes(points, max(1, arguments.routes // 10), 4)
     _, hard_outputs = least(both, 1, hard, path, settings)
     keep = os.path.join(tempfile.gettempdir(), "reading-differs-" + re.sub(r"\W+", "-", name))
-    wrong = differences(routes, outputs, keep + ".txt") + differences(hard, hard_outputs, keep + "-hard.txt")
+    wrong += differences(routes, outputs, keep + ".txt") + differences(hard, hard_outputs, keep + "-hard.txt")
     if wrong == 0:
         print("  all replies alike, byte for byte: " + codes_of(outputs[0] + hard_outputs[0]))
     else:
@@ -313,10 +382,10 @@ def compare_tangles(count, both, settings, scratch):
     path, wrong, told = os.path.join(scratch, "tangle.opl"), 0, b""
     for seed in range(count):
         points = tangle(seed, path)
-        lines = random_routes(points, 40, seed) + standing_routes(points, 10, seed) + hard_lines(points, 10, seed)
+        lines = random_routes(points, 40, seed) + standing_routes(points, 10, seed) + hard_lines(points, 10, seed) + long_routes(points, 10, seed)
         _, outputs = least(both, 1, lines, path, settings)
         keep = os.path.join(tempfile.gettempdir(), f"reading-differs-tangle-{seed}")
-        here = differences(lines, outputs, keep + ".txt")
+        here = differences(lines, outputs, keep + ".txt") + check_differs(both, path, settings)
         if here > 0:
             shutil.copy(path, keep + ".opl")
         wrong += here
@@ -351,11 +420,9 @@ def main():
         subprocess.run(["rustc", "--edition", "2024", "-C", "opt-level=3", "-o", baseline, source], check=True)
         both = [os.path.abspath(program), baseline]
         wrong += compare_tangles(arguments.tangles, both, arguments.settings, scratch)
-        path = os.path.join(scratch, "map.opl")
         for source in arguments.maps:
-            dropped = cut(source, path)
-            name = f"{os.path.basename(source)} without {dropped} tags that hold %"
-            wrong += measure(name, path, both, arguments, scratch)
+            wrong += measure(os.path.basename(source), source, both, arguments, scratch)
+        path = os.path.join(scratch, "map.opl")
         for size in filter(None, arguments.towns.split(",")):
             town(int(size), path)
             wrong += measure(f"town {size} by {size}", path, both, arguments, scratch)
