@@ -1,4 +1,3 @@
-pub mod Earth
 pub mod Entries
 pub mod Escaping
 pub mod FieldLaws

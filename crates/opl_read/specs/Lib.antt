@@ -6,5 +6,4 @@ pub mod LineParts
 pub mod LineText
 pub mod Members
 pub mod Objects
-pub mod Points
 pub mod Seen

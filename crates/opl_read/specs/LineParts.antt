@@ -11,7 +11,7 @@ use Rattle.opl_read.specs.Content.{tags_of, refs_of, coordinate_of, deleted_of}
 use Rattle.opl_read.specs.Cutting.{has}
 use Rattle.opl_read.specs.Faults.{mapped}
 use Rattle.opl_read.specs.Members.{members_of}
-use Rattle.opl_read.specs.Points.{point_at}
+use Rattle.road_base.specs.Points.{point_at}
 use Rattle.opl_read.specs.declared.line_faults.FaultKind.{FaultKind}
 use Rattle.opl_read.specs.declared.line_faults.FaultKind.TheVariants.{BadField}
 

@@ -10,7 +10,6 @@ mod line_parts;
 mod line_text;
 mod lines;
 mod members;
-mod points;
 mod reading;
 mod seen_ids;
 

@@ -13,7 +13,7 @@ pub enum FaultKind {
     NotUtf8,
     /// The first field names no kind of object.
     BadKind,
-    /// An id or a coordinate isn't of its form or is out of range.
+    /// An id isn't of its form or out of range, or a coordinate is out of range.
     BadNumber,
     /// A `%` in a key, a value or a role is no part of an escape.
     BadEscape,

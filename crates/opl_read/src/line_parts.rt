@@ -9,7 +9,6 @@ use crate::content::{coordinate_of, deleted_of, refs_of, tags_of};
 use crate::cutting::first_field;
 use crate::line_faults::{FaultKind, LineError};
 use crate::members::members_of;
-use crate::points::point_at;
 use road_base::{Ids, Kind, Members, Node, Object, Point, Relation, Tags, Way};
 use std::alloc::Global;
 use std::marker::Model;
@@ -189,7 +188,7 @@ fn location(lon: Option<i64>, lat: Option<i64>) -> Option<Point>
     ensures { result ≡ location_of lon lat }
 {
     match (lon, lat) {
-        (Some(lon), Some(lat)) => point_at(lon, lat),
+        (Some(lon), Some(lat)) => Point::of(lon, lat),
         _ => None,
     }
 }

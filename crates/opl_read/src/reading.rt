@@ -24,8 +24,8 @@ use std::alloc::Global;
 /// hexadecimal digits in either case: a blank is `%20%`.
 ///
 /// The first faulty line is told, counted from 1, and what its first fault from the left is: `NotUtf8`
-/// before all others, `BadKind` for a first field of another letter, `BadNumber` for an id or a coordinate
-/// out of its form or range, `BadEscape` for a `%` in a tag or a role that is no part of an escape,
+/// before all others, `BadKind` for a first field of another letter, `BadNumber` for an id out of its form
+/// or range or a coordinate out of range, `BadEscape` for a `%` in a tag or a role that is no part of an escape,
 /// `BadField` for a field or an entry that isn't of its form, doesn't belong to the object or stands twice,
 /// and `Duplicate`, the last, for a second object of one kind and id. A tag without `=` and a member without
 /// its letter or `@` are `BadField`, whatever else is wrong with them. Want of memory may come at any time.

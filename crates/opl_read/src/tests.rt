@@ -5,12 +5,12 @@ use crate::{FaultKind, ReadFault, read};
 use road_base::{Kind, Object, Point};
 
 const TOWN: &[u8] =
-    b"# a town\nn1 v3 dV c7 t2020-01-01T00:00:00Z i1 uA T x0 y0\r\n\tn2 y0.001   x0 \nn3 x0.001 y0.001 Thighway=traffic_signals,name=a=b,name=c\nc5 any\n\nw10 Nn1,n2x0y0.001,n3 Thighway=residential\nn4 dD Ta=b\nn4 x-1.0000005 y";
+    b"# a town\nn1 v3 dV c7 t2020-01-01T00:00:00Z i1 uA T x0 y0\r\n\tn2 y0.001   x0 \nn3 x0.001 y0.001 Thighway=traffic_signals,name=a=b,name=c\nc5 any\n\nw10 Nn1,n2x0y0.001,n3 Thighway=residential\nn4 dD Ta=b\nn4 x-1.0000005 y\nn5 x-1.0000005 y0";
 
 #[test]
-fn a_town_of_four_nodes_and_a_way(rt: HostRuntime) {
+fn a_town_of_five_nodes_and_a_way(rt: HostRuntime) {
     let objects = read(rt.alloc(), TOWN).ok().expect(&rt, "a good text");
-    assert_eq!(rt; objects.len(), 5);
+    assert_eq!(rt; objects.len(), 6);
     match &objects[2] {
         Object::Node(node) => {
             assert_eq!(rt; node.id, 3);
@@ -33,6 +33,10 @@ fn a_town_of_four_nodes_and_a_way(rt: HostRuntime) {
             assert_eq!(rt; node.id, 4);
             assert!(rt; node.point == None);
         }
+        _ => panic!(rt; "a node"),
+    }
+    match &objects[5] {
+        Object::Node(node) => assert!(rt; node.point == Point::of(-1_000_001, 0)),
         _ => panic!(rt; "a node"),
     }
 }

@@ -1,3 +1,4 @@
 pub mod Earth
+pub mod Points
 pub mod StatusCode
 pub mod TagValue

@@ -26,6 +26,7 @@ impl Ids {
         Ids { inner }
     }
 
+    /// The ids, in their order.
     pub fn as_slice(&self) -> &[i64]
         ensures { result.now ≡ self.now }
     {

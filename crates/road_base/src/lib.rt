@@ -6,6 +6,7 @@
 mod coordinates;
 mod directions;
 mod id_lists;
+mod on_earth;
 mod osm_objects;
 mod program_status;
 mod segments;

@@ -48,6 +48,7 @@ impl Members {
         Members { inner }
     }
 
+    /// The members, in their order.
     pub fn as_slice(&self) -> &[Member]
         ensures { result.now ≡ self.now }
     {

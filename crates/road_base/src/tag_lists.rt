@@ -29,6 +29,7 @@ impl Tags {
         Tags { inner }
     }
 
+    /// The keys and values, in their order.
     pub fn as_slice(&self) -> &[(Text, Text)]
         ensures { result.now ≡ self.now }
     {

@@ -1,5 +1,4 @@
 pub mod Cuts
-pub mod Earth
 pub mod Marks
 pub mod Plain
 pub mod Degrees

@@ -5,7 +5,7 @@ use Rattle.std.specs.List.{before_first, after_first, slice_split}
 use Rattle.std.specs.Str.{byte}
 use Rattle.decimal_text.specs.Decimal.{microdegrees_of}
 use Rattle.road_base.specs.declared.coordinates.Point.{Point}
-use Rattle.url_read.specs.Points.{point_at}
+use Rattle.road_base.specs.Points.{point_at}
 use Rattle.url_read.specs.Refusals.{bad_coordinate, out_of_range}
 use Rattle.url_read.specs.declared.refusals.Refusal.{Refusal}
 

@@ -1,7 +1,6 @@
 pub mod Coordinates
 pub mod Cutting
 pub mod Options
-pub mod Points
 pub mod Refusals
 pub mod Request
 pub mod Target

@@ -1,7 +1,7 @@
 //! Points of longitudes and latitudes.
 
 ghost use Rattle.std.specs.Prelude.{◌≡◌, Ok, IfOk, IfErr, length};
-ghost use Rattle.url_read.specs.Points.{point_at};
+ghost use Rattle.road_base.specs.Points.{point_at};
 ghost use Rattle.url_read.specs.Coordinates.{points_at};
 ghost use Rattle.url_read.specs.Refusals.{IsFaultOf};
 
@@ -18,7 +18,7 @@ pub(crate) fn points_at(alloc: Global, degrees: &[(i64, i64)]) -> Result<Vec<Poi
 {
     let mut points = Vec::new(alloc);
     for pair in degrees {
-        let Some(point) = point_at(*pair) else {
+        let Some(point) = point_of(*pair) else {
             return Err(RequestFault::Refused(out_of_range(alloc, points.len())?));
         };
         points.push(point)?;
@@ -27,7 +27,7 @@ pub(crate) fn points_at(alloc: Global, degrees: &[(i64, i64)]) -> Result<Vec<Poi
 }
 
 // The point at a longitude and a latitude in whole microdegrees, None where they are not on the Earth.
-fn point_at(degrees: (i64, i64)) -> Option<Point>
+fn point_of(degrees: (i64, i64)) -> Option<Point>
     ensures { result ≡ point_at degrees.0 degrees.1 }
 {
     let (lon, lat) = degrees;

@@ -28,6 +28,7 @@ impl Points {
         Points { inner }
     }
 
+    /// The points, in their order.
     pub fn as_slice(&self) -> &[Point]
         ensures { result.now ≡ self.now }
     {

@@ -1,4 +1,4 @@
-use Rattle.url_read.specs.Points.{point_at}
+use Rattle.road_base.specs.Points.{point_at}
 use Rattle.url_read.proofs.Numbered.{IsFound}
 use Rattle.url_read.proofs.points.points_at.Given as goal
 

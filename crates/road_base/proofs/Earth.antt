@@ -1,4 +1,4 @@
--- `Point::of` is the definition's point.
+-- What bounds and coordinates say of a point is that it is the definition's.
 use Rattle.std.proofs.Common.{◌≡◌, ℤ, pos, negsuc, ◌≤ℤ◌, Bool, true, false, refl, sym, ◌∙◌, ap, ap₂, Option, Some, None, option_map, ◌↔◌}
 use Rattle.std.specs.Prelude.{int_le}
 use Rattle.std.specs.Prelude.{IsSome, IfSome}
@@ -6,7 +6,7 @@ use Rattle.std.proofs.lemmas.Bool.{false≢true}
 use lib.Dec.{T}
 use Rattle.road_base.specs.Earth.{IsOnEarth}
 use Rattle.road_base.specs.declared.coordinates.Point.{Point}
-use Rattle.url_read.specs.Points.{test, at_most, join, on_earth, point_at}
+use Rattle.road_base.specs.Points.{test, at_most, join, on_earth, point_at}
 
 test-is : (b : Bool) (holds : T b) → test b ≡ Some holds
 test-is true holds = refl
@@ -32,7 +32,7 @@ pub point_at-nowhere : (lon lat : ℤ) → ¬ (IsOnEarth lon lat) → None ≡ p
 unfolding point_at
 point_at-nowhere lon lat h = sym (ap (option_map (λ there. record { lon = lon; lat = lat; in_range = there })) (nowhere lon lat (on_earth lon lat) h))
 
--- what `Point::of` ensures is that it gives the definition's point
+-- where the range and the coordinates are right, the point is the definition's
 pub point_at-of : (found : Option Point) (lon lat : ℤ) → (IsSome found ↔ IsOnEarth lon lat) → IfSome found (λ p. (p.lon ≡ lon) × (p.lat ≡ lat)) → found ≡ point_at lon lat
 point_at-of None lon lat range value = point_at-nowhere lon lat (λ there. false≢true (range.1 there))
 point_at-of (Some p) lon lat range value = point_at-point p ∙ ap₂ point_at value.0 value.1
