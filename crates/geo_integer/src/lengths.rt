@@ -108,7 +108,7 @@ pub fn distance(a: Point, b: Point) -> u64
     ensures bound { result < 2 ^ 29 }
 {
     let root = square_root(plane_distance(a, b));
-    (root * 111_195 / 6_553_600_000) as u64
+    root * 111_195 / 6_553_600_000
 }
 
 /// The length of the road segment between two points in decimetres: their distance, but at least 1.

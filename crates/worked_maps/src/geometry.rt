@@ -65,10 +65,17 @@ fn bearings_go_clockwise_from_north(rt: HostRuntime) {
         (-10, 0, 270),
         (-10, 10, 315),
         (-1, 1000, 0),
+        // Between the axes and the diagonals the curve of the approximation decides.
+        (1, 5, 12),
+        (1, 3, 18),
+        (5, -1, 102),
+        (-5, -1, 258),
     ];
     for (lon, lat, want) in cases {
         assert_eq!(rt; bearing(origin, point(lon, lat)), want, "at {lon}, {lat}");
     }
+    // At 60 degrees twice the difference of longitude is as far as one of latitude.
+    assert_eq!(rt; bearing(point(0, 60_000_000), point(20, 60_000_010)), 45);
 }
 
 #[test]
@@ -77,11 +84,17 @@ fn turns_bend_by_the_change_of_bearing(rt: HostRuntime) {
         (90, 90, Modifier::Straight),
         (350, 10, Modifier::Straight),
         (0, 21, Modifier::SlightRight),
-        (0, 90, Modifier::Right),
+        (0, 40, Modifier::SlightRight),
+        (0, 41, Modifier::Right),
+        (0, 120, Modifier::Right),
         (0, 121, Modifier::SharpRight),
+        (0, 179, Modifier::SharpRight),
         (10, 190, Modifier::Uturn),
         (0, 181, Modifier::SharpLeft),
-        (0, 270, Modifier::Left),
+        (0, 239, Modifier::SharpLeft),
+        (0, 240, Modifier::Left),
+        (0, 319, Modifier::Left),
+        (0, 320, Modifier::SlightLeft),
         (0, 339, Modifier::SlightLeft),
         (0, 340, Modifier::Straight),
     ];

@@ -4,7 +4,7 @@ use road_base::{Ids, Kind, Member, Members, Node, Object, Point, Relation, Tags,
 use std::alloc::{AllocError, Global};
 use way_profile::Profile;
 
-// The profile of these settings.
+/// The profile of these settings.
 pub fn profile_of(alloc: Global, settings: &str) -> Result<Profile, AllocError> {
     match Profile::read(alloc, settings.as_bytes()) {
         Ok(profile) => Ok(profile),
@@ -20,7 +20,7 @@ fn tags(alloc: Global, pairs: &[(&str, &str)]) -> Result<Tags, AllocError> {
     Ok(Tags::of(inner))
 }
 
-// Adds a node with tags.
+/// Adds a node with tags.
 pub fn add_node(
     alloc: Global,
     objects: &mut Vec<Object>,
@@ -37,7 +37,7 @@ pub fn add_node(
     Ok(())
 }
 
-// Adds nodes of these ids, longitudes and latitudes.
+/// Adds nodes of these ids, longitudes and latitudes.
 pub fn add_nodes(
     alloc: Global,
     objects: &mut Vec<Object>,
@@ -49,7 +49,7 @@ pub fn add_nodes(
     Ok(())
 }
 
-// Adds a way through these nodes.
+/// Adds a way through these nodes.
 pub fn add_way(
     alloc: Global,
     objects: &mut Vec<Object>,
@@ -84,7 +84,7 @@ fn add_members(
     Ok(())
 }
 
-// Adds a turn restriction from ways over a node to ways; `excepted` is its `except`.
+/// Adds a turn restriction from ways over a node to ways; `excepted` is its `except`.
 pub fn add_restriction(
     alloc: Global,
     objects: &mut Vec<Object>,
@@ -112,7 +112,7 @@ pub fn add_restriction(
     Ok(())
 }
 
-// A street that goes north from node 1 to node 2, which has these tags, and east from there to node 3.
+/// A street that goes north from node 1 to node 2, which has these tags, and east from there to node 3.
 pub fn bend(alloc: Global, at_bend: &[(&str, &str)]) -> Result<Vec<Object>, AllocError> {
     let mut objects = Vec::new(alloc);
     add_nodes(alloc, &mut objects, &[(1, 0, 0)])?;
@@ -123,9 +123,9 @@ pub fn bend(alloc: Global, at_bend: &[(&str, &str)]) -> Result<Vec<Object>, Allo
     Ok(objects)
 }
 
-// A crossing at node 5, which has these tags: way 1 comes to it from node 1 in the south, way 2 leads to
-// node 2 in the east, way 3 to node 3 in the north, and way 4 comes from node 4 in the west. A traffic
-// signal stands at node 4.
+/// A crossing at node 5, which has these tags: way 1 comes to it from node 1 in the south, way 2 leads to
+/// node 2 in the east, way 3 to node 3 in the north, and way 4 comes from node 4 in the west. A traffic
+/// signal stands at node 4.
 pub fn crossing(alloc: Global, at_middle: &[(&str, &str)]) -> Result<Vec<Object>, AllocError> {
     let mut objects = Vec::new(alloc);
     let nodes = [(1, 1000, 0), (2, 2000, 1000), (3, 1000, 2000)];
