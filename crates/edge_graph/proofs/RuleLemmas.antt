@@ -1,18 +1,16 @@
 -- Which rules apply, and the chains of those at a node.
 use Rattle.std.proofs.Common.{◌≡◌, ℕ, ℤ, zero, suc, ◌+◌, ◌<◌, ◌≤◌, List, [], ◌∷◌, ◌++◌, length, drop, take, set, map, filter, Option, Some, None, Bool, true, false, not, cond, arith, refl, sym, ap, subst, ◌∙◌, ◌&&◌, ◌||◌, add-one}
-use Rattle.std.specs.Prelude.{option_map, unwrap_or, nat_lt, count_by, is_none}
+use Rattle.std.specs.Prelude.{option_map, unwrap_or, nat_lt, count_by}
 use Rattle.std.specs.HashMap.{get, Updates}
 use Rattle.std.specs.HashSet.{contains}
-use Rattle.std.specs.List.{cons_option, enumerate_from, filter_map, items_where_true, list_all, list_any, slice_get, zip}
+use Rattle.std.specs.List.{enumerate_from, items_where_true, list_all, list_any, slice_get, zip}
 use Rattle.std.specs.Map.{lookup}
 use Rattle.std.specs.Ordering.{int_eq}
 use Rattle.std.proofs.lemmas.Bool.Decides.{Decides-int_eq, Decides-ltb, nat_tests}
 use Rattle.std.proofs.lemmas.Grind.{common_steps}
 use Rattle.std.proofs.lemmas.List.{map-append}
-use Rattle.std.proofs.lemmas.List.Sums.{length-filter}
 use Rattle.std.proofs.lemmas.Option.{same_Some, slice_get_within}
-use Rattle.road_base.specs.declared.osm_objects.Object.{Object}
-use Rattle.turn_rules.specs.Rules.{Rule, restriction_in, rule_of, rules_of}
+use Rattle.turn_rules.specs.Rules.{Rule}
 use Rattle.edge_graph.specs.Chains.{IsChain}
 use Rattle.edge_graph.specs.Restrictions.{applies, meets}
 use Rattle.edge_graph.specs.RuleChains.{AreMet, FirstMap, NodeSet, PairSet, first_in, has_via, pair_eq, rules_at}
@@ -302,31 +300,3 @@ module _ (rules : List Rule) (flags : List Bool) (as_many : length flags ≡ len
     rules-add first' old on within was updates node =
         chain-add (λ (e : Rule × Bool). e.1) (λ e. e.0.via) (zip rules flags) i (r, true) (get-zip rules flags i r true at on) next (length rules)
         (first_in first (length rules)) (first_in first' (length rules)) refl within old was (first-by first' updates) h node
-
-length-filter_map : {X Y : Type 0} (f : X → Option Y) (xs : List X) → length (filter_map f xs) ≤ length xs
-length-filter_map f [] = omega arith
-length-filter_map {X} {Y} f (x ∷ xs) =
-    elim (f x) as (λ o. length (cons_option o (filter_map f xs)) ≤ length (x ∷ xs)) [
-      | None ↦ omega (arith, length-filter_map f xs)
-      | Some y ↦ omega (arith, length-filter_map f xs)
-    ]
-
--- what is kept and what is not are all
-kept-or-not : {X Y : Type 0} (f : X → Option Y) (xs : List X) → length (filter_map f xs) + length (filter (λ x. is_none (f x)) xs) ≡ length xs
-kept-or-not f [] = refl
-kept-or-not {X} {Y} f (x ∷ xs) =
-    elim (f x) as (λ o. length (cons_option o (filter_map f xs)) + length (cond (is_none o) (x ∷ filter (λ x. is_none (f x)) xs) (filter (λ x. is_none (f x)) xs)) ≡ length (x ∷ xs)) [
-      | None ↦ omega (arith, kept-or-not f xs)
-      | Some y ↦ omega (arith, kept-or-not f xs)
-    ]
-
--- there are no more restrictions than objects
-pub rules-few : (objects : List Object) (vehicle : List ℕ) → length (rules_of objects vehicle).kept + (rules_of objects vehicle).ignored ≤ length objects
-rules-few objects vehicle =
-    let restrictions = filter_map (restriction_in vehicle) objects in
-    omega (
-      arith,
-      kept-or-not rule_of restrictions,
-      length-filter (λ r. is_none (rule_of r)) restrictions,
-      length-filter_map (restriction_in vehicle) objects,
-    )

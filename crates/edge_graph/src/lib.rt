@@ -1,5 +1,6 @@
 //! The road network of one vehicle: every piece of road between two neighbouring nodes of a way, in both
-//! directions, and the turns from one to the next that barriers and turn restrictions permit.
+//! directions, and the turns from one to the next that barriers and turn restrictions permit. Worked
+//! maps are tested in `worked_maps`.
 #![tactic(auto)]
 
 mod build_faults;

@@ -123,7 +123,9 @@ fn turn_graph(alloc: Global, roads: &Roads, list: &[(u32, u32)]) -> Result<Graph
 
 impl Network {
     /// The network of the roads among these objects that the vehicle of the profile may use, under the turn
-    /// restrictions among them that apply to it.
+    /// restrictions among them that apply to it. `TooManySegments` comes where it has more than 2^22
+    /// segments, `TooManyTurns` where it has no more than that but more than 2^26 turns; `Memory` at any
+    /// time.
     pub fn build(
         alloc: Global,
         objects: &[Object],

@@ -1,6 +1,6 @@
 //! From the objects of a map to the restrictions that a vehicle has to obey.
 
-ghost use Rattle.std.specs.Prelude.{◌≡◌, ◌&&◌, IfOk, not, option_copied};
+ghost use Rattle.std.specs.Prelude.{◌≡◌, ◌+◌, ◌≤◌, ◌&&◌, IfOk, length, not, option_copied};
 ghost use Rattle.turn_rules.specs.Rules.{is_excepted, is_restriction, restriction_in, rules_of};
 
 use crate::exceptions::{is_excepted, is_restriction};
@@ -10,7 +10,7 @@ use road_base::{Object, Relation};
 use std::alloc::{AllocError, Global};
 
 // Whether a relation is a restriction that the vehicle has to obey.
-fn applies(relation: &Relation, vehicle: &str) -> bool
+fn is_obeyed(relation: &Relation, vehicle: &str) -> bool
     ensures { result ≡ (is_restriction relation.now && not (is_excepted vehicle.now relation.now)) }
 {
     is_restriction(relation) && !is_excepted(vehicle, relation)
@@ -21,7 +21,7 @@ fn restriction_in<'a>(object: &'a Object, vehicle: &str) -> Option<&'a Relation>
     ensures { option_copied result ≡ restriction_in vehicle.now object.now }
 {
     match object {
-        Object::Relation(relation) if applies(relation, vehicle) => Some(relation),
+        Object::Relation(relation) if is_obeyed(relation, vehicle) => Some(relation),
         _ => None,
     }
 }
@@ -34,9 +34,10 @@ fn restriction_in<'a>(object: &'a Object, vehicle: &str) -> Option<&'a Relation>
 /// `only_straight_on`. It has one way in the role `from` (`no_entry`: one or more), one node in the role
 /// `via`, and one way in the role `to` (`no_exit`: one or more); members in other roles don't count. One
 /// with another value or none, or another number or kind of members in one of these three roles, is
-/// ignored. The only error is want of memory.
+/// ignored; with those that are kept they are no more than the objects. The only error is want of memory.
 pub fn rules(alloc: Global, objects: &[Object], vehicle: &str) -> Result<Rules, AllocError>
     ensures value { IfOk result (λ r. r ≡ rules_of objects.now vehicle.now) }
+    ensures few { IfOk result (λ r. length r.kept + r.ignored ≤ length objects.now) }
 {
     let mut kept = Vec::new(alloc);
     let mut ignored = 0;
