@@ -126,7 +126,7 @@ module _ {C : Type 0} {ops : CostOps C} (laws : CostLaws ops) (S : Space C) (sta
     ]
 
 -- an empty search has begun nowhere
-module _ {C : Type 0} (ops : CostOps C) (S : Space C) (starts : List (Start C)) (search : Search C) (tree : search.tree.items ≡ []) (labels : search.labels ≡ ([], [])) (queue : search.queue ≡ []) where
+module _ {C : Type 0} (ops : CostOps C) (S : Space C) (starts : List (Start C)) (search : Search C) (tree : search.tree.items ≡ []) (labels : search.labels ≡ []) (queue : search.queue ≡ []) where
   no_label : (v : ℕ) (l : Label C) → label_of search.labels v ≡ Some l → ⊥
   no_label v l h = none-some l (sym (ap (λ x. label_of x v) labels) ∙ h)
 

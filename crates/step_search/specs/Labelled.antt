@@ -1,4 +1,4 @@
--- What the contracts of the labels cite: labels as their pages and slots, read as two functions of the vertex.
+-- What the contracts of the labels cite: labels as their pages of slots, read as two functions of the vertex.
 use Rattle.std.specs.Prelude.{ℕ, Bool, true, false, cond, List, Option, Some, None}
 use Rattle.std.specs.Prelude.{nat_eq}
 use Rattle.step_search.specs.Paged.{slot_at}
@@ -19,12 +19,12 @@ settled_in (Labelled l) = false
 settled_in (Settled l) = true
 
 -- the label of the vertex v
-abbrev pub label_of : {C : Type 0} → List ℕ × List (Slot C) → ℕ → Option (Label C)
-label_of s v = label_in (slot_at s.0 s.1 v)
+abbrev pub label_of : {C : Type 0} → List (List (Slot C)) → ℕ → Option (Label C)
+label_of s v = label_in (slot_at s v)
 
 -- whether the vertex v is settled
-abbrev pub settled_of : {C : Type 0} → List ℕ × List (Slot C) → ℕ → Bool
-settled_of s v = settled_in (slot_at s.0 s.1 v)
+abbrev pub settled_of : {C : Type 0} → List (List (Slot C)) → ℕ → Bool
+settled_of s v = settled_in (slot_at s v)
 
 -- f, but y at v
 abbrev pub changed : {Y : Type 0} → (ℕ → Y) → ℕ → Y → ℕ → Y

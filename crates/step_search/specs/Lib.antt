@@ -2,6 +2,7 @@ pub mod Spaces
 pub mod Paths
 pub mod Queued
 pub mod Labelled
+pub mod Linked
 pub mod Paged
 pub mod Progress
 pub mod UnderWay

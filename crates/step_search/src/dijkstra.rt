@@ -12,6 +12,7 @@ ghost use Rattle.step_search.specs.UnderWay.{IsUnderWay, IsDone};
 
 use crate::hops::{Hop, Steps};
 use crate::labels::{Label, Labels};
+use crate::links::Link;
 use crate::queue::Queue;
 use search_graph::{Cost, Start};
 use std::alloc::{AllocError, Global};
@@ -26,9 +27,9 @@ pub struct Reached<C> {
 /// A walk from a start to `vertex`: what is paid up to it and with it, and the node that it is one hop behind.
 #[derive(Clone, Copy, Drop)]
 pub struct Node<C> {
-    pub vertex: u32,
     pub cost: C,
-    pub before: Option<usize>,
+    pub vertex: u32,
+    pub before: Link,
 }
 
 /// A search under way.
@@ -134,9 +135,9 @@ impl<C: Cost> Search<C> {
         }
         let at = self.tree.len();
         let node = Node {
-            vertex: start.vertex,
             cost: start.cost,
-            before: None,
+            vertex: start.vertex,
+            before: Link::none(),
         };
         self.tree.push(node)?;
         self.expand(steps, at, node)?;
@@ -170,9 +171,9 @@ impl<C: Cost> Search<C> {
         let label = self.labels.label(v).unwrap();
         let at = self.tree.len();
         let node = Node {
-            vertex: v,
             cost: label.cost,
-            before: Some(label.node),
+            vertex: v,
+            before: Link::to(label.node)?,
         };
         self.tree.push(node)?;
         self.labels.settle(v);
@@ -322,7 +323,7 @@ fn walk_to<C: Cost>(alloc: Global, tree: &[Node<C>], at: usize) -> Result<Vec<u3
     while let Some(i) = next {
         let node = tree[i];
         walk.push(node.vertex)?;
-        next = node.before;
+        next = node.before.place();
     }
     walk.reverse();
     Ok(walk)

@@ -4,7 +4,7 @@
 ghost use Rattle.std.specs.Prelude.{◌≡◌, [], true, false, Some, IsSome, OnOk};
 ghost use Rattle.step_search.specs.Labelled.{label_of, settled_of, changed};
 
-use crate::pages::{ensure_page, read, write};
+use crate::pages::{Page, ensure_page, read, write};
 use std::alloc::{AllocError, Global};
 use std::marker::Model;
 
@@ -27,30 +27,27 @@ pub enum Slot<C> {
 /// The labels by vertex.
 #[derive(Drop)]
 pub struct Labels<C> {
-    pages: Vec<usize>,
-    slots: Vec<Slot<C>>,
+    alloc: Global,
+    pages: Vec<Page<C>>,
 }
 
 impl<C> Model for Labels<C> {
-    ghost use Rattle.std.specs.Prelude.{ℕ, List};
+    ghost use Rattle.std.specs.Prelude.{List};
     ghost use Rattle.step_search.specs.declared.labels.Slot.{Slot};
-    ghost use Rattle.step_search.specs.Paged.{IsPaged};
 
-    ghost Value = { List ℕ × List (Slot C) };
+    ghost Value = { List (List (Slot C)) };
 
-    ghost view = { λ s. (s.pages.items, s.slots.items) };
-
-    ghost invariant = { λ s. IsPaged s.pages.items s.slots.items };
+    ghost view = { λ s. s.pages.items };
 }
 
 impl<C: Copy> Labels<C> {
     /// No labels.
     pub fn new(alloc: Global) -> Labels<C>
-        ensures { result ≡ ([], []) }
+        ensures { result ≡ [] }
     {
         Labels {
+            alloc,
             pages: Vec::new(alloc),
-            slots: Vec::new(alloc),
         }
     }
 
@@ -58,7 +55,7 @@ impl<C: Copy> Labels<C> {
     pub fn label(&self, v: u32) -> Option<Label<C>>
         ensures { result ≡ label_of self.now v }
     {
-        match read(self.pages.as_slice(), self.slots.as_slice(), v) {
+        match read(self.pages.as_slice(), v) {
             Slot::Untouched => None,
             Slot::Labelled(label) => Some(label),
             Slot::Settled(label) => Some(label),
@@ -69,7 +66,7 @@ impl<C: Copy> Labels<C> {
     pub fn is_settled(&self, v: u32) -> bool
         ensures { result ≡ settled_of self.now v }
     {
-        match read(self.pages.as_slice(), self.slots.as_slice(), v) {
+        match read(self.pages.as_slice(), v) {
             Slot::Untouched => false,
             Slot::Labelled(_) => false,
             Slot::Settled(_) => true,
@@ -82,13 +79,8 @@ impl<C: Copy> Labels<C> {
         ensures label { OnOk result (label_of self.new ≡ changed (label_of self.old) v (Some label)) }
         ensures settled { OnOk result (settled_of self.new ≡ settled_of self.old) }
     {
-        ensure_page(&mut self.pages, &mut self.slots, v)?;
-        write(
-            self.pages.as_slice(),
-            &mut self.slots,
-            v,
-            Slot::Labelled(label),
-        );
+        ensure_page(self.alloc, &mut self.pages, v)?;
+        write(&mut self.pages, v, Slot::Labelled(label));
         Ok(())
     }
 
@@ -98,13 +90,8 @@ impl<C: Copy> Labels<C> {
         ensures label { label_of self.new ≡ label_of self.old }
         ensures settled { settled_of self.new ≡ changed (settled_of self.old) v true }
     {
-        if let Slot::Labelled(label) = read(self.pages.as_slice(), self.slots.as_slice(), v) {
-            write(
-                self.pages.as_slice(),
-                &mut self.slots,
-                v,
-                Slot::Settled(label),
-            );
+        if let Slot::Labelled(label) = read(self.pages.as_slice(), v) {
+            write(&mut self.pages, v, Slot::Settled(label));
         }
     }
 }

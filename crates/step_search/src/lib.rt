@@ -4,7 +4,7 @@
 //! A search goes from several starts, each with a cost of its own, and answers for each target a path of the
 //! least cost, and none exactly where there is none. It ends at a target as soon as the target is settled.
 //! Its work and its memory follow what it touches, by pages of 256 neighbouring vertices: nothing is made for each
-//! vertex of the space. A directory has eight bytes for each page up to the last one that is touched.
+//! vertex of the space. A directory has 24 bytes for each page up to the last one that is touched.
 //!
 //! `least` answers a list of targets at once. The parts of `Search` serve who wants to go target by target.
 #![tactic(auto)]
@@ -12,6 +12,7 @@
 mod dijkstra;
 mod hops;
 mod labels;
+mod links;
 mod pages;
 mod queue;
 #[cfg(test)]

@@ -1,81 +1,115 @@
-//! Slots by vertex on pages: which pages are made, and where the slot of a vertex stands.
+//! Slots by vertex on pages: each page has the slots of 256 neighbouring vertices, or none until it is made.
 
-ghost use Rattle.std.specs.Prelude.{◌≡◌, ℕ, ◌/◌, ◌<◌, ◌≤◌, length, OnOk};
+ghost use Rattle.std.specs.Prelude.{◌≡◌, ℕ, ◌/◌, ◌%◌, ◌<◌, ◌≤◌, [], length, slice_index_or, set, OnOk};
 ghost use Rattle.step_search.specs.Labelled.{changed};
-ghost use Rattle.step_search.specs.Paged.{number_of, slot_at, IsPaged};
+ghost use Rattle.step_search.specs.Paged.{page_of, slot_on, slot_at};
 
 use crate::labels::Slot;
-use std::alloc::AllocError;
+use std::alloc::{AllocError, Global};
+use std::marker::Model;
 
 /// How many vertices a page is for.
 const PAGE: usize = 256;
 
+/// The slots of a page that is made, or no slots.
+#[derive(Drop)]
+pub struct Page<C> {
+    slots: Vec<Slot<C>>,
+}
+
+impl<C> Model for Page<C> {
+    ghost use Rattle.std.specs.Prelude.{List};
+    ghost use Rattle.step_search.specs.declared.labels.Slot.{Slot};
+
+    ghost Value = { List (Slot C) };
+
+    ghost view = { λ p. p.slots.items };
+}
+
+impl<C: Copy> Page<C> {
+    // A page that isn't made.
+    fn new(alloc: Global) -> Page<C>
+        ensures { result ≡ [] }
+    {
+        Page {
+            slots: Vec::new(alloc),
+        }
+    }
+
+    // The slot at `place`.
+    fn read(&self, place: usize) -> Slot<C>
+        ensures { result ≡ slot_on self.now place }
+    {
+        match self.slots.get(place) {
+            Some(slot) => *slot,
+            None => Slot::Untouched,
+        }
+    }
+
+    // Writes the slot at `place`.
+    fn write(&mut self, place: usize, slot: Slot<C>)
+        requires { place < length self.old }
+        ensures { self.new ≡ set self.old place slot }
+    {
+        self.slots[place] = slot;
+    }
+
+    // Makes the page where it isn't made yet.
+    fn ensure(&mut self) -> Result<(), AllocError>
+        ensures same { (r : ℕ) → slot_on self.new r ≡ slot_on self.old r }
+        ensures made { OnOk result (256 ≤ length self.new) }
+    {
+        if self.slots.len() < PAGE {
+            self.slots.resize(PAGE, Slot::Untouched)?;
+        }
+        Ok(())
+    }
+}
+
 /// The slot of `v`.
-pub fn read<C: Copy>(pages: &[usize], slots: &[Slot<C>], v: u32) -> Slot<C>
-    requires { IsPaged pages.now slots.now }
-    ensures { result ≡ slot_at pages.now slots.now v }
+pub fn read<C: Copy>(pages: &[Page<C>], v: u32) -> Slot<C>
+    ensures { result ≡ slot_at pages.now v }
 {
     match pages.get(v as usize / PAGE) {
-        Some(number) if *number > 0 => slots[(*number - 1) * PAGE + v as usize % PAGE],
-        _ => Slot::Untouched,
+        Some(page) => page.read(v as usize % PAGE),
+        None => Slot::Untouched,
     }
 }
 
 /// Writes the slot of `v`, whose page is made.
-pub fn write<C: Copy>(pages: &[usize], slots: &mut Vec<Slot<C>>, v: u32, slot: Slot<C>)
-    requires paged { IsPaged pages.now slots.old.items }
-    requires made { 0 < number_of pages.now (v / 256) }
-    ensures paged { IsPaged pages.now slots.new.items }
-    ensures changed { slot_at pages.now slots.new.items ≡ changed (slot_at pages.now slots.old.items) v slot }
+pub fn write<C: Copy>(pages: &mut Vec<Page<C>>, v: u32, slot: Slot<C>)
+    requires { v % 256 < length (page_of pages.old.items (v / 256)) }
+    ensures { slot_at pages.new.items ≡ changed (slot_at pages.old.items) v slot }
 {
-    let number = pages[v as usize / PAGE];
-    slots[(number - 1) * PAGE + v as usize % PAGE] = slot;
+    pages[v as usize / PAGE].write(v as usize % PAGE, slot);
 }
 
 /// Makes the page of `v` where it isn't made yet.
 pub fn ensure_page<C: Copy>(
-    pages: &mut Vec<usize>,
-    slots: &mut Vec<Slot<C>>,
+    alloc: Global,
+    pages: &mut Vec<Page<C>>,
     v: u32,
 ) -> Result<(), AllocError>
-    requires { IsPaged pages.old.items slots.old.items }
-    ensures paged { IsPaged pages.new.items slots.new.items }
-    ensures made { OnOk result (0 < number_of pages.new.items (v / 256)) }
-    ensures same { slot_at pages.new.items slots.new.items ≡ slot_at pages.old.items slots.old.items }
+    ensures made { OnOk result (v % 256 < length (page_of pages.new.items (v / 256))) }
+    ensures same { slot_at pages.new.items ≡ slot_at pages.old.items }
 {
     let page = v as usize / PAGE;
-    lengthen(pages, page + 1)?;
-    if pages[page] == 0 {
-        make_page(pages, slots, page)?;
-    }
-    Ok(())
-}
-
-// Makes a page that isn't made yet, behind all others.
-fn make_page<C: Copy>(
-    pages: &mut Vec<usize>,
-    slots: &mut Vec<Slot<C>>,
-    page: usize,
-) -> Result<(), AllocError>
-    requires paged { IsPaged pages.old.items slots.old.items }
-    requires in_range { page < length pages.old.items }
-    requires unmade { number_of pages.old.items page ≡ 0 }
-    ensures paged { IsPaged pages.new.items slots.new.items }
-    ensures made { OnOk result (0 < number_of pages.new.items page) }
-    ensures same { slot_at pages.new.items slots.new.items ≡ slot_at pages.old.items slots.old.items }
-{
-    slots.resize(slots.len() + PAGE, Slot::Untouched)?;
-    pages[page] = slots.len() / PAGE;
+    lengthen(alloc, pages, page + 1)?;
+    pages[page].ensure()?;
     Ok(())
 }
 
 // Goes on to `count` pages; those that come are not made.
-fn lengthen(pages: &mut Vec<usize>, count: usize) -> Result<(), AllocError>
-    ensures same { (p : ℕ) → number_of pages.new.items p ≡ number_of pages.old.items p }
+fn lengthen<C: Copy>(
+    alloc: Global,
+    pages: &mut Vec<Page<C>>,
+    count: usize,
+) -> Result<(), AllocError>
+    ensures same { (p : ℕ) → page_of pages.new.items p ≡ page_of pages.old.items p }
     ensures long { OnOk result (count ≤ length pages.new.items) }
 {
     while pages.len() < count {
-        pages.push(0)?;
+        pages.push(Page::new(alloc))?;
     }
     Ok(())
 }

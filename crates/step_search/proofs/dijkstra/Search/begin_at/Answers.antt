@@ -8,9 +8,9 @@ returns-then-not-may_begin-clause-begins g c = begin_nowhere g.met.C.Cost.laws (
 
 pub expand-requires-clause-at_work : goal.expand-requires-clause-at_work
 expand-requires-clause-at_work g c =
-    begin_at_work g.met.C.Cost.laws (g.T.Steps.space c.args.steps.now) c.args.self.now c.args.start c.requires.space c.requires.vertex c.requires.units c.requires.front c.requires.unsettled _ c.len-at.result
-    c.in_ok-push.ensures.items refl refl (c.len-at.ensures ∙ c.args.self.now.tree.ok.0)
+    rw c.none.ensures (begin_at_work g.met.C.Cost.laws (g.T.Steps.space c.args.steps.now) c.args.self.now c.args.start c.requires.space c.requires.vertex c.requires.units c.requires.front c.requires.unsettled _ c.len-at.result
+    (rw c.none.ensures at c.in_ok-push.ensures.items) refl refl (c.len-at.ensures ∙ c.args.self.now.tree.ok.0))
 
 pub returns-clause-begins : goal.returns-clause-begins
 returns-clause-begins g c =
-    begin_begins g.met.C.Cost.laws (g.T.Steps.space c.args.steps.now) c.args.self.now c.args.start c.if-not-may_begin.ensures.yes _ c.expand.new.self c.in_ok-push.ensures.items refl c.in_ok-expand.ensures.falls c.in_ok-expand.ensures.expanded
+    begin_begins g.met.C.Cost.laws (g.T.Steps.space c.args.steps.now) c.args.self.now c.args.start c.if-not-may_begin.ensures.yes _ c.expand.new.self (rw c.none.ensures at c.in_ok-push.ensures.items) refl c.in_ok-expand.ensures.falls c.in_ok-expand.ensures.expanded

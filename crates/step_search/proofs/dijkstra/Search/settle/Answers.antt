@@ -10,10 +10,10 @@ unwrap-label-requires g c =
 
 pub expand-requires-clause-at_work : goal.expand-requires-clause-at_work
 expand-requires-clause-at_work g c =
-    settle_at_work g.met.C.Cost.laws (g.T.Steps.space c.args.steps.now) c.args.self.now c.args.v c.requires.taken c.unwrap-label.result (sym c.label.ensures ∙ c.unwrap-label.ensures) _
-    c.in_ok-push.ensures.items c.settle.ensures.label c.settle.ensures.settled c.len-at.result refl (c.len-at.ensures ∙ c.args.self.now.tree.ok.0)
+    rw c.in_ok-to.ensures (settle_at_work g.met.C.Cost.laws (g.T.Steps.space c.args.steps.now) c.args.self.now c.args.v c.requires.taken c.unwrap-label.result (sym c.label.ensures ∙ c.unwrap-label.ensures) _
+    (rw c.in_ok-to.ensures at c.in_ok-push.ensures.items) c.settle.ensures.label c.settle.ensures.settled c.len-at.result refl (c.len-at.ensures ∙ c.args.self.now.tree.ok.0))
 
 pub returns-clause-settles : goal.returns-clause-settles
 returns-clause-settles g c =
     settle_settles g.met.C.Cost.laws (g.T.Steps.space c.args.steps.now) c.args.self.now c.args.v c.requires.taken c.unwrap-label.result (sym c.label.ensures ∙ c.unwrap-label.ensures) _
-    c.in_ok-push.ensures.items c.settle.ensures.label c.settle.ensures.settled c.expand.new.self c.in_ok-expand.ensures.falls
+    (rw c.in_ok-to.ensures at c.in_ok-push.ensures.items) c.settle.ensures.label c.settle.ensures.settled c.expand.new.self c.in_ok-expand.ensures.falls
