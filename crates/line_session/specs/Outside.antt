@@ -4,9 +4,11 @@ use Rattle.std.specs.Io.KnownBytes.{Appends, Consumes}
 use Rattle.road_io.specs.Faults.{Rose}
 use Rattle.road_io.specs.Told.{AppendsFront}
 
--- what files tell at one moment: their bytes by name, the names of failed reads, and the count of faults
+-- what files tell at one moment: their bytes by name, the names of all reads and those of failed ones,
+-- and the count of faults
 pub record FilesView : Type 0 where
   pub content : List ℕ → Option (List ℕ)
+  pub reads : Option (List (List ℕ))
   pub failed_names : Option (List (List ℕ))
   pub faults : ℕ
 
@@ -21,8 +23,8 @@ pub record OutputView : Type 0 where
   pub written : Option (List ℕ)
   pub faults : ℕ
 
-abbrev pub files_view : (List ℕ → Option (List ℕ)) → Option (List (List ℕ)) → ℕ → FilesView
-files_view content failed_names faults = record { content = content; failed_names = failed_names; faults = faults }
+abbrev pub files_view : (List ℕ → Option (List ℕ)) → Option (List (List ℕ)) → Option (List (List ℕ)) → ℕ → FilesView
+files_view content reads failed_names faults = record { content = content; reads = reads; failed_names = failed_names; faults = faults }
 
 abbrev pub input_view : Option (List ℕ) → ℕ → ℕ → InputView
 input_view left taken faults = record { left = left; taken = taken; faults = faults }

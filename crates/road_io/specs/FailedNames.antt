@@ -1,5 +1,5 @@
--- What is told of the names of failed reads.
-use Rattle.std.specs.Prelude.{◌≡◌, ℕ, List, [], ◌∷◌, ◌++◌, Option, None, Some, Result, OnOk, IsErrOf, ⊤}
+-- What is told of the names of reads, and of those that failed.
+use Rattle.std.specs.Prelude.{◌≡◌, ◌⊎◌, ℕ, List, [], ◌∷◌, ◌++◌, Option, None, Some, Result, OnOk, IsErrOf, ⊤}
 use Rattle.road_io.specs.declared.failures.FileFault.{FileFault}
 use Rattle.road_io.specs.declared.failures.FileFault.TheVariants.{Failed, Memory}
 
@@ -14,3 +14,9 @@ pub record TellsFailed {T : Type 0} (old new : Option (List (List ℕ))) (result
   pub failed : IsErrOf result Failed → AppendsNames old new (name ∷ [])
   pub memory : IsErrOf result Memory → AppendsNames old new []
   pub read : OnOk result (AppendsNames old new [])
+
+-- a read adds its name, whether it failed or not; for want of memory it adds its name or none
+pub record TellsRead {T : Type 0} (old new : Option (List (List ℕ))) (result : Result T FileFault) (name : List ℕ) : Type 0 where
+  pub failed : IsErrOf result Failed → AppendsNames old new (name ∷ [])
+  pub memory : IsErrOf result Memory → AppendsNames old new (name ∷ []) ⊎ AppendsNames old new []
+  pub read : OnOk result (AppendsNames old new (name ∷ []))

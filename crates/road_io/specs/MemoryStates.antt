@@ -44,18 +44,19 @@ pub record ConnState : Type 0 where
 abbrev pub conn_opening : ConnState → Opening
 conn_opening conn = record { input = Some conn.source.all; source_faults = 0; sink_faults = 0 }
 
--- files: each name with its bytes, the numbers of the reads that fail, the reads so far, the names of
--- the failed ones, the faults
+-- files: each name with its bytes, the numbers of the reads that fail, the count of the reads so far,
+-- their names, the names of the failed ones, the faults
 pub record FilesState : Type 0 where
   pub files : List (List ℕ × List ℕ)
   pub failing : List ℕ
   pub calls : ℕ
+  pub reads : List (List ℕ)
   pub failed_names : List (List ℕ)
   pub faults : ℕ
 
 -- files that have not been read
 abbrev pub new_files : List (List ℕ × List ℕ) → List ℕ → FilesState
-new_files files failing = record { files = files; failing = failing; calls = 0; failed_names = []; faults = 0 }
+new_files files failing = record { files = files; failing = failing; calls = 0; reads = []; failed_names = []; faults = 0 }
 
 -- a source without failures: the bytes that are left, and how many were taken
 pub record SteadySourceState : Type 0 where

@@ -2,7 +2,7 @@
 
 ghost use Rattle.std.specs.Prelude.{◌≡◌, ℕ, List, Option, IfOk, IfSome};
 ghost use Rattle.road_io.specs.Faults.{HasFileCause};
-ghost use Rattle.road_io.specs.FailedNames.{TellsFailed};
+ghost use Rattle.road_io.specs.FailedNames.{TellsFailed, TellsRead};
 
 use crate::failures::FileFault;
 use std::alloc::Global;
@@ -11,6 +11,9 @@ use std::alloc::Global;
 pub trait Files {
     /// The bytes of the file of a name, where the object tells them.
     ghost content: { Self → List ℕ → Option (List ℕ) };
+
+    /// The names of all reads, in order, where the object tells them.
+    ghost reads: { Self → Option (List (List ℕ)) };
 
     /// The names of the reads that failed, in order, where the object tells them.
     ghost failed_names: { Self → Option (List (List ℕ)) };
@@ -23,6 +26,7 @@ pub trait Files {
     fn read(&mut self, alloc: Global, name: &str) -> Result<Vec<u8>, FileFault>
         ensures kept { content self.new ≡ content self.old }
         ensures bytes { IfOk result (λ v. IfSome (content self.old name.now) (λ bytes. v.items ≡ bytes)) }
+        ensures asked { TellsRead (reads self.old) (reads self.new) result name.now }
         ensures told { TellsFailed (failed_names self.old) (failed_names self.new) result name.now }
         ensures cause { HasFileCause (faults self.old) (faults self.new) result };
 }

@@ -1,8 +1,8 @@
 //! Files in memory.
 
-ghost use Rattle.std.specs.Prelude.{◌≡◌, ◌↔◌, ◌⊎◌, Contains, IsNone, IsErr, IsErrOf, IfOk, IfSome, option_copied};
+ghost use Rattle.std.specs.Prelude.{◌≡◌, ◌↔◌, ◌⊎◌, [], ◌∷◌, ◌++◌, Contains, IsNone, IsErr, IsErrOf, IfOk, IfErr, IfSome, OnErr, OnOk, option_copied};
 ghost use Rattle.road_io.specs.Faults.{HasFileCause};
-ghost use Rattle.road_io.specs.FailedNames.{TellsFailed};
+ghost use Rattle.road_io.specs.FailedNames.{TellsFailed, TellsRead};
 ghost use Rattle.road_io.specs.FileNamed.{file_of, named_files};
 ghost use Rattle.road_io.specs.MemoryStates.{new_files, next_call, ReadFails};
 
@@ -18,6 +18,7 @@ pub struct MemFiles {
     files: Vec<(Text, Vec<u8>)>,
     failing: Vec<u64>,
     calls: u64,
+    reads: Vec<Text>,
     failed_names: Vec<Text>,
     faults: u64,
 }
@@ -28,7 +29,7 @@ impl Model for MemFiles {
 
     ghost Value = { FilesState };
 
-    ghost view = { λ f. record { files = named_files f.files.items; failing = f.failing.items; calls = f.calls; failed_names = f.failed_names.items; faults = f.faults } };
+    ghost view = { λ f. record { files = named_files f.files.items; failing = f.failing.items; calls = f.calls; reads = f.reads.items; failed_names = f.failed_names.items; faults = f.faults } };
 }
 
 impl MemFiles {
@@ -41,9 +42,24 @@ impl MemFiles {
             files,
             failing,
             calls: 0,
+            reads: Vec::new(alloc),
             failed_names: Vec::new(alloc),
             faults: 0,
         }
+    }
+
+    /// The names of all reads, in order.
+    pub fn reads(&self) -> &[Text]
+        ensures { result.now ≡ self.now.reads }
+    {
+        self.reads.as_slice()
+    }
+
+    /// The names of the reads that failed, in order.
+    pub fn failed_names(&self) -> &[Text]
+        ensures { result.now ≡ self.now.failed_names }
+    {
+        self.failed_names.as_slice()
     }
 }
 
@@ -52,6 +68,8 @@ impl Files for MemFiles {
 
     ghost content = { λ f name. file_of f.files name };
 
+    ghost reads = { λ f. Some f.reads };
+
     ghost failed_names = { λ f. Some f.failed_names };
 
     ghost faults = { λ f. f.faults };
@@ -59,6 +77,7 @@ impl Files for MemFiles {
     fn read(&mut self, alloc: Global, name: &str) -> Result<Vec<u8>, FileFault>
         ensures kept { file_of self.new.files ≡ file_of self.old.files }
         ensures bytes { IfOk result (λ v. IfSome (file_of self.old.files name.now) (λ bytes. v.items ≡ bytes)) }
+        ensures asked { TellsRead (Some self.old.reads) (Some self.new.reads) result name.now }
         ensures told { TellsFailed (Some self.old.failed_names) (Some self.new.failed_names) result name.now }
         ensures cause { HasFileCause self.old.faults self.new.faults result }
         ensures failed { IsErrOf result FileFault.Failed → ReadFails self.old name.now }
@@ -67,19 +86,30 @@ impl Files for MemFiles {
         ensures failing { self.new.failing ≡ self.old.failing }
     {
         self.calls = self.calls.saturating_add(1);
+        note(alloc, &mut self.reads, name)?;
         match readable(&self.files, &self.failing, self.calls, name) {
             Some(bytes) => Vec::from_slice(alloc, bytes).map_err(|_| FileFault::Memory),
             None => {
-                let Ok(told) = Text::copy_of(alloc, name) else {
-                    return Err(FileFault::Memory);
-                };
-                if self.failed_names.push(told).is_err() {
-                    return Err(FileFault::Memory);
-                }
+                note(alloc, &mut self.failed_names, name)?;
                 self.faults = self.faults.saturating_add(1);
                 Err(FileFault::Failed)
             }
         }
+    }
+}
+
+// Puts a name behind these.
+fn note(alloc: Global, names: &mut Vec<Text>, name: &str) -> Result<(), FileFault>
+    ensures noted { OnOk result (names.new.items ≡ names.old.items ++ name.now ∷ []) }
+    ensures memory { IfErr result (λ fault. fault ≡ FileFault.Memory) }
+    ensures kept { OnErr result (names.new.items ≡ names.old.items) }
+{
+    let Ok(told) = Text::copy_of(alloc, name) else {
+        return Err(FileFault::Memory);
+    };
+    match names.push(told) {
+        Ok(()) => Ok(()),
+        Err(_) => Err(FileFault::Memory),
     }
 }
 

@@ -130,9 +130,11 @@ impl SteadyFiles {
 }
 
 impl Files for SteadyFiles {
-    ghost use Rattle.std.specs.Prelude.{Some};
+    ghost use Rattle.std.specs.Prelude.{None, Some};
 
     ghost content = { λ f name. Some (unwrap_or (file_of f name) []) };
+
+    ghost reads = { λ _. None };
 
     ghost failed_names = { λ _. Some [] };
 

@@ -86,6 +86,10 @@ fn files_are_read_by_name(rt: HostRuntime) -> Result<(), AllocError> {
     assert!(rt; matches!(&files.read(alloc, "town.opl"), Err(FileFault::Failed)));
     assert!(rt; matches!(&files.read(alloc, "Town.opl"), Err(FileFault::Failed)));
     assert!(rt; files.read(alloc, "town.opl").is_ok());
+    assert_eq!(rt; files.reads().len(), 4);
+    assert!(rt;
+        matches!(files.failed_names(), [town, other] if town.as_str() == "town.opl" && other.as_str() == "Town.opl")
+    );
     let mut steady = SteadyFiles::of(two_files(alloc)?);
     assert!(rt; matches!(&steady.read(alloc, "town.opl"), Ok(v) if v.len() == 9));
     assert!(rt; matches!(&steady.read(alloc, "nowhere"), Ok(v) if v.is_empty()));

@@ -19,26 +19,33 @@ use Rattle.line_session.specs.Publication.{Publication, opening}
 use Rattle.line_session.specs.Stopping.{ToldAll}
 use Rattle.line_session.specs.Told.{IsToldFront}
 
--- the files of the words hold a map and settings that make this network
-pub record IsLoaded (files : FilesView) (map settings : List ℕ) (network : NetworkView) : Type 0 where
+-- both files of the words were read, the map first, and no other file; no read failed, and the files
+-- hold these bytes
+pub record AreRead (before after : FilesView) (map settings map_bytes settings_bytes : List ℕ) : Type 0 where
+  pub is_map : IsContent (before.content map) map_bytes
+  pub are_settings : IsContent (before.content settings) settings_bytes
+  pub reads : AppendsNames before.reads after.reads (map ∷ settings ∷ [])
+  pub told : AppendsNames before.failed_names after.failed_names []
+  pub steady : after.faults ≡ before.faults
+
+-- the files of the words were read, and hold a map and settings that make this network
+pub record IsLoaded (before after : FilesView) (map settings : List ℕ) (network : NetworkView) : Type 0 where
   pub map_bytes : List ℕ
-  pub is_map : IsContent (files.content map) map_bytes
   pub settings_bytes : List ℕ
-  pub are_settings : IsContent (files.content settings) settings_bytes
+  pub read : AreRead before after map settings map_bytes settings_bytes
   pub loads : load_of map_bytes settings_bytes ≡ Ok network
 
--- the files of the words hold what is refused on this line
-pub record IsRefused (files : FilesView) (map settings line : List ℕ) : Type 0 where
+-- the files of the words were read, and hold what is refused on this line
+pub record IsRefused (before after : FilesView) (map settings line : List ℕ) : Type 0 where
   pub map_bytes : List ℕ
-  pub is_map : IsContent (files.content map) map_bytes
   pub settings_bytes : List ℕ
-  pub are_settings : IsContent (files.content settings) settings_bytes
+  pub read : AreRead before after map settings map_bytes settings_bytes
   pub refuses : load_of map_bytes settings_bytes ≡ Err line
 
 -- all that is told of the input stands in the output, and the input was read to its end
 pub record Whole (before after : Outside) (map settings : List ℕ) : Type 0 where
   pub network : NetworkView
-  pub loaded : IsLoaded before.files map settings network
+  pub loaded : IsLoaded before.files after.files map settings network
   pub told : ToldAll (opening network) before.input after.input before.output after.output
 
 -- a front of what is told of an input stands in the output, and then the line
@@ -52,7 +59,7 @@ pub record BegunFrom (first : Publication) (input_before : InputView) (before af
 -- the same under the first publication of the network of the words
 pub record Begun (before after : Outside) (map settings line : List ℕ) : Type 0 where
   pub network : NetworkView
-  pub loaded : IsLoaded before.files map settings network
+  pub loaded : IsLoaded before.files after.files map settings network
   pub begun : BegunFrom (opening network) before.input before.output after.output line
 
 -- at least 2^63 bytes of input were taken
@@ -73,55 +80,82 @@ EndsFrom status.Refused first input_before input_after before after =
     IsLong input_before input_after × BegunFrom first input_before before after long_line
 EndsFrom status.Memory first input_before input_after before after = BegunFrom first input_before before after memory_line
 
--- the end of answering lines over what a map and settings are loaded as
+-- the end of answering lines over what a map and settings are loaded as; where that was not begun, nothing
+-- was taken of the input
 pub data EndsOver (code : Status) (loaded : Result NetworkView (List ℕ)) (input_before input_after : InputView) (before after : OutputView) : Type 0 where
   answered : (network : NetworkView) → loaded ≡ Ok network → EndsFrom code (opening network) input_before input_after before after → EndsOver code loaded input_before input_after before after
-  refused : (line : List ℕ) → loaded ≡ Err line → code ≡ status.Refused → Closes before after line → EndsOver code loaded input_before input_after before after
-  exhausted : code ≡ status.Memory → Closes before after memory_line → EndsOver code loaded input_before input_after before after
+  refused : (line : List ℕ) → loaded ≡ Err line → code ≡ status.Refused → input_after ≡ input_before → Closes before after line → EndsOver code loaded input_before input_after before after
+  exhausted : code ≡ status.Memory → input_after ≡ input_before → Closes before after memory_line → EndsOver code loaded input_before input_after before after
 
 abbrev pub cannot_read : List ℕ → List ℕ
 cannot_read name = codes "cannot read " ++ (name ++ codes "\n")
 
--- the file of this name, one of the two of the words, could not be read; it is the one failed read
-pub record IsUnread (files_before files_after : FilesView) (before after : OutputView) (map settings : List ℕ) : Type 0 where
-  pub name : List ℕ
-  pub named : (name ≡ map) ⊎ (name ≡ settings)
-  pub told : AppendsNames files_before.failed_names files_after.failed_names (name ∷ [])
-  pub rose : FilesRose files_before files_after
-  pub put : Closes before after (cannot_read name)
+-- the reads of the words' files up to the one of this name: the map is read first
+abbrev pub IsUpTo : List ℕ → List ℕ → List ℕ → List (List ℕ) → Type 0
+IsUpTo map settings name reads =
+    ((name ≡ map) × (reads ≡ map ∷ [])) ⊎ ((name ≡ settings) × (reads ≡ map ∷ settings ∷ []))
 
--- both files were read, and hold these bytes
-pub record AreRead (files_before files_after : FilesView) (map settings map_bytes settings_bytes : List ℕ) : Type 0 where
-  pub is_map : IsContent (files_before.content map) map_bytes
-  pub are_settings : IsContent (files_before.content settings) settings_bytes
-  pub told : AppendsNames files_before.failed_names files_after.failed_names []
-  pub steady : files_after.faults ≡ files_before.faults
+-- the file of this name, one of the two of the words, could not be read; it is the one failed read, and
+-- the last of all
+pub record IsFailed (before after : FilesView) (map settings name : List ℕ) : Type 0 where
+  pub all : List (List ℕ)
+  pub up_to : IsUpTo map settings name all
+  pub reads : AppendsNames before.reads after.reads all
+  pub told : AppendsNames before.failed_names after.failed_names (name ∷ [])
+  pub rose : FilesRose before after
+
+-- the same, and a line tells it; nothing was taken of the input
+pub record IsUnread (before after : Outside) (map settings : List ℕ) : Type 0 where
+  pub name : List ℕ
+  pub failed : IsFailed before.files after.files map settings name
+  pub input : after.input ≡ before.input
+  pub put : Closes before.output after.output (cannot_read name)
+
+-- none, the first, or both of the words' files were read, the map first, and no other file; no read failed
+pub record AreBegun (before after : FilesView) (map settings : List ℕ) : Type 0 where
+  pub all : List (List ℕ)
+  pub rest : List (List ℕ)
+  pub front : map ∷ settings ∷ [] ≡ all ++ rest
+  pub reads : AppendsNames before.reads after.reads all
+  pub told : AppendsNames before.failed_names after.failed_names []
+  pub steady : after.faults ≡ before.faults
 
 -- of the two files the one of this name was not read, with this fault
 pub record IsLeft (before after : FilesView) (map settings name : List ℕ) (fault : FileFault) : Type 0 where
-  pub named : (name ≡ map) ⊎ (name ≡ settings)
-  pub failed : fault ≡ file.Failed → AppendsNames before.failed_names after.failed_names (name ∷ []) × FilesRose before after
-  pub memory : fault ≡ file.Memory → AppendsNames before.failed_names after.failed_names []
+  pub failed : fault ≡ file.Failed → IsFailed before after map settings name
+  pub memory : fault ≡ file.Memory → AreBegun before after map settings
+
+-- the data are refused on this line; nothing was taken of the input
+pub record Refuses (before after : Outside) (map settings : List ℕ) : Type 0 where
+  pub line : List ℕ
+  pub refused : IsRefused before.files after.files map settings line
+  pub input : after.input ≡ before.input
+  pub put : Closes before.output after.output line
+
+-- there was no memory, and no line was answered; nothing was taken of the input
+pub record IsExhausted (before after : Outside) (map settings : List ℕ) : Type 0 where
+  pub files : AreBegun before.files after.files map settings
+  pub input : after.input ≡ before.input
+  pub put : Closes before.output after.output memory_line
 
 -- the end of a run that answers lines, by its status
 abbrev pub Ends : Status → Outside → Outside → List ℕ → List ℕ → Type 0
 Ends status.Ok before after map settings = NoneRose before after × Whole before after map settings
 Ends status.Outside before after map settings =
-    IsUnread before.files after.files before.output after.output map settings
+    IsUnread before after map settings
     ⊎ ((InputRose before.input after.input ⊎ OutputRose before.output after.output) × Begun before after map settings [])
 Ends status.Words before after map settings = ⊥
 Ends status.Refused before after map settings =
-    ((line : List ℕ) × IsRefused before.files map settings line × Closes before.output after.output line)
+    Refuses before after map settings
     ⊎ (IsLong before.input after.input × Begun before after map settings long_line)
 Ends status.Memory before after map settings =
-    Closes before.output after.output memory_line ⊎ Begun before after map settings memory_line
+    IsExhausted before after map settings ⊎ Begun before after map settings memory_line
 
--- the files of the words hold a map and settings, whose counts these are
-pub record IsCounted (files : FilesView) (map settings text : List ℕ) : Type 0 where
+-- the files of the words were read, and hold a map and settings, whose counts these are
+pub record IsCounted (before after : FilesView) (map settings text : List ℕ) : Type 0 where
   pub map_bytes : List ℕ
-  pub is_map : IsContent (files.content map) map_bytes
   pub settings_bytes : List ℕ
-  pub are_settings : IsContent (files.content settings) settings_bytes
+  pub read : AreRead before after map settings map_bytes settings_bytes
   pub objects : List Object
   pub are_objects : opl_objects map_bytes ≡ Ok objects
   pub network : NetworkView
@@ -130,10 +164,10 @@ pub record IsCounted (files : FilesView) (map settings text : List ℕ) : Type 0
 
 -- the counts stand in the output, or a front of them where it failed
 abbrev pub Counted : Outside → Outside → List ℕ → List ℕ → Type 0
-Counted before after map settings = (text : List ℕ) × IsCounted before.files map settings text × Appends before.output.written after.output.written text
+Counted before after map settings = (text : List ℕ) × IsCounted before.files after.files map settings text × Appends before.output.written after.output.written text
 
 abbrev pub CountedFront : Outside → Outside → List ℕ → List ℕ → Type 0
-CountedFront before after map settings = (text : List ℕ) × IsCounted before.files map settings text × AppendsFront before.output.written after.output.written text
+CountedFront before after map settings = (text : List ℕ) × IsCounted before.files after.files map settings text × AppendsFront before.output.written after.output.written text
 
 -- the end of putting a text, by its status
 abbrev pub EndsPut : Status → List ℕ → OutputView → OutputView → Type 0
@@ -153,31 +187,32 @@ pub data EndsCountOver (code : Status) (map settings : List ℕ) (before after :
 abbrev pub EndsCheck : Status → Outside → Outside → List ℕ → List ℕ → Type 0
 EndsCheck status.Ok before after map settings = NoneRose before after × Counted before after map settings
 EndsCheck status.Outside before after map settings =
-    IsUnread before.files after.files before.output after.output map settings
+    IsUnread before after map settings
     ⊎ (OutputRose before.output after.output × CountedFront before after map settings)
 EndsCheck status.Words before after map settings = ⊥
-EndsCheck status.Refused before after map settings = (line : List ℕ) × IsRefused before.files map settings line × Closes before.output after.output line
-EndsCheck status.Memory before after map settings = Closes before.output after.output memory_line
-
--- a failed read is told only where a run ends for it, and then it is the one of `IsUnread`
-abbrev pub NamesOf : Status → FilesView → FilesView → Type 0
-NamesOf status.Outside before after = FilesRose before after ⊎ AppendsNames before.failed_names after.failed_names []
-NamesOf _ before after = AppendsNames before.failed_names after.failed_names []
+EndsCheck status.Refused before after map settings = Refuses before after map settings
+EndsCheck status.Memory before after map settings = IsExhausted before after map settings
 
 abbrev pub usage_line : List ℕ
 usage_line = codes "usage: road_router check OPL SETTINGS | ask OPL SETTINGS | serve OPL SETTINGS --listen A --control B [--workers N] [--segment-speed-file F] [--turn-penalty-file F] | town N | drill N\n"
+
+-- the end of a run with this status that put this line: no file was read, and nothing was taken of the
+-- input
+pub record EndsUntouched (code expected : Status) (before after : Outside) (line : List ℕ) : Type 0 where
+  pub status : code ≡ expected
+  pub files : after.files ≡ before.files
+  pub input : after.input ≡ before.input
+  pub put : Closes before.output after.output line
 
 -- the end of a run on these words, which may make no command
 abbrev pub EndsOn : Option Command → Status → Outside → Outside → Type 0
 EndsOn (Some (Check map settings)) code before after = EndsCheck code before after map settings × (after.input ≡ before.input)
 EndsOn (Some (Ask map settings)) code before after = Ends code before after map settings
-EndsOn None code before after = (code ≡ status.Words) × Closes before.output after.output usage_line
+EndsOn None code before after = EndsUntouched code status.Words before after usage_line
 
--- there was no memory to read the words; nothing was taken
-pub record EndsWordless (code : Status) (before after : Outside) : Type 0 where
-  pub status : code ≡ status.Memory
-  pub put : Closes before.output after.output memory_line
-  pub input : after.input ≡ before.input
+-- there was no memory to read the words
+abbrev pub EndsWordless : Status → Outside → Outside → Type 0
+EndsWordless code before after = EndsUntouched code status.Memory before after memory_line
 
 -- the end of a run on these words
 abbrev pub EndsRun : Option Command → Status → Outside → Outside → Type 0

@@ -23,6 +23,8 @@ impl<'a, R: std::rt::Files + AllocGlobal> Files for SystemFiles<'a, R> {
 
     ghost content = { λ files name. None };
 
+    ghost reads = { λ files. None };
+
     ghost failed_names = { λ files. None };
 
     ghost faults = { λ files. files.faults };

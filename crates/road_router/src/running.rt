@@ -7,7 +7,7 @@ ghost use Rattle.road_io.specs.Faults.{HasCause, Rose};
 ghost use Rattle.road_io.specs.Told.{AppendsFront};
 ghost use Rattle.command_words.specs.Commands.{command_of};
 ghost use Rattle.map_loading.specs.Counting.{check_text};
-ghost use Rattle.road_router.specs.Ending.{AreRead, Ends, EndsCheck, EndsCountOver, EndsFrom, EndsOver, EndsPut, EndsRun, IsLeft, NamesOf, cannot_read};
+ghost use Rattle.road_router.specs.Ending.{AreRead, Ends, EndsCheck, EndsCountOver, EndsFrom, EndsOver, EndsPut, EndsRun, IsLeft, cannot_read};
 ghost use Rattle.map_loading.specs.Loading.{load_of, memory_line};
 
 use command_words::{Words, WordsFault, read_words};
@@ -117,8 +117,8 @@ fn read_files<'a, F: Files>(
     settings: &'a str,
     files: &mut F,
 ) -> Result<(Vec<u8>, Vec<u8>), Unread<'a>>
-    ensures read { IfOk result (λ both. AreRead (files_view (F.content files.old) (F.failed_names files.old) (F.faults files.old)) (files_view (F.content files.new) (F.failed_names files.new) (F.faults files.new)) map.now settings.now both.0.items both.1.items) }
-    ensures unread { IfErr result (λ u. IsLeft (files_view (F.content files.old) (F.failed_names files.old) (F.faults files.old)) (files_view (F.content files.new) (F.failed_names files.new) (F.faults files.new)) map.now settings.now u.name.now u.fault) }
+    ensures read { IfOk result (λ both. AreRead (files_view (F.content files.old) (F.reads files.old) (F.failed_names files.old) (F.faults files.old)) (files_view (F.content files.new) (F.reads files.new) (F.failed_names files.new) (F.faults files.new)) map.now settings.now both.0.items both.1.items) }
+    ensures unread { IfErr result (λ u. IsLeft (files_view (F.content files.old) (F.reads files.old) (F.failed_names files.old) (F.faults files.old)) (files_view (F.content files.new) (F.reads files.new) (F.failed_names files.new) (F.faults files.new)) map.now settings.now u.name.now u.fault) }
 {
     let map_bytes = match files.read(alloc, map) {
         Ok(bytes) => bytes,
@@ -164,9 +164,8 @@ pub fn ask<F: Files, I: Source, O: Sink>(
     input: &mut I,
     output: &mut O,
 ) -> Status
-    ensures ends { Ends result (outside (files_view (F.content files.old) (F.failed_names files.old) (F.faults files.old)) (input_view (I.left input.old) (I.taken input.old) (I.faults input.old)) (output_view (O.written output.old) (O.faults output.old)))
-        (outside (files_view (F.content files.new) (F.failed_names files.new) (F.faults files.new)) (input_view (I.left input.new) (I.taken input.new) (I.faults input.new)) (output_view (O.written output.new) (O.faults output.new))) map.now settings.now }
-    ensures names { NamesOf result (files_view (F.content files.old) (F.failed_names files.old) (F.faults files.old)) (files_view (F.content files.new) (F.failed_names files.new) (F.faults files.new)) }
+    ensures ends { Ends result (outside (files_view (F.content files.old) (F.reads files.old) (F.failed_names files.old) (F.faults files.old)) (input_view (I.left input.old) (I.taken input.old) (I.faults input.old)) (output_view (O.written output.old) (O.faults output.old)))
+        (outside (files_view (F.content files.new) (F.reads files.new) (F.failed_names files.new) (F.faults files.new)) (input_view (I.left input.new) (I.taken input.new) (I.faults input.new)) (output_view (O.written output.new) (O.faults output.new))) map.now settings.now }
 {
     match read_files(alloc, map, settings, files) {
         Ok((map, settings)) => ask_over(alloc, map, settings.as_slice(), input, output),
@@ -208,9 +207,8 @@ pub fn check<F: Files, O: Sink>(
     files: &mut F,
     output: &mut O,
 ) -> Status
-    ensures ends { (input : InputView) → EndsCheck result (outside (files_view (F.content files.old) (F.failed_names files.old) (F.faults files.old)) input (output_view (O.written output.old) (O.faults output.old)))
-        (outside (files_view (F.content files.new) (F.failed_names files.new) (F.faults files.new)) input (output_view (O.written output.new) (O.faults output.new))) map.now settings.now }
-    ensures names { NamesOf result (files_view (F.content files.old) (F.failed_names files.old) (F.faults files.old)) (files_view (F.content files.new) (F.failed_names files.new) (F.faults files.new)) }
+    ensures ends { (input : InputView) → EndsCheck result (outside (files_view (F.content files.old) (F.reads files.old) (F.failed_names files.old) (F.faults files.old)) input (output_view (O.written output.old) (O.faults output.old)))
+        (outside (files_view (F.content files.new) (F.reads files.new) (F.failed_names files.new) (F.faults files.new)) input (output_view (O.written output.new) (O.faults output.new))) map.now settings.now }
 {
     match read_files(alloc, map, settings, files) {
         Ok((map, settings)) => check_over(alloc, map, settings.as_slice(), output),
@@ -232,9 +230,8 @@ pub fn run<R, F: Files, I: Source, O: Sink, N: Doors, G: Gate>(
     doors: &mut N,
     gate: &G,
 ) -> Status
-    ensures ends { EndsRun (command_of (map string_bytes words.now)) result (outside (files_view (F.content files.old) (F.failed_names files.old) (F.faults files.old)) (input_view (I.left input.old) (I.taken input.old) (I.faults input.old)) (output_view (O.written output.old) (O.faults output.old)))
-        (outside (files_view (F.content files.new) (F.failed_names files.new) (F.faults files.new)) (input_view (I.left input.new) (I.taken input.new) (I.faults input.new)) (output_view (O.written output.new) (O.faults output.new))) }
-    ensures names { NamesOf result (files_view (F.content files.old) (F.failed_names files.old) (F.faults files.old)) (files_view (F.content files.new) (F.failed_names files.new) (F.faults files.new)) }
+    ensures ends { EndsRun (command_of (map string_bytes words.now)) result (outside (files_view (F.content files.old) (F.reads files.old) (F.failed_names files.old) (F.faults files.old)) (input_view (I.left input.old) (I.taken input.old) (I.faults input.old)) (output_view (O.written output.old) (O.faults output.old)))
+        (outside (files_view (F.content files.new) (F.reads files.new) (F.failed_names files.new) (F.faults files.new)) (input_view (I.left input.new) (I.taken input.new) (I.faults input.new)) (output_view (O.written output.new) (O.faults output.new))) }
     ensures outside { result ≡ Status.Outside → Rose (F.faults files.old) (F.faults files.new) ⊎ (Rose (I.faults input.old) (I.faults input.new) ⊎ Rose (O.faults output.old) (O.faults output.new)) }
     ensures doors { N.view doors.new ≡ N.view doors.old }
 {

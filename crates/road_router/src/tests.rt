@@ -48,12 +48,15 @@ const STAR_STRAIGHT: &[u8] =
 const STAR_EXCEPTED: &[u8] =
     b"n1 x0.001 y0\nn2 x0.002 y0.001\nn3 x0.001 y0.002\nn4 x0 y0.001\nn5 x0.001 y0.001\nw1 Thighway=residential Nn1,n5\nw2 Thighway=residential Nn5,n2\nw3 Thighway=residential Nn5,n3\nw4 Thighway=residential Nn4,n5\nr1 Ttype=restriction,restriction=no_left_turn,except=bus;motorcar Mw1@from,n5@via,w4@to\n";
 
+const STAR_STRAIGHT_EXCEPTED: &[u8] =
+    b"n1 x0.001 y0\nn2 x0.002 y0.001\nn3 x0.001 y0.002\nn4 x0 y0.001\nn5 x0.001 y0.001\nw1 Thighway=residential Nn1,n5\nw2 Thighway=residential Nn5,n2\nw3 Thighway=residential Nn5,n3\nw4 Thighway=residential Nn4,n5\nr1 Ttype=restriction,restriction=only_straight_on,except=bus;motorcar Mw1@from,n5@via,w3@to\n";
+
 const STAR_SIGNAL: &[u8] =
     b"n1 x0.001 y0\nn2 x0.002 y0.001\nn3 x0.001 y0.002\nn4 x0 y0.001\nn5 x0.001 y0.001 Thighway=traffic_signals\nw1 Thighway=residential Nn1,n5\nw2 Thighway=residential Nn5,n2\nw3 Thighway=residential Nn5,n3\nw4 Thighway=residential Nn4,n5\n";
 
-// The town with an escaped name, with a way that was deleted, and with a barrier.
+// The town with an escaped name, a changeset and a way that was deleted, and the town with a barrier.
 const TOWN_NAMED: &[u8] =
-    b"n1 x0 y0\nn2 x0 y0.001\nn3 x0.001 y0.001\nw10 Nn1,n2,n3 v7 Tname=Main%20%Street%d%,highway=residential\nw11 dD Thighway=residential Nn1,n3\n";
+    b"n1 x0 y0\nn2 x0 y0.001\nn3 x0.001 y0.001\nw10 Nn1,n2,n3 v7 Tname=Main%20%Street%d%,highway=residential\nc7 k2 d0 uAnn\nw11 dD Thighway=residential Nn1,n3\n";
 
 const TOWN_BARRED: &[u8] =
     b"n1 x0 y0\nn2 x0 y0.001 Tbarrier=bollard\nn3 x0.001 y0.001\nw10 Thighway=residential Nn1,n2,n3\n";
@@ -109,16 +112,21 @@ fn words(alloc: Global, all: &[&str]) -> Result<Vec<String>, AllocError> {
     Ok(words)
 }
 
-fn run_words(
-    rt: &HostRuntime,
-    case: Case<'_>,
-    all: &[&str],
-) -> Result<(Status, MemSink), AllocError> {
-    let alloc = rt.alloc();
+// The files of a case's map and settings.
+fn files_of(alloc: Global, case: Case<'_>) -> Result<MemFiles, AllocError> {
     let mut list = Vec::new(alloc);
     list.push(named(alloc, "town.opl", case.map)?)?;
     list.push(named(alloc, "settings.toml", case.settings)?)?;
-    let mut files = MemFiles::of(alloc, list, Vec::new(alloc));
+    Ok(MemFiles::of(alloc, list, Vec::new(alloc)))
+}
+
+fn run_over(
+    rt: &HostRuntime,
+    case: Case<'_>,
+    all: &[&str],
+    files: &mut MemFiles,
+) -> Result<(Status, MemSink), AllocError> {
+    let alloc = rt.alloc();
     let mut pieces = Vec::new(alloc);
     if case.piece > 0 {
         pieces.push(case.piece)?;
@@ -130,13 +138,22 @@ fn run_words(
         rt,
         alloc,
         words.as_slice(),
-        &mut files,
+        files,
         &mut input,
         &mut output,
         &mut NoDoors::new(),
         &OpenGate,
     );
     Ok((status, output))
+}
+
+fn run_words(
+    rt: &HostRuntime,
+    case: Case<'_>,
+    all: &[&str],
+) -> Result<(Status, MemSink), AllocError> {
+    let mut files = files_of(rt.alloc(), case)?;
+    run_over(rt, case, all, &mut files)
 }
 
 fn ask(rt: &HostRuntime, case: Case<'_>) -> Result<(Status, MemSink), AllocError> {
@@ -226,6 +243,45 @@ fn each_status_has_its_line(rt: HostRuntime) -> Result<(), AllocError> {
 }
 
 #[test]
+fn both_files_are_read_before_they_are_judged(rt: HostRuntime) -> Result<(), AllocError> {
+    let faulty = Case {
+        map: b"n1 x0 y0\nn1 x0 y0\nw",
+        ..Case::over_town(LINE)
+    };
+    let cases: [(&[&str], &[u8], usize); 4] = [
+        (
+            &["ask", "town.opl", "none.toml"],
+            b"cannot read none.toml\n",
+            2,
+        ),
+        (
+            &["check", "town.opl", "none.toml"],
+            b"cannot read none.toml\n",
+            2,
+        ),
+        (
+            &["ask", "none.opl", "none.toml"],
+            b"cannot read none.opl\n",
+            1,
+        ),
+        (
+            &["check", "none.opl", "none.toml"],
+            b"cannot read none.opl\n",
+            1,
+        ),
+    ];
+    for (words, line, reads) in cases {
+        let mut files = files_of(rt.alloc(), faulty)?;
+        let (status, output) = run_over(&rt, faulty, words, &mut files)?;
+        assert_eq!(rt; status, Status::Outside);
+        assert_eq!(rt; output.as_bytes(), line);
+        assert_eq!(rt; files.reads().len(), reads);
+        assert_eq!(rt; files.failed_names().len(), 1);
+    }
+    Ok(())
+}
+
+#[test]
 fn other_words_get_the_usage_line(rt: HostRuntime) -> Result<(), AllocError> {
     let lists: [&[&str]; 4] = [&[], &["ask", "town.opl"], &["check", "--help"], &["serve"]];
     for list in lists {
@@ -251,6 +307,17 @@ fn maps_are_counted(rt: HostRuntime) -> Result<(), AllocError> {
     assert_eq!(rt; status, Status::Ok);
     assert_eq!(rt; output.as_bytes(), COUNTS);
     let (status, output) = run_words(&rt, Case::over_town(LINE), &words)?;
+    assert_eq!(rt; status, Status::Ok);
+    assert_eq!(rt;
+        output.as_bytes(),
+        b"nodes 3\nways 1\nrelations 0\nsegments 2\nvertices 4\nturns 4\nrestrictions 0\nignored 0\n".as_slice()
+    );
+    // Neither the changeset nor the deleted way counts.
+    let named = Case {
+        map: TOWN_NAMED,
+        ..case
+    };
+    let (status, output) = run_words(&rt, named, &words)?;
     assert_eq!(rt; status, Status::Ok);
     assert_eq!(rt;
         output.as_bytes(),
@@ -298,7 +365,7 @@ fn a_map_without_roads_has_no_place(rt: HostRuntime) -> Result<(), AllocError> {
 // What replies over these maps and settings have in them, worked out by hand.
 #[test]
 fn routes_over_small_maps(rt: HostRuntime) -> Result<(), AllocError> {
-    let cases: [(&[u8], &[u8], &[u8], &str); 11] = [
+    let cases: [(&[u8], &[u8], &[u8], &str); 12] = [
         (
             BLOCK,
             SETTINGS,
@@ -331,6 +398,12 @@ fn routes_over_small_maps(rt: HostRuntime) -> Result<(), AllocError> {
         ),
         (
             STAR_EXCEPTED,
+            SETTINGS,
+            SOUTH_TO_WEST,
+            "[{\"distance\":222.2,\"duration\":19.8,",
+        ),
+        (
+            STAR_STRAIGHT_EXCEPTED,
             SETTINGS,
             SOUTH_TO_WEST,
             "[{\"distance\":222.2,\"duration\":19.8,",

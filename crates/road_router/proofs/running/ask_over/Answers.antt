@@ -1,5 +1,5 @@
 -- How answering ends is how the run ends; a refusal is the one of loading.
-use Rattle.std.proofs.Common.{ℕ, List, subst}
+use Rattle.std.proofs.Common.{ℕ, List, refl, subst}
 use Rattle.line_session.specs.Outside.{input_view, output_view, Closes}
 use Rattle.line_session.specs.Publication.{Publication}
 use Rattle.road_router.specs.Ending.{EndsFrom, answered, refused}
@@ -15,5 +15,5 @@ returns-in-Ok-opening g c =
 
 pub returns-in-Err-Refused : goal.returns-in-Err-Refused
 returns-in-Err-Refused g c =
-    refused c.in-Err-Refused.line (rw c.in-Err-Refused.field-0-is at c.in-Err-Refused.ensures.fault) c.end_refused.ensures.status
+    refused c.in-Err-Refused.line (rw c.in-Err-Refused.field-0-is at c.in-Err-Refused.ensures.fault) c.end_refused.ensures.status refl
     (subst (λ (l : List ℕ). Closes (output_view (g.O.Sink.written c.args.output.now) (g.O.Sink.faults c.args.output.now)) (output_view (g.O.Sink.written c.end_refused.new.output) (g.O.Sink.faults c.end_refused.new.output)) l) c.in-Err-Refused.line-is c.end_refused.ensures.put)
