@@ -22,6 +22,7 @@ impl Span {
 /// The head of a request. Spans are places in the bytes that were read.
 #[derive(Clone, Copy, Debug, PartialEq, Eq)]
 pub struct Head {
+    /// The method as it stands, as `GET`.
     pub method: Span,
     /// The target as it stands, still percent-encoded.
     pub target: Span,

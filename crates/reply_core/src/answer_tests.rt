@@ -162,7 +162,7 @@ fn a_route_through_three_coordinates(rt: HostRuntime) -> Result<(), ReplyFault> 
 }
 
 #[test]
-fn refusals_under_a_metric(rt: HostRuntime) -> Result<(), ReplyFault> {
+fn the_first_place_or_leg_that_fails_is_told(rt: HostRuntime) -> Result<(), ReplyFault> {
     for (town, target, text) in [
         (
             LANE,
@@ -189,7 +189,7 @@ fn refusals_under_a_metric(rt: HostRuntime) -> Result<(), ReplyFault> {
 }
 
 #[test]
-fn refusals_of_targets(rt: HostRuntime) -> Result<(), ReplyFault> {
+fn a_refused_target_gets_its_code_and_message(rt: HostRuntime) -> Result<(), ReplyFault> {
     let mut many = String::from_str(rt.alloc(), "/route/v1/car/0,0")?;
     for _ in 0..500 {
         many.push_str(";0,0")?;
@@ -237,7 +237,7 @@ fn refusals_of_targets(rt: HostRuntime) -> Result<(), ReplyFault> {
 }
 
 #[test]
-fn lines(rt: HostRuntime) -> Result<(), ReplyFault> {
+fn a_line_is_get_one_blank_and_a_target(rt: HostRuntime) -> Result<(), ReplyFault> {
     let mut long = String::from_str(rt.alloc(), "GET ")?;
     for _ in 0..8188 {
         long.push_str("/")?;

@@ -123,6 +123,7 @@ impl Walks {
 /// An answer to a target or a line, with its text and what the text tells of.
 #[derive(Drop)]
 pub struct Answer {
+    /// what became of the request, as the text says it
     pub code: Code,
     /// 200 where there is a route, else 400
     pub status: u32,

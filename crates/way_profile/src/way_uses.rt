@@ -6,14 +6,15 @@ ghost use Rattle.way_profile.specs.WayTags.{is_denied, values_at, speed_of, says
 
 use road_base::{Tags, Text};
 
-/// The directions of a way that a vehicle may use, and its speed there in thousandths of km/h. Where the
-/// way is not routable for the vehicle both directions are false, and the speed is 0.
+/// The directions of a way that a vehicle may use, and its speed there. Where the way is not routable for
+/// the vehicle both directions are false, and the speed is 0.
 #[derive(Clone, Copy, Debug, PartialEq, Eq)]
 pub struct WayUse {
     /// Along the way's own direction.
     pub forward: bool,
     /// Against it.
     pub backward: bool,
+    /// In thousandths of km/h.
     pub speed: u32,
 }
 
