@@ -29,6 +29,13 @@ impl Model for Cells {
 }
 
 impl Cells {
+    /// Tells a proof what is true of each partition. It does nothing.
+    pub fn known(&self)
+        ensures { IsKept self.now }
+    {
+        let _ = &self.vertices;
+    }
+
     /// How many vertices there are.
     pub fn vertices(&self) -> u32
         ensures { result ≡ self.now.vertices }

@@ -12,6 +12,7 @@ ghost use Rattle.search_graph.specs.Weighted.{IsWeighting};
 
 use edge_graph::Network;
 use geo_integer::{bearing, length, modifier};
+use cost_lists::{CostList, FullCostList};
 use search_graph::{DurLen, Weights, small_weights};
 use std::alloc::{AllocError, Global};
 use std::marker::Model;
@@ -71,11 +72,11 @@ fn cost(network: &Network, v: u32, decimetres: u64) -> Option<DurLen>
 }
 
 // What each vertex costs. Both directions of a segment are equally long.
-fn vertex_costs(alloc: Global, network: &Network) -> Result<Vec<Option<DurLen>>, AllocError>
-    ensures value { IfOk result (λ costs. costs.items ≡ map vertex_cost (vertices_of network.now)) }
-    ensures unit { IfOk result (λ costs. All (λ o. ForSome o (λ x. durlen_ops.units x 1)) costs.items) }
+fn vertex_costs(alloc: Global, network: &Network) -> Result<CostList<DurLen>, AllocError>
+    ensures value { IfOk result (λ costs. costs ≡ map vertex_cost (vertices_of network.now)) }
+    ensures unit { IfOk result (λ costs. All (λ o. ForSome o (λ x. durlen_ops.units x 1)) costs) }
 {
-    let mut costs = Vec::with_capacity(alloc, 2 * network.segments() as usize)?;
+    let mut costs = CostList::with_capacity(alloc, 2 * network.segments() as usize)?;
     for s in 0..network.segments() {
         let (from, to) = network.ends(s);
         let decimetres = length(from, to);
@@ -152,13 +153,13 @@ fn turn_cost(network: &Network, bearings: &[u32], from: u32, to: u32) -> DurLen
 }
 
 // What each turn costs.
-fn turn_costs(alloc: Global, network: &Network) -> Result<Vec<DurLen>, AllocError>
-    ensures value { IfOk result (λ costs. costs.items ≡ map (turn_cost network.now) network.now.turns) }
-    ensures unit { IfOk result (λ costs. All (λ a. durlen_ops.units a 1) costs.items) }
+fn turn_costs(alloc: Global, network: &Network) -> Result<FullCostList<DurLen>, AllocError>
+    ensures value { IfOk result (λ costs. costs ≡ map (turn_cost network.now) network.now.turns) }
+    ensures unit { IfOk result (λ costs. All (λ a. durlen_ops.units a 1) costs) }
 {
     let bearings = bearings_of(alloc, network)?;
     let graph = network.graph();
-    let mut costs = Vec::with_capacity(alloc, graph.arcs() as usize)?;
+    let mut costs = FullCostList::with_capacity(alloc, graph.arcs() as usize)?;
     for i in 0..graph.arcs() {
         let (from, to) = graph.arc(i);
         costs.push(turn_cost(network, &bearings, from, to))?;

@@ -1,2 +1,2 @@
-mod Arcs
-mod Targets
+pub mod Arcs
+pub mod Targets

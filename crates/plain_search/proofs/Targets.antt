@@ -7,9 +7,9 @@ use Rattle.search_graph.specs.Costs.{CostOps, CostLaws, NoDearer}
 use Rattle.search_graph.specs.Digraph.{Digraph, Weighting, IsOpen}
 use Rattle.search_graph.specs.Walks.{IsBetween, IsLeastWalk, NoneBetween, IsMove}
 use Rattle.search_graph.specs.Weighted.{IsWeighting}
-use Rattle.search_graph.proofs.Order.{plus_le, plus_le_left, plus_le_back, same_from_le}
+use Rattle.search_graph.proofs.Order.{plus_le, plus_le_back}
 use Rattle.search_graph.proofs.Chains.{Chain-valid, Chain-from_zero, Chain-to_more}
-use Rattle.step_search.specs.Spaces.{HasHop}
+use Rattle.step_search.specs.Spaces.{HasHop, IsLeastCost}
 use Rattle.step_search.specs.Paths.{AreStarts, IsPathTo, IsLeastPath, NoPathTo}
 use Rattle.plain_search.specs.ArcSpace.{arc_space}
 use Rattle.plain_search.proofs.Arcs.{IsSpace-arcs, open_cost, move_from_hop, hop_from_move, walk_from_path, path_from_walk}
@@ -53,27 +53,27 @@ module _ {C : Type 0} {ops : CostOps C} (laws : CostLaws ops) (g : Digraph) (w :
           let c : C = p.start.cost in
           let vc : ops.valid c = valid_start p.start p.among in
           let rest = Chain-from_zero laws valid_hop p.start.vertex p.last c p.paid p.middle vc p.goes in
-          let small = (IsSpace-arcs ops g w laws weighting).path_units p.start.vertex p.last rest.0 p.middle p.may rest.1 in
-          let less : C = ops.plus c small.1 in
           let v_rest : ops.valid rest.0 = Chain-valid laws valid_hop p.start.vertex p.last ops.zero rest.0 p.middle laws.zero_valid rest.1 in
-          let v_small : ops.valid small.1 = laws.units_valid small.1 (2 ^ 28) small.4 in
           let v_paid : ops.valid p.paid = valid_paid walk r p in
-          let v_less : ops.valid less = laws.plus_valid c small.1 vc v_small in
-          let other : IsPathTo ops (arc_space ops g w) starts t.vertex (p.start.vertex ∷ (small.0 ++ t.vertex ∷ [])) (ops.plus less s) = record {
-            start = p.start;
-            among = p.among;
-            may = p.may;
-            middle = small.0;
-            last = p.last;
-            paid = less;
-            goes = Chain-to_more laws valid_hop p.start.vertex p.last c small.1 small.0 vc small.2;
-            joins = (s, p.joins.1, refl);
-            is_walk = refl;
-          } in
-          let le : NoDearer ops (ops.plus p.paid s) (ops.plus less s) = subst (λ x. NoDearer ops x (ops.plus less s)) p.joins.2 (path.least _ (ops.plus less s) other) in
-          let cheaper : NoDearer ops less p.paid = subst (λ x. NoDearer ops less x) (sym rest.2) (plus_le_left laws small.1 rest.0 c v_small v_rest vc small.3) in
-          let same : p.paid ≡ less = same_from_le laws p.paid less v_paid v_less (plus_le_back laws p.paid less s v_paid v_less vs le) cheaper in
-          subst (λ x. ops.units x (1 + 2 ^ 28)) (sym same) (laws.plus_units c small.1 1 (2 ^ 28) (fit p.start p.among).1 small.4)
+          let least : IsLeastCost ops (arc_space ops g w) p.start.vertex p.last rest.0 = λ ws e q.
+              let v_e : ops.valid e = Chain-valid laws valid_hop p.start.vertex p.last ops.zero e ws laws.zero_valid q in
+              let v_less : ops.valid (ops.plus c e) = laws.plus_valid c e vc v_e in
+              let other : IsPathTo ops (arc_space ops g w) starts t.vertex (p.start.vertex ∷ (ws ++ t.vertex ∷ [])) (ops.plus (ops.plus c e) s) = record {
+                start = p.start;
+                among = p.among;
+                may = p.may;
+                middle = ws;
+                last = p.last;
+                paid = ops.plus c e;
+                goes = Chain-to_more laws valid_hop p.start.vertex p.last c e ws vc q;
+                joins = (s, p.joins.1, refl);
+                is_walk = refl;
+              } in
+              let le : NoDearer ops (ops.plus p.paid s) (ops.plus (ops.plus c e) s) = subst (λ x. NoDearer ops x (ops.plus (ops.plus c e) s)) p.joins.2 (path.least _ (ops.plus (ops.plus c e) s) other) in
+              let before : NoDearer ops (ops.plus c rest.0) (ops.plus c e) = subst (λ x. NoDearer ops x (ops.plus c e)) rest.2 (plus_le_back laws p.paid (ops.plus c e) s v_paid v_less vs le) in
+              plus_le_back laws rest.0 e c v_rest v_e vc (rw (laws.comm rest.0 c v_rest vc, laws.comm e c v_e vc) before) in
+          let small : ops.units rest.0 (2 ^ 28) = (IsSpace-arcs ops g w laws weighting).least_units p.start.vertex p.last rest.0 p.middle p.may rest.1 least in
+          subst (λ x. ops.units x (1 + 2 ^ 28)) (sym rest.2) (laws.plus_units c rest.0 1 (2 ^ 28) (fit p.start p.among).1 small)
 
       -- what a cheapest path pays before its last vertex, which costs x: with the target's cost it is what a walk costs
       before : (x : C) → IsOpen w t.vertex x →

@@ -1,5 +1,5 @@
 -- The arcs of a graph as the steps of a search.
-use Rattle.std.specs.Prelude.{◌≡◌, Some}
+use Rattle.std.specs.Prelude.{◌≡◌, Some, []}
 use Rattle.std.specs.List.{slice_get}
 use Rattle.search_graph.specs.Costs.{CostOps}
 use Rattle.search_graph.specs.Digraph.{Digraph, Weighting, IsArc, IsOpen, Leaves}
@@ -13,6 +13,6 @@ arc_space {C} ops g w = record {
   May = λ v. (x : C) × IsOpen w v x;
   Name = λ v i. Leaves g i v;
   Arc = λ u i v s. (a : C) × (x : C) × IsArc g i u v × (slice_get w.arc i ≡ Some a) × IsOpen w v x × (s ≡ ops.plus a x);
-  row = λ u. 0;
-  Row = λ u j v s. ⊥;
+  heads = λ u. [];
+  Costs = λ u j s. ⊥;
 }

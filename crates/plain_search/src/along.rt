@@ -6,12 +6,13 @@ ghost use Rattle.std.specs.List.{Contains};
 ghost use Rattle.search_graph.specs.Weighted.{IsWeighting};
 ghost use Rattle.plain_search.specs.ArcSpace.{arc_space};
 
+use cost_lists::CostRow;
 use search_graph::{Cost, Graph, Weights};
 use step_search::{Hop, Steps};
 
 /// A graph and its weights. An arc is a step to its head where that is open, and costs the arc and the head.
 #[derive(Drop)]
-pub struct Along<'a, C> {
+pub struct Along<'a, C: Cost> {
     pub graph: &'a Graph,
     pub weights: &'a Weights<C>,
 }
@@ -41,14 +42,13 @@ impl<'a, C: Cost> Steps<C> for Along<'a, C> {
         }
     }
 
-    fn row(&self, v: u32) -> u32 {
+    fn heads(&self, v: u32) -> &[u32] {
         let _ = v;
-        0
+        &[]
     }
 
-    fn by_row(&self, v: u32, j: u32) -> Option<Hop<C>> {
+    fn costs(&self, v: u32) -> CostRow<'_, C> {
         let _ = v;
-        let _ = j;
-        None
+        CostRow::empty()
     }
 }

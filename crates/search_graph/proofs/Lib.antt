@@ -4,5 +4,5 @@ pub mod ShortChains
 pub mod Gets
 mod Chaining
 mod Filling
-mod OutArcs
+pub mod OutArcs
 mod Weighing

@@ -4,5 +4,6 @@ pub mod Digraph
 pub mod Durations
 pub mod Faults
 pub mod Indexed
+pub mod Shortened
 pub mod Walks
 pub mod Weighted

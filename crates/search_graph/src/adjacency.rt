@@ -77,6 +77,22 @@ impl Graph {
         })
     }
 
+    /// A copy.
+    pub fn copy(&self, alloc: Global) -> Result<Graph, AllocError>
+        ensures same { IfOk result (λ g. g ≡ self.now) }
+        ensures in_range { OnOk result (AllInRange self.now.vertices self.now.arcs) }
+    {
+        let arcs = self.arcs.to_vec(alloc)?;
+        let first = self.first.to_vec(alloc)?;
+        let order = self.order.to_vec(alloc)?;
+        Ok(Graph {
+            vertices: self.vertices,
+            arcs,
+            first,
+            order,
+        })
+    }
+
     /// How many vertices there are.
     pub fn vertices(&self) -> u32
         ensures { result ≡ self.now.vertices }

@@ -3,11 +3,14 @@
 ghost use Rattle.std.specs.Prelude.{◌≡◌, ◌^◌, refl};
 ghost use Rattle.search_graph.specs.Costs.{CostOps, CostLaws};
 ghost use Rattle.search_graph.specs.Durations.{durlen_ops, durlen_laws};
+ghost use Rattle.search_graph.specs.Shortened.{durlen_narrowed, durlen_widened, durlen_lossless};
+
+use cost_lists::Narrow;
 
 /// What a walk costs. Costs add up, and are in one order, under the laws of `CostLaws`.
 ///
 /// A sum may not pass 2^31 units; how large a unit is, the type says.
-pub trait Cost: Copy + Ord {
+pub trait Cost: Narrow + Ord {
     ghost ops: { CostOps Self };
 
     ghost ZERO: { Self };
@@ -78,6 +81,38 @@ impl Cost for DurLen {
         DurLen {
             duration: self.duration - part.duration,
             length: self.length - part.length,
+        }
+    }
+}
+
+// Of the word's two parts, the length.
+const LENGTHS: u64 = 4294967296;
+
+// The durations that are short enough: 2^31 deciseconds, some seven years.
+const DURATIONS: u64 = 2147483648;
+
+/// A duration below 2^31 deciseconds with a length below 2^32 decimetres.
+impl Narrow for DurLen {
+    ghost narrowed = { durlen_narrowed };
+
+    ghost widened = { durlen_widened };
+
+    ghost lossless = { durlen_lossless };
+
+    #[inline(always)]
+    fn narrow(self) -> Option<u64> {
+        if self.duration < DURATIONS && self.length < LENGTHS {
+            Some(self.duration * LENGTHS + self.length)
+        } else {
+            None
+        }
+    }
+
+    #[inline(always)]
+    fn widen(word: u64) -> DurLen {
+        DurLen {
+            duration: word / LENGTHS,
+            length: word % LENGTHS,
         }
     }
 }

@@ -15,10 +15,13 @@ mod costs;
 mod ends;
 mod indexing;
 #[cfg(test)]
+mod list_tests;
+#[cfg(test)]
 mod tests;
 mod weighting;
 
 pub use adjacency::{Graph, GraphFault};
 pub use costs::{Cost, DurLen};
 pub use ends::{Start, Target};
+pub use indexing::{Index, index_arcs};
 pub use weighting::{Weights, small_weights};

@@ -8,30 +8,31 @@ ghost use Rattle.search_graph.specs.Weighted.{IsWeighting};
 
 use crate::adjacency::Graph;
 use crate::costs::Cost;
+use cost_lists::{CostList, FullCostList, Narrow};
 use std::marker::Model;
 
 /// What each vertex and each arc of a graph costs. A vertex without a cost is closed.
 ///
 /// It costs the size of an `Option<C>` a vertex and of a `C` an arc.
 #[derive(Drop)]
-pub struct Weights<C> {
-    vertex: Vec<Option<C>>,
-    arc: Vec<C>,
+pub struct Weights<C: Narrow> {
+    vertex: CostList<C>,
+    arc: FullCostList<C>,
 }
 
-impl<C> Model for Weights<C> {
+impl<C: Narrow> Model for Weights<C> {
     ghost use Rattle.search_graph.specs.Digraph.{Weighting};
 
     ghost Value = { Weighting C };
 
-    ghost view = { λ w. record { vertex = w.vertex.items; arc = w.arc.items } };
+    ghost view = { λ w. record { vertex = w.vertex; arc = w.arc } };
 }
 
 impl<C: Cost> Weights<C> {
     /// The weights of a graph, where they are a weighting of it.
-    pub fn of(graph: &Graph, vertex: Vec<Option<C>>, arc: Vec<C>) -> Weights<C>
-        requires { IsWeighting C.ops graph.now (record { vertex = vertex.items; arc = arc.items }) }
-        ensures { result ≡ record { vertex = vertex.items; arc = arc.items } }
+    pub fn of(graph: &Graph, vertex: CostList<C>, arc: FullCostList<C>) -> Weights<C>
+        requires { IsWeighting C.ops graph.now (record { vertex = vertex; arc = arc }) }
+        ensures { result ≡ record { vertex = vertex; arc = arc } }
     {
         let _ = graph;
         Weights { vertex, arc }
@@ -42,7 +43,7 @@ impl<C: Cost> Weights<C> {
         requires { v < length self.now.vertex }
         ensures { slice_get self.now.vertex v ≡ Some result }
     {
-        self.vertex[v as usize]
+        self.vertex.get(v as usize)
     }
 
     /// What arc `i` costs.
@@ -50,19 +51,19 @@ impl<C: Cost> Weights<C> {
         requires { i < length self.now.arc }
         ensures { slice_get self.now.arc i ≡ Some result }
     {
-        self.arc[i as usize]
+        self.arc.get(i as usize)
     }
 }
 
 /// The weights of a graph of at most 2^27 vertices where each cost is within one unit. Such weights are
 /// always a weighting.
-pub fn small_weights<C: Cost>(graph: &Graph, vertex: Vec<Option<C>>, arc: Vec<C>) -> Weights<C>
+pub fn small_weights<C: Cost>(graph: &Graph, vertex: CostList<C>, arc: FullCostList<C>) -> Weights<C>
     requires few { graph.now.vertices ≤ 2 ^ 27 }
-    requires vertices { length vertex.items ≡ graph.now.vertices }
-    requires arcs { length arc.items ≡ length graph.now.arcs }
-    requires vertex_unit { All (λ o. ForSome o (λ x. C.ops.units x 1)) vertex.items }
-    requires arc_unit { All (λ a. C.ops.units a 1) arc.items }
-    ensures value { result ≡ record { vertex = vertex.items; arc = arc.items } }
+    requires vertices { length vertex ≡ graph.now.vertices }
+    requires arcs { length arc ≡ length graph.now.arcs }
+    requires vertex_unit { All (λ o. ForSome o (λ x. C.ops.units x 1)) vertex }
+    requires arc_unit { All (λ a. C.ops.units a 1) arc }
+    ensures value { result ≡ record { vertex = vertex; arc = arc } }
     ensures weighting { IsWeighting C.ops graph.now result }
 {
     Weights::of(graph, vertex, arc)

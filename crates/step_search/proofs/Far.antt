@@ -4,9 +4,9 @@ use Rattle.std.specs.List.{Contains, slice_get}
 use Rattle.std.proofs.lemmas.Option.{same_Some}
 use Rattle.search_graph.specs.Costs.{CostOps, CostLaws, NoDearer}
 use Rattle.search_graph.specs.declared.ends.Start.{Start}
-use Rattle.search_graph.proofs.Order.{le_trans, same_from_le, plus_le, plus_le_left, plus_grows}
+use Rattle.search_graph.proofs.Order.{le_trans, plus_le, plus_le_back, plus_grows}
 use Rattle.search_graph.proofs.Chains.{Chain-push, Chain-valid, Chain-grows, Chain-from_zero, Chain-to_more}
-use Rattle.step_search.specs.Spaces.{Space, HasHop, StepBy, Path, IsSpace}
+use Rattle.step_search.specs.Spaces.{Space, HasHop, StepBy, Path, IsSpace, IsLeastCost}
 use Rattle.step_search.specs.Paths.{AreStarts, IsPathTo}
 use Rattle.step_search.specs.Progress.{ComesFrom, IsTree, LabelWithin, Expanded, NodesExpanded, StartsIn, IsFront}
 use Rattle.step_search.specs.declared.labels.Label.{Label}
@@ -102,21 +102,22 @@ module _ {C : Type 0} {ops : CostOps C} (laws : CostLaws ops) (S : Space C) (spa
             let z = Chain-from_zero laws hop_valid b.vertex m.vertex b.cost m.cost w.3 vb w.4 in
             let d0 : C = z.0 in
             let vd0 : ops.valid d0 = Chain-valid laws hop_valid b.vertex m.vertex ops.zero d0 w.3 laws.zero_valid z.1 in
-            let small = space.path_units b.vertex m.vertex d0 w.3 w.2 z.1 in
-            let e : C = small.1 in
-            let ve : ops.valid e = laws.units_valid e (2 ^ 28) small.4 in
-            let x : C = ops.plus (ops.plus b.cost e) s in
-            let vbe : ops.valid (ops.plus b.cost e) = laws.plus_valid b.cost e vb ve in
-            let vx : ops.valid (ops.plus (ops.plus b.cost e) s) = laws.plus_valid (ops.plus b.cost e) s vbe vs in
-            let p : Path ops S b.vertex b.cost small.0 m.vertex (ops.plus b.cost e) = Chain-to_more laws hop_valid b.vertex m.vertex b.cost e small.0 vb small.2 in
-            let upper : NoDearer ops l.cost (ops.plus (ops.plus b.cost e) s) = elim (hop_far b w.1 w.2 m.vertex v (ops.plus b.cost e) (ops.plus (ops.plus b.cost e) s) small.0 p (s, step.1, refl)) [
-              | inl f ↦ let q : f.0 ≡ l = same_Some f.0 l (sym f.1 ∙ has) in subst (λ (y : Label C). NoDearer ops y.cost (ops.plus (ops.plus b.cost e) s)) q f.2
-              | inr f ↦ within (ops.plus (ops.plus b.cost e) s) f
-            ] in
             let vm : ops.valid m.cost = node_valid l.node m lab.1 in
-            let below : NoDearer ops (ops.plus b.cost e) m.cost = subst (λ (y : C). NoDearer ops (ops.plus b.cost e) y) (sym z.2) (plus_le_left laws e d0 b.cost ve vd0 vb small.3) in
-            let lower : NoDearer ops (ops.plus (ops.plus b.cost e) s) l.cost = subst (λ (y : C). NoDearer ops (ops.plus (ops.plus b.cost e) s) y) (sym step.2) (plus_le laws (ops.plus b.cost e) m.cost s vbe vm vs below) in
-            let vl : ops.valid l.cost = subst ops.valid (sym step.2) (laws.plus_valid m.cost s vm vs) in
-            let same : l.cost ≡ ops.plus (ops.plus b.cost e) s = same_from_le laws l.cost (ops.plus (ops.plus b.cost e) s) vl vx upper lower in
-            let few : ops.units (ops.plus (ops.plus b.cost e) s) (1 + 2 ^ 28 + 2 ^ 29) = laws.plus_units (ops.plus b.cost e) s (1 + 2 ^ 28) (2 ^ 29) (laws.plus_units b.cost e 1 (2 ^ 28) (fit b w.1).1 small.4) (space.hop_units m.vertex v s step.1) in
-            subst (λ (y : C). ops.units y (2 ^ 30)) (sym same) (laws.units_more (ops.plus (ops.plus b.cost e) s) (1 + 2 ^ 28 + 2 ^ 29) (2 ^ 30) few (omega arith))
+            let is_cost : l.cost ≡ ops.plus m.cost s = step.2 in
+            let least : IsLeastCost ops S b.vertex m.vertex d0 = λ ws e p.
+                let ve : ops.valid e = Chain-valid laws hop_valid b.vertex m.vertex ops.zero e ws laws.zero_valid p in
+                let vbe : ops.valid (ops.plus b.cost e) = laws.plus_valid b.cost e vb ve in
+                let q : Path ops S b.vertex b.cost ws m.vertex (ops.plus b.cost e) = Chain-to_more laws hop_valid b.vertex m.vertex b.cost e ws vb p in
+                let upper : NoDearer ops l.cost (ops.plus (ops.plus b.cost e) s) = elim (hop_far b w.1 w.2 m.vertex v (ops.plus b.cost e) (ops.plus (ops.plus b.cost e) s) ws q (s, step.1, refl)) [
+                  | inl f ↦ let q : f.0 ≡ l = same_Some f.0 l (sym f.1 ∙ has) in subst (λ (y : Label C). NoDearer ops y.cost (ops.plus (ops.plus b.cost e) s)) q f.2
+                  | inr f ↦ within (ops.plus (ops.plus b.cost e) s) f
+                ] in
+                let all : NoDearer ops (ops.plus m.cost s) (ops.plus (ops.plus b.cost e) s) = subst (λ (y : C). NoDearer ops y (ops.plus (ops.plus b.cost e) s)) is_cost upper in
+                let before : NoDearer ops m.cost (ops.plus b.cost e) = plus_le_back laws m.cost (ops.plus b.cost e) s vm vbe vs all in
+                let begun : NoDearer ops (ops.plus b.cost d0) (ops.plus b.cost e) = subst (λ (y : C). NoDearer ops y (ops.plus b.cost e)) z.2 before in
+                let turned : NoDearer ops (ops.plus d0 b.cost) (ops.plus e b.cost) = rw (laws.comm d0 b.cost vd0 vb, laws.comm e b.cost ve vb) begun in
+                plus_le_back laws d0 e b.cost vd0 ve vb turned in
+            let small : ops.units d0 (2 ^ 28) = space.least_units b.vertex m.vertex d0 w.3 w.2 z.1 least in
+            let same : l.cost ≡ ops.plus (ops.plus b.cost d0) s = is_cost ∙ ap (λ (y : C). ops.plus y s) z.2 in
+            let few : ops.units (ops.plus (ops.plus b.cost d0) s) (1 + 2 ^ 28 + 2 ^ 29) = laws.plus_units (ops.plus b.cost d0) s (1 + 2 ^ 28) (2 ^ 29) (laws.plus_units b.cost d0 1 (2 ^ 28) (fit b w.1).1 small) (space.hop_units m.vertex v s step.1) in
+            subst (λ (y : C). ops.units y (2 ^ 30)) (sym same) (laws.units_more (ops.plus (ops.plus b.cost d0) s) (1 + 2 ^ 28 + 2 ^ 29) (2 ^ 30) few (omega arith))

@@ -14,6 +14,7 @@ use crate::hops::{Hop, Steps};
 use crate::labels::{Label, Labels};
 use crate::links::Link;
 use crate::queue::Queue;
+use cost_lists::CostRow;
 use search_graph::{Cost, Start};
 use std::alloc::{AllocError, Global};
 
@@ -224,10 +225,12 @@ impl<C: Cost> Search<C> {
         requires at_work { IsAtWork C.ops (T.space steps.now) self.old at node }
         ensures at_work { OnOk result (IsAtWork C.ops (T.space steps.now) self.new at node) }
         ensures falls { OnOk result (OnlyFalls C.ops self.old self.new) }
-        ensures found { OnOk result ((j w : ℕ) (s : _) → j < (T.space steps.now).row node.vertex → (T.space steps.now).Row node.vertex j w s → LabelWithin C.ops (label_of self.new.labels) w (C.ops.plus node.cost s)) }
+        ensures found { OnOk result ((j w : ℕ) (s : _) → slice_get ((T.space steps.now).heads node.vertex) j ≡ Some w → (T.space steps.now).Costs node.vertex j s → LabelWithin C.ops (label_of self.new.labels) w (C.ops.plus node.cost s)) }
     {
-        for place in 0..steps.row(node.vertex) {
-            self.relax_place(steps, at, node, place)?;
+        let heads = steps.heads(node.vertex);
+        let costs = steps.costs(node.vertex);
+        for place in 0..heads.len() {
+            self.relax_place(steps, at, node, heads, &costs, place)?;
         }
         Ok(())
     }
@@ -256,24 +259,29 @@ impl<C: Cost> Search<C> {
         }
     }
 
-    // Offers a label along one place of the row.
+    // Offers a label along one place of the row, where it has a cost.
     fn relax_place<T: Steps<C>>(
         &mut self,
         steps: &T,
         at: usize,
         node: Node<C>,
-        place: u32,
+        heads: &[u32],
+        costs: &CostRow<'_, C>,
+        place: usize,
     ) -> Result<(), AllocError>
-        requires ready { T.ready steps.now }
         requires at_work { IsAtWork C.ops (T.space steps.now) self.old at node }
-        requires place { place < (T.space steps.now).row node.vertex }
+        requires heads { heads.now ≡ (T.space steps.now).heads node.vertex }
+        requires costs { (j : ℕ) (s : _) → slice_get costs.now j ≡ Some (Some s) → (T.space steps.now).Costs node.vertex j s }
+        requires place { place < length heads.now }
         ensures at_work { OnOk result (IsAtWork C.ops (T.space steps.now) self.new at node) }
         ensures falls { OnOk result (OnlyFalls C.ops self.old self.new) }
-        ensures found { OnOk result ((w : ℕ) (s : _) → (T.space steps.now).Row node.vertex place w s → LabelWithin C.ops (label_of self.new.labels) w (C.ops.plus node.cost s)) }
+        ensures found { OnOk result ((w : ℕ) (s : _) → slice_get heads.now place ≡ Some w → slice_get costs.now place ≡ Some (Some s) → LabelWithin C.ops (label_of self.new.labels) w (C.ops.plus node.cost s)) }
     {
-        match steps.by_row(node.vertex, place) {
-            Some(hop) => {
-                self.offer(at, node.cost, hop)?;
+        let _ = steps;
+        match cost_at(costs, place) {
+            Some(cost) => {
+                let head = heads[place];
+                self.offer(at, node.cost, Hop { head, cost })?;
                 Ok(())
             }
             None => Ok(()),
@@ -310,6 +318,17 @@ impl<C: Cost> Search<C> {
             None => true,
         }
     }
+}
+
+// What a place of a row costs.
+fn cost_at<C: Cost>(costs: &CostRow<'_, C>, place: usize) -> Option<C>
+    ensures some { IfSome result (λ s. slice_get costs.now place ≡ Some (Some s)) }
+    ensures all { (s : _) → slice_get costs.now place ≡ Some (Some s) → result ≡ Some s }
+{
+    if place >= costs.len() {
+        return None;
+    }
+    costs.get(place)
 }
 
 // The vertices of the walk that the node at `at` stands for.

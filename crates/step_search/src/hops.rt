@@ -2,8 +2,10 @@
 
 ghost use Rattle.std.specs.Prelude.{◌≡◌, ℕ, ◌<◌, IfSome, Some};
 ghost use Rattle.std.specs.Bool.{OnTrue, OnFalse};
-ghost use Rattle.std.specs.List.{Contains};
+ghost use Rattle.std.specs.List.{Contains, slice_get};
 ghost use Rattle.step_search.specs.Spaces.{Space};
+
+use cost_lists::{CostRow, Narrow};
 
 /// A hop out of a vertex: to `head`, at `cost`, which has the cost of the head in it.
 #[derive(Clone, Copy, Drop)]
@@ -16,7 +18,7 @@ pub struct Hop<C> {
 ///
 /// There are two kinds: arcs, which have names of the caller's, and the places of a row, which are counted
 /// from 0. A space may have one kind alone.
-pub trait Steps<C> {
+pub trait Steps<C: Narrow> {
     ghost space: { Self → Space C };
 
     ghost ready: { Self → Type 0 };
@@ -43,16 +45,17 @@ pub trait Steps<C> {
         ensures some { IfSome result (λ h. (space self.now).Arc v i h.head h.cost) }
         ensures all { (w : ℕ) (s : C) → (space self.now).Arc v i w s → result ≡ Some (record { head = w; cost = s }) };
 
-    /// How many places the row out of `v` has.
-    fn row(&self, v: u32) -> u32
+    /// Where the places of the row out of `v` lead.
+    fn heads(&self, v: u32) -> &[u32]
         requires ready { ready self.now }
         requires vertex { v < (space self.now).vertices }
-        ensures { result ≡ (space self.now).row v };
+        ensures { result.now ≡ (space self.now).heads v };
 
-    /// The hop out of `v` by place `j` of its row, or none where that way is closed.
-    fn by_row(&self, v: u32, j: u32) -> Option<Hop<C>>
+    /// What the places of the row out of `v` cost, with their heads; none where that way is closed. It may be shorter
+    /// than the list of heads, which then has closed places at its end.
+    fn costs(&self, v: u32) -> CostRow<'_, C>
         requires ready { ready self.now }
         requires vertex { v < (space self.now).vertices }
-        ensures some { IfSome result (λ h. (space self.now).Row v j h.head h.cost) }
-        ensures all { (w : ℕ) (s : C) → (space self.now).Row v j w s → result ≡ Some (record { head = w; cost = s }) };
+        ensures some { (j : ℕ) (s : C) → slice_get result j ≡ Some (Some s) → (space self.now).Costs v j s }
+        ensures all { (j : ℕ) (s : C) → (space self.now).Costs v j s → slice_get result j ≡ Some (Some s) };
 }

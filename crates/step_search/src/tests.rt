@@ -1,12 +1,31 @@
 // A ring of six vertices, of which vertex 3 is closed: an arc leads one further, and a row of one place two further.
-ghost use Rattle.std.specs.Prelude.{◌≡◌, ◌≢◌, ℕ, ◌+◌, ◌%◌, ◌<◌};
+ghost use Rattle.std.specs.Prelude.{◌≡◌, ◌≢◌, ℕ, ◌+◌, ◌%◌, ◌<◌, [], ◌∷◌, Some, IfOk};
+ghost use Rattle.std.specs.List.{slice_range};
 ghost use Rattle.search_graph.specs.declared.costs.DurLen.{DurLen};
 
 use crate::{Hop, Steps, least};
+use cost_lists::{CostList, CostRow};
 use search_graph::{DurLen, Start};
-use std::alloc::AllocError;
+use std::alloc::{AllocError, Global};
 
-struct Ring;
+// Where each vertex's row leads, and what its place costs where that is open.
+#[derive(Drop)]
+struct Ring {
+    heads: [u32; 6],
+    costs: CostList<DurLen>,
+}
+
+fn ring_of_six(alloc: Global) -> Result<Ring, AllocError>
+    ensures heads { IfOk result (λ r. r.heads ≡ 2 ∷ 3 ∷ 4 ∷ 5 ∷ 0 ∷ 1 ∷ []) }
+    ensures costs { IfOk result (λ r. r.costs ≡ Some (record { duration = 5; length = 2 }) ∷ []) }
+{
+    let mut costs = CostList::new(alloc);
+    costs.push(Some(cost(5, 2)))?;
+    Ok(Ring {
+        heads: [2, 3, 4, 5, 0, 1],
+        costs,
+    })
+}
 
 fn cost(duration: u64, length: u64) -> DurLen
     ensures { result ≡ record { duration = duration; length = length } }
@@ -20,11 +39,11 @@ impl Steps<DurLen> for Ring {
       May = λ v. (v < 6) × (v ≢ 3);
       Name = λ u i. i ≡ 0;
       Arc = λ u i v c. (i ≡ 0) × (v ≡ (u + 1) % 6) × (v ≢ 3) × (c.duration ≡ 3) × (c.length ≡ 1);
-      row = λ u. 1;
-      Row = λ u j v c. (j ≡ 0) × (v ≡ (u + 2) % 6) × (v ≢ 3) × (c.duration ≡ 5) × (c.length ≡ 2);
+      heads = λ u. slice_range (2 ∷ 3 ∷ 4 ∷ 5 ∷ 0 ∷ 1 ∷ []) u (u + 1);
+      Costs = λ u j c. (j ≡ 0) × (u ≢ 1) × (c.duration ≡ 5) × (c.length ≡ 2);
     } };
 
-    ghost ready = { λ s. Unit {0} };
+    ghost ready = { λ s. (s.heads ≡ 2 ∷ 3 ∷ 4 ∷ 5 ∷ 0 ∷ 1 ∷ []) × (s.costs ≡ Some (record { duration = 5; length = 2 }) ∷ []) };
 
     fn may_begin(&self, v: u32) -> bool {
         v != 3
@@ -47,20 +66,15 @@ impl Steps<DurLen> for Ring {
         })
     }
 
-    fn row(&self, v: u32) -> u32 {
-        let _ = v;
-        1
+    fn heads(&self, v: u32) -> &[u32] {
+        &self.heads[v as usize..v as usize + 1]
     }
 
-    fn by_row(&self, v: u32, j: u32) -> Option<Hop<DurLen>> {
-        let head = (v + 2) % 6;
-        if j != 0 || head == 3 {
-            return None;
+    fn costs(&self, v: u32) -> CostRow<'_, DurLen> {
+        if v == 1 {
+            return CostRow::empty();
         }
-        Some(Hop {
-            head,
-            cost: cost(5, 2),
-        })
+        self.costs.row(0, 1)
     }
 }
 
@@ -70,7 +84,8 @@ fn the_cheapest_way_round_leaves_out_the_closed_vertex(rt: HostRuntime) -> Resul
         vertex: 0,
         cost: cost(1, 0),
     }];
-    let found = least(rt.alloc(), &Ring, &starts, &[0, 3])?;
+    let ring = ring_of_six(rt.alloc())?;
+    let found = least(rt.alloc(), &ring, &starts, &[0, 3])?;
     assert!(rt; found[1].is_none());
     match &found[0] {
         Some(round) => {

@@ -12,7 +12,7 @@ loop-i-preserved c =
     let at : slice_get c.args.network.now.turns c.loop-i.i ≡ Some (c.arc-from.result.0, c.arc-from.result.1) =
     ap (λ (g : Digraph). slice_get g.arcs c.loop-i.i) (sym c.graph-graph.ensures.value) ∙ c.arc-from.ensures.is in
     record {
-      rest = turn-step (turn_cost c.args.network.now) c.args.network.now.turns c.loop-i.i c.arc-from.result.0 c.arc-from.result.1 c.loop-i.costs.items c.push.new.self.items c.turn_cost.result _
-          at c.turn_cost.ensures.value c.in_ok-push.ensures.items c.loop-i.invariant.rest;
-      unit = rw c.in_ok-push.ensures.items (All-push (λ a. durlen_ops.units a 1) c.loop-i.costs.items c.turn_cost.result c.loop-i.invariant.unit c.turn_cost.ensures.unit);
+      rest = turn-step (turn_cost c.args.network.now) c.args.network.now.turns c.loop-i.i c.arc-from.result.0 c.arc-from.result.1 c.loop-i.costs c.push.new.self c.turn_cost.result _
+          at c.turn_cost.ensures.value c.in_ok-push.ensures.pushed c.loop-i.invariant.rest;
+      unit = rw c.in_ok-push.ensures.pushed (All-push (λ a. durlen_ops.units a 1) c.loop-i.costs c.turn_cost.result c.loop-i.invariant.unit c.turn_cost.ensures.unit);
     }

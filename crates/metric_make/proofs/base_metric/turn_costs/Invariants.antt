@@ -6,6 +6,6 @@ use Rattle.metric_make.proofs.base_metric.turn_costs.Given as goal
 -- the turns so far have their costs
 abbrev pub invariant-loop-i : goal.invariant-loop-i
 invariant-loop-i l = record {
-  rest : l.costs.items ++ map (turn_cost l.network) (drop l.i l.network.turns) ≡ map (turn_cost l.network) l.network.turns;
-  unit : All (λ a. durlen_ops.units a 1) l.costs.items;
+  rest : l.costs ++ map (turn_cost l.network) (drop l.i l.network.turns) ≡ map (turn_cost l.network) l.network.turns;
+  unit : All (λ a. durlen_ops.units a 1) l.costs;
 }

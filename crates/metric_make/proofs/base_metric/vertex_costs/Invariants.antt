@@ -8,6 +8,6 @@ use Rattle.metric_make.proofs.base_metric.vertex_costs.Given as goal
 -- the segments so far have their costs
 abbrev pub invariant-loop-s : goal.invariant-loop-s
 invariant-loop-s l = record {
-  rest : l.costs.items ++ map vertex_cost (vertices (drop l.s l.network.segments)) ≡ map vertex_cost (vertices l.network.segments);
-  unit : All (λ o. ForSome o (λ x. durlen_ops.units x 1)) l.costs.items;
+  rest : l.costs ++ map vertex_cost (vertices (drop l.s l.network.segments)) ≡ map vertex_cost (vertices l.network.segments);
+  unit : All (λ o. ForSome o (λ x. durlen_ops.units x 1)) l.costs;
 }

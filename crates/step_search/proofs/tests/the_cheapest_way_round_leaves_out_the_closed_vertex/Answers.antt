@@ -1,10 +1,17 @@
 -- The hops of the ring cost at most one unit, so that its paths fit.
-use Rattle.std.proofs.Common.{◌≡◌, ◌≢◌, ℕ, ◌+◌, ◌*◌, ◌%◌, ◌^◌, ◌<◌, ◌≤◌, inl, inr, arith}
+use Rattle.std.proofs.Common.{◌≡◌, ◌≢◌, ℕ, ◌+◌, ◌*◌, ◌%◌, ◌^◌, ◌<◌, ◌≤◌, ◌-◌, inl, inr, arith, List, [], ◌∷◌, Some, All, drop, subst}
+use Rattle.std.specs.List.{slice_get, slice_range}
+use Rattle.std.proofs.lemmas.List.Elements.{All-cons, All-nil, All-take, All-drop}
+use Rattle.search_graph.proofs.Gets.{All_get}
+use Rattle.search_graph.proofs.Order.{same_from_le}
 use Rattle.search_graph.specs.declared.costs.DurLen.{DurLen}
 use Rattle.search_graph.specs.Durations.{durlen_ops, durlen_laws}
 use Rattle.search_graph.proofs.ShortChains.{Chain-short}
 use Rattle.step_search.specs.Spaces.{Space, HasHop}
 use Rattle.step_search.proofs.tests.the_cheapest_way_round_leaves_out_the_closed_vertex.Goals as goal
+
+abbrev six : List ℕ
+six = 2 ∷ 3 ∷ 4 ∷ 5 ∷ 0 ∷ 1 ∷ []
 
 abbrev ring : Space DurLen
 ring = record {
@@ -12,8 +19,8 @@ ring = record {
   May = λ v. (v < 6) × (v ≢ 3);
   Name = λ u i. i ≡ 0;
   Arc = λ u i v c. (i ≡ 0) × (v ≡ (u + 1) % 6) × (v ≢ 3) × (c.duration ≡ 3) × (c.length ≡ 1);
-  row = λ u. 1;
-  Row = λ u j v c. (j ≡ 0) × (v ≡ (u + 2) % 6) × (v ≢ 3) × (c.duration ≡ 5) × (c.length ≡ 2);
+  heads = λ u. slice_range six u (u + 1);
+  Costs = λ u j c. (j ≡ 0) × (u ≢ 1) × (c.duration ≡ 5) × (c.length ≡ 2);
 }
 
 below_six : (v w : ℕ) → v ≡ w % 6 → v < 6
@@ -22,20 +29,34 @@ below_six v w e = omega arith
 within_one : (a n : ℕ) → a ≡ n → n ≤ 5 → a ≤ 1 * 2 ^ 32
 within_one a n e h = omega arith
 
+six_below : All (λ x. x < 6) six
+six_below =
+    let P : ℕ → Type 0 = λ x. x < 6 in
+    All-cons P 2 (3 ∷ 4 ∷ 5 ∷ 0 ∷ 1 ∷ []) (omega arith)
+    (All-cons P 3 (4 ∷ 5 ∷ 0 ∷ 1 ∷ []) (omega arith)
+    (All-cons P 4 (5 ∷ 0 ∷ 1 ∷ []) (omega arith)
+    (All-cons P 5 (0 ∷ 1 ∷ []) (omega arith)
+    (All-cons P 0 (1 ∷ []) (omega arith) (All-cons P 1 [] (omega arith) (All-nil P))))))
+
+ahead_below : (u j v : ℕ) → slice_get (slice_range six u (u + 1)) j ≡ Some v → v < 6
+ahead_below u j v e =
+    let part : All (λ x. x < 6) (slice_range six u (u + 1)) = All-take (λ x. x < 6) (u + 1 - u) (drop u six) (All-drop (λ x. x < 6) u six six_below) in
+    All_get (λ x. x < 6) (slice_range six u (u + 1)) j v part e
+
 head_below : (u v : ℕ) (s : DurLen) → HasHop ring u v s → v < 6
-head_below u v s h = elim h [ inl k ↦ below_six v (u + 1) k.1.1 | inr k ↦ below_six v (u + 2) k.2.1 ]
+head_below u v s h = elim h [ inl k ↦ below_six v (u + 1) k.1.1 | inr k ↦ ahead_below u k.0 v k.1 ]
 
 hop_within : (u v : ℕ) (s : DurLen) → HasHop ring u v s → durlen_ops.units s 1
 hop_within u v s h = elim h [
   | inl k ↦ (within_one s.duration 3 k.1.3 (omega arith), within_one s.length 1 k.1.4 (omega arith))
-  | inr k ↦ (within_one s.duration 5 k.2.3 (omega arith), within_one s.length 2 k.2.4 (omega arith))
+  | inr k ↦ (within_one s.duration 5 k.2.2 (omega arith), within_one s.length 2 k.2.3 (omega arith))
 ]
 
 pub least-requires-clause-space : goal.least-requires-clause-space
 least-requires-clause-space g c = record {
   heads = head_below;
   hop_units = λ u v s h. durlen_laws.units_more s 1 (2 ^ 29) (hop_within u v s h) (omega arith);
-  path_units = λ u z d vs may p.
+  least_units = λ u z d vs may p least.
       let r = Chain-short durlen_laws {Hop = HasHop ring} (λ u v s h. tt) 6 1 head_below hop_within u z d vs may.0 p in
-      (r.0, r.1, r.2, r.3, durlen_laws.units_more r.1 (6 * 1) (2 ^ 28) r.4 (omega arith));
+      subst (λ x. durlen_ops.units x (2 ^ 28)) (same_from_le durlen_laws r.1 d tt tt r.3 (least r.0 r.1 r.2)) (durlen_laws.units_more r.1 (6 * 1) (2 ^ 28) r.4 (omega arith));
 }

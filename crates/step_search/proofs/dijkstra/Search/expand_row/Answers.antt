@@ -1,5 +1,7 @@
 -- What a place found stays found while labels fall.
-use Rattle.std.proofs.Common.{arith, below_more}
+use Rattle.std.proofs.Common.{◌≡◌, ℕ, ◌<◌, List, length, Some, sym, subst, arith, below_more}
+use Rattle.std.specs.List.{slice_get}
+use Rattle.std.proofs.lemmas.Option.{slice_get_within}
 use Rattle.step_search.specs.Labelled.{label_of}
 use Rattle.step_search.proofs.Falls.{LabelWithin-falls}
 use Rattle.step_search.proofs.Offered.{OnlyFalls-refl, OnlyFalls-trans}
@@ -20,7 +22,7 @@ loop-place-preserved g c = record {
   at_work = c.in_ok-relax_place.ensures.at_work;
   falls = OnlyFalls-trans g.met.C.Cost.laws c.args.self.now c.loop-place.self c.relax_place.new.self c.loop-place.invariant.falls c.in_ok-relax_place.ensures.falls;
   found = below_more _ _
-      (λ k lt w s h. LabelWithin-falls g.met.C.Cost.laws (label_of c.loop-place.self.labels) (label_of c.relax_place.new.self.labels) w (g.C.Cost.ops.plus c.args.node.cost s) c.in_ok-relax_place.ensures.falls.falls (c.loop-place.invariant.found k lt w s h))
+      (λ k lt w s h e. LabelWithin-falls g.met.C.Cost.laws (label_of c.loop-place.self.labels) (label_of c.relax_place.new.self.labels) w (g.C.Cost.ops.plus c.args.node.cost s) c.in_ok-relax_place.ensures.falls.falls (c.loop-place.invariant.found k lt w s h e))
       c.in_ok-relax_place.ensures.found;
 }
 
@@ -31,4 +33,7 @@ pub returns-clause-falls : goal.returns-clause-falls
 returns-clause-falls g c = c.loop-place.invariant.falls
 
 pub returns-clause-found : goal.returns-clause-found
-returns-clause-found g c j w s lt h = c.loop-place.invariant.found j (omega arith) w s h
+returns-clause-found g c j w s h k =
+    let in_heads : slice_get c.heads-heads.result.now j ≡ Some w = subst (λ (xs : List ℕ). slice_get xs j ≡ Some w) (sym c.heads-heads.ensures) h in
+    let lt : j < length c.heads-heads.result.now = slice_get_within c.heads-heads.result.now j w in_heads in
+    c.loop-place.invariant.found j (omega arith) w s in_heads (c.costs-costs.ensures.all j s k)

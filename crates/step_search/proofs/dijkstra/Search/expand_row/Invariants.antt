@@ -1,5 +1,6 @@
 -- Each place so far finds the label of its head within what it offers.
-use Rattle.std.proofs.Common.{ℕ, ◌<◌}
+use Rattle.std.proofs.Common.{◌≡◌, ℕ, ◌<◌, Some}
+use Rattle.std.specs.List.{slice_get}
 use Rattle.step_search.specs.Labelled.{label_of}
 use Rattle.step_search.specs.Progress.{LabelWithin}
 use Rattle.step_search.specs.Stepping.{IsAtWork, OnlyFalls}
@@ -9,5 +10,5 @@ abbrev pub invariant-loop-place : goal.invariant-loop-place
 invariant-loop-place g l = record {
   at_work : IsAtWork g.C.Cost.ops (g.T.Steps.space l.steps) l.self l.at l.node;
   falls : OnlyFalls g.C.Cost.ops l.initial.self l.self;
-  found : (k : ℕ) → k < l.place → (w : ℕ) (s : g.row.C.Denot) → (g.T.Steps.space l.steps).Row l.node.vertex k w s → LabelWithin g.C.Cost.ops (label_of l.self.labels) w (g.C.Cost.ops.plus l.node.cost s);
+  found : (k : ℕ) → k < l.place → (w : ℕ) (s : g.row.C.Denot) → slice_get l.heads k ≡ Some w → slice_get l.costs k ≡ Some (Some s) → LabelWithin g.C.Cost.ops (label_of l.self.labels) w (g.C.Cost.ops.plus l.node.cost s);
 }
