@@ -6,7 +6,7 @@ use Rattle.std.specs.List.{enumerate_from, slice_get}
 use Rattle.std.specs.Ordering.{int_eq}
 use Rattle.std.proofs.lemmas.Bool.Decides.{Decides-int_eq}
 use Rattle.std.proofs.lemmas.Option.{slice_get_within, get_or_from_slice_get}
-use Rattle.search_graph.proofs.Gets.{get_is}
+use Rattle.list_lemmas.proofs.Gets.{get_is}
 use Rattle.edge_graph.specs.Chains.{IsChain, belonging}
 use Rattle.edge_graph.proofs.WayLemmas.{drop-get}
 

@@ -14,7 +14,7 @@ use Rattle.road_base.specs.declared.osm_objects.Way.{Way}
 use Rattle.way_profile.specs.Vehicle.{ProfileView, IsSpeed}
 use Rattle.way_profile.specs.WayRule.{way_use}
 use Rattle.way_profile.specs.declared.way_uses.WayUse.{WayUse}
-use Rattle.search_graph.proofs.Gets.{get_some}
+use Rattle.list_lemmas.proofs.Gets.{get_some}
 use Rattle.edge_graph.proofs.WayLemmas.{drop-get}
 use Rattle.edge_graph.specs.Located.{AreRoutes, StandAt, nodes_at, nodes_in, segments_on}
 use Rattle.edge_graph.specs.Rows.{no_street, street_at}

@@ -10,7 +10,7 @@ use Rattle.std.proofs.lemmas.List.{append-nil, length-map}
 use Rattle.std.proofs.Math.ListN.{drop_of_length-le}
 use Rattle.std.proofs.lemmas.List.Sums.{length-filter}
 use Rattle.std.proofs.lemmas.Option.{same_Some, slice_get_within}
-use Rattle.search_graph.proofs.Gets.{get_some}
+use Rattle.list_lemmas.proofs.Gets.{get_some}
 use Rattle.turn_rules.specs.Rules.{Rule, forbids}
 use Rattle.edge_graph.specs.Chains.{IsChain}
 use Rattle.edge_graph.specs.Fans.{leavers, turns_at}

@@ -12,7 +12,7 @@ use Rattle.geo_integer.specs.Position.{Position, position_of}
 use Rattle.geo_integer.specs.Root.{root_of}
 use Rattle.road_base.specs.declared.coordinates.Point.{Point}
 use Rattle.search_graph.specs.declared.costs.DurLen.{DurLen}
-use Rattle.search_graph.proofs.Gets.{get_some}
+use Rattle.list_lemmas.proofs.Gets.{get_some}
 use Rattle.edge_graph.specs.Segment.{Segment}
 use Rattle.edge_graph.specs.NetworkView.{NetworkView, vertices_of}
 use Rattle.edge_graph.specs.Turn.{exits}

@@ -1,7 +1,6 @@
 pub mod Order
 pub mod Chains
 pub mod ShortChains
-pub mod Gets
 mod Chaining
 mod Filling
 pub mod OutArcs

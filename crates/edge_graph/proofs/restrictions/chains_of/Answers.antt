@@ -5,7 +5,7 @@ use Rattle.std.specs.Ordering.{int_eq}
 use Rattle.std.proofs.Math.ListN.{length-set}
 use Rattle.std.proofs.lemmas.Int.{to_z-of_z}
 use Rattle.std.proofs.lemmas.Option.{slice_get-get_or}
-use Rattle.search_graph.proofs.Gets.{get_some}
+use Rattle.list_lemmas.proofs.Gets.{get_some}
 use Rattle.edge_graph.specs.Chains.{IsChain}
 use Rattle.edge_graph.specs.RuleChains.{first_in, rules_at}
 use Rattle.edge_graph.proofs.RuleLemmas.{rule-field, rules-add, rules-skip, rules-start}

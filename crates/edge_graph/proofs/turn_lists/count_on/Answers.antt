@@ -2,7 +2,7 @@ use Rattle.std.proofs.Common.{◌≡◌, ℕ, ℤ, ◌*◌, ◌<◌, ◌++◌, [
 use Rattle.std.specs.List.{slice_get}
 use Rattle.std.proofs.lemmas.Int.{to_z-of_z}
 use Rattle.std.proofs.lemmas.List.{append-nil}
-use Rattle.search_graph.proofs.Gets.{get_is}
+use Rattle.list_lemmas.proofs.Gets.{get_is}
 use Rattle.edge_graph.specs.Chains.{IsChain}
 use Rattle.edge_graph.specs.Fans.{fan_in, leavers}
 use Rattle.edge_graph.specs.Vertex.{vertices}

@@ -3,7 +3,7 @@ use Rattle.std.specs.Prelude.{option_map}
 use Rattle.std.specs.List.{slice_get}
 use Rattle.std.proofs.lemmas.Int.{to_z-of_z}
 use Rattle.std.proofs.lemmas.Option.{slice_get_within}
-use Rattle.search_graph.proofs.Gets.{get_some}
+use Rattle.list_lemmas.proofs.Gets.{get_some}
 use Rattle.edge_graph.specs.Fans.{AreFans, FanMap, fan_in}
 use Rattle.edge_graph.specs.Segment.{Segment}
 use Rattle.edge_graph.specs.Turn.{exits}

@@ -2,7 +2,7 @@ use Rattle.std.proofs.Common.{◌≡◌, ◌<◌, ℤ, length, arith, rules, sym
 use Rattle.std.specs.List.{list_any}
 use Rattle.std.specs.Ordering.{int_eq}
 use Rattle.std.proofs.lemmas.Int.{to_z-of_z}
-use Rattle.search_graph.proofs.Gets.{get_some}
+use Rattle.list_lemmas.proofs.Gets.{get_some}
 use Rattle.edge_graph.specs.Vertex.{vertices}
 use Rattle.edge_graph.proofs.FanLemmas.{field-at}
 use Rattle.edge_graph.proofs.TurnLemmas.{is_ruled-at}

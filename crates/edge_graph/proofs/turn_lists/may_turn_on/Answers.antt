@@ -2,7 +2,7 @@ use Rattle.std.proofs.Common.{◌≡◌, ◌≢◌, ℤ, Bool, not, true, false,
 use Rattle.std.specs.Prelude.{◌==◌}
 use Rattle.std.proofs.lemmas.Bool.Decides.{nat_tests}
 use Rattle.std.proofs.lemmas.Int.{to_z-of_z}
-use Rattle.search_graph.proofs.Gets.{get_some}
+use Rattle.list_lemmas.proofs.Gets.{get_some}
 use Rattle.edge_graph.specs.Restrictions.{is_forbidden_at}
 use Rattle.edge_graph.specs.Vertex.{opposite, vertices}
 use Rattle.edge_graph.proofs.FanLemmas.{field-at}

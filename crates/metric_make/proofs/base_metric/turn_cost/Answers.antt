@@ -1,5 +1,5 @@
 use Rattle.std.proofs.Common.{◌≡◌, arith}
-use Rattle.search_graph.proofs.Gets.{get_some}
+use Rattle.list_lemmas.proofs.Gets.{get_some}
 use Rattle.edge_graph.specs.NetworkView.{vertices_of}
 use Rattle.edge_graph.proofs.VertexLemmas.{length-vertices}
 use Rattle.std.specs.List.{slice_get}

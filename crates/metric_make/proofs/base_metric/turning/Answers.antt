@@ -1,6 +1,6 @@
 use Rattle.std.proofs.Common.{◌≡◌, ◌≢◌, ℕ, ◌<◌, false, length, get_or, arith, sym, ap, subst, ◌∙◌}
 use Rattle.std.proofs.lemmas.List.{length-map}
-use Rattle.search_graph.proofs.Gets.{get_some}
+use Rattle.list_lemmas.proofs.Gets.{get_some}
 use Rattle.geo_integer.specs.Bearing.{modifier_of}
 use Rattle.edge_graph.specs.NetworkView.{vertices_of}
 use Rattle.edge_graph.specs.Vertex.{opposite}

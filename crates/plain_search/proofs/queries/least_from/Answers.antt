@@ -2,7 +2,7 @@
 use Rattle.std.proofs.Common.{◌≡◌, ℕ, ◌<◌, ◌++◌, ◌∷◌, [], List, Some, get_or, length, length-append, inl, inr, arith, sym, ◌∙◌, ap, subst}
 use Rattle.std.specs.List.{slice_get}
 use Rattle.std.proofs.lemmas.Option.{same_Some}
-use Rattle.search_graph.proofs.Gets.{get_is, get_push}
+use Rattle.list_lemmas.proofs.Gets.{get_is, get_push}
 use Rattle.plain_search.specs.Answers.{IsFound}
 use Rattle.plain_search.proofs.Arcs.{IsSpace-arcs}
 use Rattle.plain_search.proofs.queries.least_from.Goals as goal

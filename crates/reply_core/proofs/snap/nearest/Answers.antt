@@ -1,6 +1,6 @@
 use Rattle.std.proofs.Common.{◌≡◌, ◌+◌, ◌<◌, length, arith, true, false, sym, subst}
 use Rattle.geo_integer.specs.Position.{position_of}
-use Rattle.search_graph.proofs.Gets.{get_some}
+use Rattle.list_lemmas.proofs.Gets.{get_some}
 use Rattle.reply_core.specs.Candidates.{IsFirstOf}
 use Rattle.reply_core.specs.declared.snap.Candidate.{Candidate}
 use Rattle.reply_core.proofs.LineLemmas.{line-at}

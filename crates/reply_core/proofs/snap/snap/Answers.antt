@@ -1,6 +1,6 @@
 use Rattle.std.proofs.Common.{◌∙◌}
 use Rattle.geo_integer.specs.Position.{position_of}
-use Rattle.search_graph.proofs.Gets.{get_some}
+use Rattle.list_lemmas.proofs.Gets.{get_some}
 use Rattle.reply_core.proofs.LineLemmas.{line-at}
 use Rattle.reply_core.proofs.SnapLemmas.{candidate-is, first-of_none, snapped-is}
 use Rattle.reply_core.proofs.snap.snap.Goals as goal

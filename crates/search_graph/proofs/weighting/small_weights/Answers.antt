@@ -1,7 +1,7 @@
 -- Costs within one unit each are a weighting of a graph of few vertices.
 use Rattle.std.proofs.Common.{Some, refl}
 use Rattle.std.specs.Option.{ForSome}
-use Rattle.search_graph.proofs.Gets.{All_get}
+use Rattle.list_lemmas.proofs.Gets.{All_get}
 use Rattle.search_graph.proofs.Weighing.{IsWeighting-small}
 use Rattle.search_graph.proofs.weighting.small_weights.Goals as goal
 

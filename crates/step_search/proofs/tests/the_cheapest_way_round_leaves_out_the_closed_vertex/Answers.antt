@@ -2,7 +2,7 @@
 use Rattle.std.proofs.Common.{◌≡◌, ◌≢◌, ℕ, ◌+◌, ◌*◌, ◌%◌, ◌^◌, ◌<◌, ◌≤◌, ◌-◌, inl, inr, arith, List, [], ◌∷◌, Some, All, drop, subst}
 use Rattle.std.specs.List.{slice_get, slice_range}
 use Rattle.std.proofs.lemmas.List.Elements.{All-cons, All-nil, All-take, All-drop}
-use Rattle.search_graph.proofs.Gets.{All_get}
+use Rattle.list_lemmas.proofs.Gets.{All_get}
 use Rattle.search_graph.proofs.Order.{same_from_le}
 use Rattle.search_graph.specs.declared.costs.DurLen.{DurLen}
 use Rattle.search_graph.specs.Durations.{durlen_ops, durlen_laws}

@@ -1,5 +1,5 @@
 use Rattle.std.proofs.Common.{◌≡◌, List, ◌<◌, length, arith, sym, ap, ◌∙◌}
-use Rattle.search_graph.proofs.Gets.{get_is}
+use Rattle.list_lemmas.proofs.Gets.{get_is}
 use Rattle.edge_graph.specs.NetworkView.{NetworkView}
 use Rattle.edge_graph.specs.Segment.{Segment}
 use Rattle.edge_graph.specs.Turn.{exits}

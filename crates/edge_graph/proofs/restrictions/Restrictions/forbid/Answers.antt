@@ -1,7 +1,7 @@
 use Rattle.std.proofs.Common.{◌≡◌, ℕ, ◌<◌, Some, length, arith, sym, ap, subst, ◌∙◌, w64}
 use Rattle.std.specs.List.{slice_get}
 use Rattle.std.proofs.lemmas.Int.{to_z-of_z}
-use Rattle.search_graph.proofs.Gets.{get_is}
+use Rattle.list_lemmas.proofs.Gets.{get_is}
 use Rattle.turn_rules.specs.Rules.{RulesView, forbids}
 use Rattle.edge_graph.specs.Chains.{IsChain}
 use Rattle.edge_graph.specs.Restrictions.{is_forbidden_at}
