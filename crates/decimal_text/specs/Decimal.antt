@@ -1,6 +1,6 @@
 -- Decimals and their value in whole millionths. A decimal is an optional `-`, one or more digits, and
 -- optionally a point and one or more digits (OPL coordinates; the rounding is this project's rule).
-use Rattle.std.specs.Prelude.{◌≡◌, true, ℕ, ℤ, ◌+◌, Bool, ◌&&◌, ◌||◌, ◌==◌, List, ◌++◌, take, min, codes, slice_index, nat_le, is_none, position, Option, Some, None, if◌then◌else◌}
+use Rattle.std.specs.Prelude.{◌≡◌, true, ℕ, ℤ, ◌+◌, ◌≤◌, ◌↔◌, unsigned_abs, Bool, ◌&&◌, ◌||◌, ◌==◌, List, ◌++◌, take, min, codes, slice_index, nat_le, is_none, position, Option, Some, None, if◌then◌else◌}
 use Rattle.std.specs.Char.{is_ascii_digit}
 use Rattle.std.specs.List.{before_first, after_first, list_all}
 use Rattle.std.specs.Str.Parse.{digits_value}
@@ -38,9 +38,19 @@ millionths whole fraction = digits_value 10 (kept_digits whole fraction) + round
 abbrev pub farthest : ℕ
 farthest = 1000000000000
 
--- how far from zero a decimal without its sign is told, in whole millionths
+-- how far from zero a decimal without its sign is, in whole millionths
+abbrev pub exact_magnitude : List ℕ → ℕ
+exact_magnitude text = millionths (before_point text) (after_point text)
+
+-- how far from zero it is told
 abbrev pub magnitude_of : List ℕ → ℕ
-magnitude_of text = min (millionths (before_point text) (after_point text)) farthest
+magnitude_of text = min (exact_magnitude text) farthest
+
+-- what is told of a decimal lies within a range on Earth, which reaches to 180 degrees either way at most,
+-- exactly where the decimal itself does
+abbrev pub TellsRanges : List ℕ → ℤ → Type 0
+TellsRanges text told =
+    (greatest : ℕ) → greatest ≤ 180000000 → (unsigned_abs told ≤ greatest) ↔ (exact_magnitude (without_minus text) ≤ greatest)
 
 -- the decimal in whole millionths; None where the text is no decimal
 unfoldable pub microdegrees_of : List ℕ → Option ℤ

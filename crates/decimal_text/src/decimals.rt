@@ -1,17 +1,15 @@
 //! Decimals in whole millionths.
 
-ghost use Rattle.std.specs.Prelude.{◌≡◌, ◌++◌, take, codes, min, true, false, MatchOption, position};
+ghost use Rattle.std.specs.Prelude.{◌≡◌, ◌++◌, take, codes, min, true, false, IfSome, MatchOption, position};
 ghost use Rattle.std.specs.Char.{is_ascii_digit};
 ghost use Rattle.std.specs.List.{list_all};
-ghost use Rattle.decimal_text.specs.Decimal.{farthest, microdegrees_of, millionths, rounding, is_point, is_unsigned_decimal, ArePartsOf};
+ghost use Rattle.decimal_text.specs.Decimal.{farthest, TellsRanges, microdegrees_of, millionths, rounding, is_point, is_unsigned_decimal, ArePartsOf};
 
 use crate::numerals::{append_digits, is_numeral, past_minus, signed};
 
-/// The farthest value either way that is told: 1,000,000 degrees, far outside of the Earth's 180, so that
-/// a test for a range on Earth comes out as it would for the number itself.
-pub const FARTHEST: i64 = 1_000_000_000_000;
-
-const FARTHEST_MAGNITUDE: u64 = 1_000_000_000_000;
+/// The farthest value either way that is told, in microdegrees: 1,000,000 degrees, far outside of the Earth's
+/// 180, so that a test for a range on Earth comes out as it would for the number itself.
+pub const FARTHEST: u64 = 1_000_000_000_000;
 
 // The six digits that are kept after the point, where none is written.
 const ABSENT_DIGITS: [u8; 6] = *b"000000";
@@ -24,7 +22,8 @@ const ABSENT_DIGITS: [u8; 6] = *b"000000";
 /// are dropped. What is more than [`FARTHEST`] away from zero is told as that.
 #[tactic(auto, unfolding(crate::specs::Decimal::microdegrees_of))]
 pub fn microdegrees(bytes: &[u8]) -> Option<i64>
-    ensures { result ≡ microdegrees_of bytes.now }
+    ensures value { result ≡ microdegrees_of bytes.now }
+    ensures ranges { IfSome result (TellsRanges bytes.now) }
 {
     match parts(past_minus(bytes)) {
         Some((whole, fraction)) => Some(signed(bytes, rounded(whole, fraction))),
@@ -72,10 +71,10 @@ fn rounded(whole: &[u8], fraction: &[u8]) -> u64
 {
     let (_, absent) = ABSENT_DIGITS.split_at(fraction.len().min(6));
     let (present, _) = fraction.split_at(fraction.len().min(6));
-    let degrees = append_digits(0, whole, FARTHEST_MAGNITUDE);
-    let with_present = append_digits(degrees, present, FARTHEST_MAGNITUDE);
-    let kept = append_digits(with_present, absent, FARTHEST_MAGNITUDE);
-    (kept + seventh_rounding(fraction)).min(FARTHEST_MAGNITUDE)
+    let degrees = append_digits(0, whole, FARTHEST);
+    let with_present = append_digits(degrees, present, FARTHEST);
+    let kept = append_digits(with_present, absent, FARTHEST);
+    (kept + seventh_rounding(fraction)).min(FARTHEST)
 }
 
 // What the seventh digit after the point adds.

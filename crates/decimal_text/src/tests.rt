@@ -1,6 +1,6 @@
 //! Values from outside: what the OPL manual and this project's rules say of single texts.
 
-use crate::{FARTHEST, id, microdegrees};
+use crate::{id, microdegrees};
 
 #[test]
 fn decimals_keep_six_digits_and_round_by_the_seventh(rt: HostRuntime) {
@@ -13,8 +13,8 @@ fn decimals_keep_six_digits_and_round_by_the_seventh(rt: HostRuntime) {
         (b"180.0000005", Some(180000001)),
         (b"007.5", Some(7500000)),
         (b"13.2605430", Some(13260543)),
-        (b"99999999999999999999999", Some(FARTHEST)),
-        (b"-99999999999999999999999", Some(-FARTHEST)),
+        (b"99999999999999999999999", Some(1_000_000_000_000)),
+        (b"-99999999999999999999999", Some(-1_000_000_000_000)),
         (b"", None),
         (b"-", None),
         (b"1.", None),

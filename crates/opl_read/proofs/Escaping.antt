@@ -5,7 +5,7 @@ use Rattle.std.specs.List.{slice_split}
 use Rattle.opl_read.specs.Escapes.{character_of, text_of_pieces, unescaped, with_character}
 use Rattle.opl_read.specs.Faults.{mapped}
 use Rattle.opl_read.specs.declared.line_faults.FaultKind.{FaultKind}
-use Rattle.opl_read.proofs.Splitting.{split_not_found}
+use Rattle.list_lemmas.proofs.Splitting.{split_not_found}
 
 abbrev pub pieces : List ℕ → List (List ℕ)
 pieces text = slice_split (λ b. eqb b 37) text

@@ -5,7 +5,7 @@ use Rattle.std.specs.Str.{IsCharBoundary, IsUtf8}
 use Rattle.std.proofs.lemmas.Bool.{eqb-true, false≢true, or_cases, ne_eqb}
 use Rattle.std.proofs.lemmas.Str.{IsCharBoundary-after_ascii}
 use Rattle.opl_read.specs.Cutting.{is_blank, fields_of, IsFirstField}
-use Rattle.opl_read.proofs.Splitting.{found_within, found_passes, split_at_found, split_not_found}
+use Rattle.list_lemmas.proofs.Splitting.{found_within, found_passes, split_at_found, split_not_found}
 
 -- a character begins at an ASCII byte, and behind it
 pub begins_at : (text : List ℕ) (at : ℕ) → at < length text → get_or text at 0 < 128 → IsCharBoundary text at

@@ -1,16 +1,16 @@
 //! What the contents of fields stand for.
 
-ghost use Rattle.std.specs.Prelude.{◌≡◌, Ok, IfOk, IfErr, codes, ◌==◌};
+ghost use Rattle.std.specs.Prelude.{◌≡◌, ◌++◌, ◌∷◌, [], Ok, IfOk, IfErr, IsTrue, codes, ◌==◌};
 ghost use Rattle.std.specs.List.{before_first};
 ghost use Rattle.std.specs.Str.{byte};
 ghost use Rattle.opl_read.specs.Content.{tag_of, tags_of, ref_of, refs_of, coordinate_of, deleted_of};
-ghost use Rattle.opl_read.specs.Faults.{IsLineErrorOf};
+ghost use Rattle.opl_read.specs.Faults.{IsLineErrorOf, mapped};
 
 use crate::cutting::{parted_at, position_of};
-use crate::escapes::unescaped;
+use crate::escapes::{is_plain, unescaped};
 use crate::line_faults::{FaultKind, LineError};
 use decimal_text::{id, microdegrees};
-use road_base::{Ids, Tags, Text};
+use road_base::{Ids, Tags};
 use std::alloc::Global;
 
 // The tags of a field `T`.
@@ -18,29 +18,32 @@ pub(crate) fn tags_of(alloc: Global, content: &str) -> Result<Tags, LineError>
     ensures tags { IfOk result (λ tags. tags_of content.now ≡ Ok tags) }
     ensures fault { IfErr result (IsLineErrorOf (tags_of content.now)) }
 {
-    let mut tags = Vec::new(alloc);
     if content.is_empty() {
-        return Ok(Tags::of(tags));
+        return Ok(Tags::new(alloc));
     }
+    let mut tags = Tags::with_capacity(alloc, content.len() + 1)?;
     let mut rest = content;
     while let Some((entry, more)) = parted_at(rest, b',') {
-        tags.push(tag_of(alloc, entry)?)?;
+        tags = with_tag(alloc, tags, entry)?;
         rest = more;
     }
-    tags.push(tag_of(alloc, rest)?)?;
-    Ok(Tags::of(tags))
+    with_tag(alloc, tags, rest)
 }
 
-fn tag_of(alloc: Global, entry: &str) -> Result<(Text, Text), LineError>
-    ensures tag { IfOk result (λ tag. tag_of entry.now ≡ Ok tag) }
+// The tags and the one of this entry.
+fn with_tag(alloc: Global, tags: Tags, entry: &str) -> Result<Tags, LineError>
+    ensures tag { IfOk result (λ more. mapped (λ tag. tags ++ tag ∷ []) (tag_of entry.now) ≡ Ok more) }
     ensures fault { IfErr result (IsLineErrorOf (tag_of entry.now)) }
 {
     let Some((key, value)) = parted_at(entry, b'=') else {
         return Err(LineError::Fault(FaultKind::BadField));
     };
+    if is_plain(key) && is_plain(value) {
+        return Ok(tags.with(key, value)?);
+    }
     let key = unescaped(alloc, key)?;
     let value = unescaped(alloc, value)?;
-    Ok((key, value))
+    Ok(tags.with(key.as_str(), value.as_str())?)
 }
 
 // The ids of a field `N`.

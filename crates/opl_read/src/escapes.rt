@@ -1,6 +1,6 @@
 //! Escapes in keys, values and roles.
 
-ghost use Rattle.std.specs.Prelude.{◌≡◌, Ok, IfOk, IfErr};
+ghost use Rattle.std.specs.Prelude.{◌≡◌, Ok, IfOk, IfErr, IsTrue};
 ghost use Rattle.std.specs.Char.{is_ascii_hexdigit};
 ghost use Rattle.std.specs.List.{list_all};
 ghost use Rattle.opl_read.specs.Escapes.{character_of, is_hex, unescaped};
@@ -19,10 +19,17 @@ pub(crate) fn unescaped(alloc: Global, written: &str) -> Result<Text, LineError>
     ensures text { IfOk result (λ text. unescaped written.now ≡ Ok text) }
     ensures fault { IfErr result (IsLineErrorOf (unescaped written.now)) }
 {
-    if position_of(written.as_bytes(), b'%').is_none() {
+    if is_plain(written) {
         return Ok(Text::copy_of(alloc, written)?);
     }
     with_escapes(alloc, written)
+}
+
+// Whether there is no escape in it, so that it stands for itself.
+pub(crate) fn is_plain(written: &str) -> bool
+    ensures { IsTrue result → unescaped written.now ≡ Ok written.now }
+{
+    position_of(written.as_bytes(), b'%').is_none()
 }
 
 fn with_escapes(alloc: Global, written: &str) -> Result<Text, LineError>

@@ -56,7 +56,7 @@ fn no_parts(alloc: Global) -> Parts
 {
     Parts {
         letters: Vec::new(alloc),
-        tags: Tags::of(Vec::new(alloc)),
+        tags: Tags::new(alloc),
         nodes: Ids::of(Vec::new(alloc)),
         members: Members::of(Vec::new(alloc)),
         lon: None,

@@ -7,7 +7,7 @@ use crate::metrics::Metric;
 use edge_graph::Network;
 use metric_make::base;
 use metric_publish::held::Held;
-use road_base::{Ids, Node, Object, Point, Tags, Text, Way};
+use road_base::{Ids, Node, Object, Point, Tags, Way};
 use std::alloc::Global;
 use std::sync::Arc;
 use way_profile::Profile;
@@ -55,23 +55,17 @@ fn node(alloc: Global, id: i64, x: i32, y: i32) -> Object {
     Object::Node(Node {
         id,
         point: Point::of(i64::from(x) * 1000, i64::from(y) * 1000),
-        tags: Tags::of(Vec::new(alloc)),
+        tags: Tags::new(alloc),
     })
 }
 
 fn way(alloc: Global, nodes: &[i64], oneway: &str) -> Result<Object, ReplyFault> {
-    let mut tags = Vec::new(alloc);
-    tags.push((
-        Text::copy_of(alloc, "highway")?,
-        Text::copy_of(alloc, "residential")?,
-    ))?;
-    tags.push((
-        Text::copy_of(alloc, "oneway")?,
-        Text::copy_of(alloc, oneway)?,
-    ))?;
+    let tags = Tags::new(alloc)
+        .with("highway", "residential")?
+        .with("oneway", oneway)?;
     Ok(Object::Way(Way {
         id: 10,
-        tags: Tags::of(tags),
+        tags,
         nodes: Ids::of(Vec::from_slice(alloc, nodes)?),
     }))
 }

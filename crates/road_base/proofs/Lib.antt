@@ -1,1 +1,2 @@
 pub mod Earth
+pub mod TagBytes

@@ -1,4 +1,5 @@
 pub mod Earth
 pub mod Points
 pub mod StatusCode
+pub mod TagBytes
 pub mod TagValue

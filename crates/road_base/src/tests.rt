@@ -26,21 +26,16 @@ fn points_reach_as_far_as_the_earth(rt: HostRuntime) {
 
 #[test]
 fn the_first_of_two_equal_keys_counts(rt: HostRuntime) -> Result<(), std::alloc::AllocError> {
-    let mut pairs = Vec::new(rt.alloc());
-    for (key, value) in [
-        ("name", "Main Street"),
-        ("highway", "residential"),
-        ("name", "B 96"),
-    ] {
-        pairs.push((text(&rt, key)?, text(&rt, value)?))?;
-    }
-    let tags = Tags::of(pairs);
+    let tags = Tags::with_capacity(rt.alloc(), 48)?
+        .with("name", "Main Street")?
+        .with("highway", "residential")?
+        .with("name", "B 96")?
+        .with("empty", "")?;
     assert_eq!(rt; tags.get("name"), Some("Main Street"));
     assert_eq!(rt; tags.get("highway"), Some("residential"));
     assert_eq!(rt; tags.get("Name"), None);
     assert_eq!(rt; tags.get(""), None);
-    assert_eq!(rt; tags.as_slice().len(), 3);
-    assert_eq!(rt; tags.into_vec().len(), 3);
+    assert_eq!(rt; tags.get("empty"), Some(""));
     Ok(())
 }
 
@@ -62,16 +57,16 @@ fn an_object_holds_what_it_was_made_of(rt: HostRuntime) -> Result<(), std::alloc
         Object::Node(Node {
             id: 5,
             point: Point::of(1, 2),
-            tags: Tags::of(Vec::new(rt.alloc())),
+            tags: Tags::new(rt.alloc()),
         }),
         Object::Way(Way {
             id: 10,
-            tags: Tags::of(Vec::new(rt.alloc())),
+            tags: Tags::new(rt.alloc()),
             nodes,
         }),
         Object::Relation(Relation {
             id: 1,
-            tags: Tags::of(Vec::new(rt.alloc())),
+            tags: Tags::new(rt.alloc()),
             members,
         }),
     ];

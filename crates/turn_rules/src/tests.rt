@@ -20,16 +20,6 @@ const TO_TOO: Part = (Kind::Way, 3, "to");
 
 const HINT: Part = (Kind::Node, 7, "location_hint");
 
-fn tag(
-    rt: &HostRuntime,
-    key: &'static str,
-    value: &'static str,
-) -> Result<(Text, Text), AllocError> {
-    let key = Text::copy_of(rt.alloc(), key)?;
-    let value = Text::copy_of(rt.alloc(), value)?;
-    Ok((key, value))
-}
-
 fn members(rt: &HostRuntime, parts: &[Part]) -> Result<Members, AllocError> {
     let mut all = Vec::new(rt.alloc());
     for (kind, id, role) in parts {
@@ -50,15 +40,15 @@ fn rules_with(
     except: &'static str,
     parts: &[Part],
 ) -> Result<Rules, AllocError> {
-    let mut tags = Vec::new(rt.alloc());
-    tags.push(tag(rt, "type", "restriction")?)?;
-    tags.push(tag(rt, "restriction", value)?)?;
-    tags.push(tag(rt, "except", except)?)?;
+    let tags = Tags::new(rt.alloc())
+        .with("type", "restriction")?
+        .with("restriction", value)?
+        .with("except", except)?;
     let members = members(rt, parts)?;
     let mut objects = Vec::new(rt.alloc());
     objects.push(Object::Relation(Relation {
         id: 1,
-        tags: Tags::of(tags),
+        tags,
         members,
     }))?;
     rules(rt.alloc(), &objects, "motorcar")

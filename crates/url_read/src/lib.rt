@@ -18,7 +18,7 @@ mod requests;
 mod targets;
 
 pub use refusals::{Refusal, RefusalCode, RequestFault};
-pub use requests::{Points, Request};
+pub use requests::Request;
 pub use targets::request;
 
 #[cfg(test)]

@@ -11,7 +11,8 @@ use crate::parting::{parted, plain_text};
 use crate::pieces::{Pieces, pieces_of};
 use crate::points::points_at;
 use crate::refusals::RequestFault;
-use crate::requests::{Points, Request};
+use crate::requests::Request;
+use road_base::Points;
 use std::alloc::Global;
 
 /// The fewest coordinates of a route.

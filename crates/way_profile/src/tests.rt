@@ -1,7 +1,7 @@
 //! Worked settings and ways; expected values are from this project's rules.
 
 use crate::{Profile, SettingsFault, WayUse};
-use road_base::{Modifier, Tags, Text};
+use road_base::{Modifier, Tags};
 use std::alloc::{AllocError, Global};
 
 const CAR: &str =
@@ -152,11 +152,11 @@ fn each_setting_has_its_answer(rt: HostRuntime) -> Result<(), AllocError> {
 }
 
 fn tags(alloc: Global, pairs: &[(&str, &str)]) -> Result<Tags, AllocError> {
-    let mut list = Vec::new(alloc);
+    let mut tags = Tags::new(alloc);
     for (key, value) in pairs {
-        list.push((Text::copy_of(alloc, key)?, Text::copy_of(alloc, value)?))?;
+        tags = tags.with(key, value)?;
     }
-    Ok(Tags::of(list))
+    Ok(tags)
 }
 
 #[test]

@@ -13,11 +13,11 @@ pub fn profile_of(alloc: Global, settings: &str) -> Result<Profile, AllocError> 
 }
 
 fn tags(alloc: Global, pairs: &[(&str, &str)]) -> Result<Tags, AllocError> {
-    let mut inner = Vec::new(alloc);
+    let mut tags = Tags::new(alloc);
     for (key, value) in pairs {
-        inner.push((Text::copy_of(alloc, key)?, Text::copy_of(alloc, value)?))?;
+        tags = tags.with(key, value)?;
     }
-    Ok(Tags::of(inner))
+    Ok(tags)
 }
 
 /// Adds a node with tags.

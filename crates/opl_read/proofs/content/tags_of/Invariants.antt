@@ -7,7 +7,7 @@ use Rattle.opl_read.proofs.content.tags_of.Given as goal
 
 -- the entries so far, and those that are left, are the content's
 abbrev pub invariant-loop-entry : goal.invariant-loop-entry
-invariant-loop-entry l = shadow (Utf8 l.rest) × (onto tag_of l.tags.items l.rest ≡ tags_of l.content)
+invariant-loop-entry l = shadow (Utf8 l.rest) × (onto tag_of l.tags l.rest ≡ tags_of l.content)
 
 abbrev pub decreases-loop-entry : goal.decreases-loop-entry
 decreases-loop-entry l = length l.rest

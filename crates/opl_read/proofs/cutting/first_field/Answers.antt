@@ -2,7 +2,7 @@
 use Rattle.std.proofs.Common.{◌≡◌, ◌+◌, ◌<◌, List, ℕ, length, take, drop, get_or, sym, ap, ◌∙◌, Some, None, position, rules, subst}
 use Rattle.opl_read.specs.Cutting.{is_blank, IsFirstField}
 use Rattle.opl_read.proofs.FieldLaws.{begins_at, begins_behind, blank_is_ascii, field_at, field_alone}
-use Rattle.opl_read.proofs.Splitting.{found_within, found_passes}
+use Rattle.list_lemmas.proofs.Splitting.{found_within, found_passes}
 use Rattle.opl_read.proofs.cutting.first_field.Goals as goal
 
 pub range-requires-clause-end_boundary : goal.range-requires-clause-end_boundary

@@ -2,7 +2,7 @@
 use Rattle.std.proofs.Common.{◌≡◌, ◌∷◌, eqb, sym, ap, ap₂, ◌∙◌, arith, Some, position, rules}
 use Rattle.std.specs.List.{slice_split, before_first, after_first}
 use Rattle.opl_read.proofs.FieldLaws.{begins_at, begins_behind, byte_found}
-use Rattle.opl_read.proofs.Splitting.{found_within, has_found, has_not_found, split_first, split_not_found}
+use Rattle.list_lemmas.proofs.Splitting.{found_within, has_found, has_not_found, split_first, split_not_found}
 use Rattle.opl_read.proofs.cutting.parted_at.Goals as goal
 
 pub range-requires-clause-end_boundary : goal.range-requires-clause-end_boundary

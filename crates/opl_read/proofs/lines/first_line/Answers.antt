@@ -1,7 +1,8 @@
 -- The first line ends behind the first newline, or with the text.
 use Rattle.std.proofs.Common.{◌+◌, ◌∷◌, take, sym, ap, ◌∙◌}
 use Rattle.opl_read.specs.Objects.{lines_of}
-use Rattle.opl_read.proofs.Splitting.{lines_at_found, lines_not_found, to_the_end}
+use Rattle.list_lemmas.proofs.Splitting.{to_the_end}
+use Rattle.opl_read.proofs.Splitting.{lines_at_found, lines_not_found}
 use Rattle.opl_read.proofs.lines.first_line.Goals as goal
 
 pub returns-in-Some-clause-lines : goal.returns-in-Some-clause-lines
