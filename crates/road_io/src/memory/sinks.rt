@@ -59,9 +59,7 @@ impl Sink for MemSink {
     ghost use Rattle.std.specs.Prelude.{Some};
     ghost use Rattle.road_io.specs.Sides.{no_source_side};
 
-    ghost written = { λ s. Some s.written };
-
-    ghost faults = { λ s. s.faults };
+    ghost view = { λ s. record { written = Some s.written; faults = s.faults } };
 
     ghost beside = { λ _. no_source_side };
 

@@ -7,7 +7,7 @@ ghost use Rattle.road_io.specs.NoDoors.{no_doors};
 
 use crate::doorways::{Doors, Opened};
 use crate::failures::DoorsFault;
-use crate::memory_doors::{MemCloser, MemDoor};
+use crate::memory::doors::{MemCloser, MemDoor};
 use std::alloc::Global;
 use std::marker::Model;
 use std::net::{Net, TcpListener, TcpStream};

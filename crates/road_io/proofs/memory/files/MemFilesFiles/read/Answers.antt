@@ -1,5 +1,5 @@
 use Rattle.std.proofs.Common.{refl}
-use Rattle.road_io.proofs.memory_files.MemFilesFiles.read.Goals as goal
+use Rattle.road_io.proofs.memory.files.MemFilesFiles.read.Goals as goal
 
 -- what `readable` says of the fields, said of the value
 pub returns-in_ok-note-in-None-clause-failed : goal.returns-in_ok-note-in-None-clause-failed

@@ -1,6 +1,6 @@
 use Rattle.std.proofs.Common.{◌≡◌, drop}
 use Rattle.road_io.specs.FileNamed.{file_of, named_files}
-use Rattle.road_io.proofs.memory_files.file_in.Given as goal
+use Rattle.road_io.proofs.memory.files.file_in.Given as goal
 
 -- no file so far has the name
 abbrev pub invariant-loop-file : goal.invariant-loop-file

@@ -5,7 +5,7 @@ ghost use Rattle.road_io.specs.MemoryStates.{IsUnused, new_door};
 
 use crate::doorways::{Closer, Door};
 use crate::failures::Failed;
-use crate::memory_connections::MemConn;
+use crate::memory::connections::MemConn;
 use std::alloc::{AllocError, Global};
 
 /// A door in memory: it gives the connections that it was made with, and has the room to take all of
@@ -89,14 +89,13 @@ impl Door for MemDoor {
     }
 }
 
-/// The closer of doors in memory, which end by themselves once their connections are used up.
+/// The closer of doors in memory, which end by themselves once their connections are used up. It has no
+/// `Drop`, so it can't be lost.
 #[derive(Debug)]
-pub struct MemCloser {
-    doors: u32,
-}
+pub struct MemCloser;
 
 impl Closer for MemCloser {
     fn close(self) {
-        let MemCloser { doors: _ } = self;
+        let MemCloser = self;
     }
 }

@@ -8,7 +8,7 @@ ghost use Rattle.road_io.specs.MemoryStates.{new_source, next_call};
 
 use crate::byte_sources::Source;
 use crate::failures::Failed;
-use crate::pieces::PieceReader;
+use crate::memory::pieces::PieceReader;
 use std::marker::Model;
 
 /// A source of bytes in memory, which gives them in pieces and fails where it is told to.
@@ -50,11 +50,7 @@ impl Source for MemSource {
     ghost use Rattle.std.specs.Prelude.{Some};
     ghost use Rattle.road_io.specs.Sides.{no_sink_side};
 
-    ghost left = { λ s. Some s.left };
-
-    ghost faults = { λ s. s.faults };
-
-    ghost taken = { λ s. s.taken };
+    ghost view = { λ s. record { left = Some s.left; taken = s.taken; faults = s.faults } };
 
     ghost beside = { λ _. no_sink_side };
 

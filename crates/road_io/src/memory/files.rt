@@ -66,13 +66,7 @@ impl MemFiles {
 impl Files for MemFiles {
     ghost use Rattle.std.specs.Prelude.{Some};
 
-    ghost content = { λ f name. file_of f.files name };
-
-    ghost reads = { λ f. Some f.reads };
-
-    ghost failed_names = { λ f. Some f.failed_names };
-
-    ghost faults = { λ f. f.faults };
+    ghost view = { λ f. record { content = file_of f.files; reads = Some f.reads; failed_names = Some f.failed_names; faults = f.faults } };
 
     fn read(&mut self, alloc: Global, name: &str) -> Result<Vec<u8>, FileFault>
         ensures kept { file_of self.new.files ≡ file_of self.old.files }

@@ -7,8 +7,8 @@ use crate::byte_sinks::Sink;
 use crate::byte_sources::Source;
 use crate::failures::{Failed, FileFault};
 use crate::file_access::Files;
-use crate::memory_files::file_in;
-use crate::pieces::PieceReader;
+use crate::memory::files::file_in;
+use crate::memory::pieces::PieceReader;
 use road_base::Text;
 use std::alloc::Global;
 use std::marker::Model;
@@ -44,11 +44,7 @@ impl Source for SteadySource {
     ghost use Rattle.std.specs.Prelude.{Some};
     ghost use Rattle.road_io.specs.Sides.{no_sink_side};
 
-    ghost left = { λ s. Some s.left };
-
-    ghost faults = { λ _. 0 };
-
-    ghost taken = { λ s. s.taken };
+    ghost view = { λ s. record { left = Some s.left; taken = s.taken; faults = 0 } };
 
     ghost beside = { λ _. no_sink_side };
 
@@ -93,9 +89,7 @@ impl Sink for SteadySink {
     ghost use Rattle.std.specs.Prelude.{None};
     ghost use Rattle.road_io.specs.Sides.{no_source_side};
 
-    ghost written = { λ _. None };
-
-    ghost faults = { λ _. 0 };
+    ghost view = { λ _. record { written = None; faults = 0 } };
 
     ghost beside = { λ _. no_source_side };
 
@@ -132,13 +126,7 @@ impl SteadyFiles {
 impl Files for SteadyFiles {
     ghost use Rattle.std.specs.Prelude.{None, Some};
 
-    ghost content = { λ f name. Some (unwrap_or (file_of f name) []) };
-
-    ghost reads = { λ _. None };
-
-    ghost failed_names = { λ _. Some [] };
-
-    ghost faults = { λ _. 0 };
+    ghost view = { λ f. record { content = λ name. Some (unwrap_or (file_of f name) []); reads = None; failed_names = Some []; faults = 0 } };
 
     fn read(&mut self, alloc: Global, name: &str) -> Result<Vec<u8>, FileFault> {
         match file_in(&self.files, name) {

@@ -6,8 +6,8 @@ use crate::byte_sinks::Sink;
 use crate::byte_sources::Source;
 use crate::connections::Conn;
 use crate::failures::Failed;
-use crate::memory_sinks::MemSink;
-use crate::memory_sources::MemSource;
+use crate::memory::sinks::MemSink;
+use crate::memory::sources::MemSource;
 use std::marker::Model;
 
 /// A connection in memory: a source and a sink. It was given with all of the source's bytes, and with no
@@ -19,9 +19,9 @@ pub struct MemConn {
 }
 
 impl Model for MemConn {
-    ghost use Rattle.road_io.specs.MemoryStates.{ConnState};
+    ghost use Rattle.road_io.specs.MemoryStates.{MemConnState};
 
-    ghost Value = { ConnState };
+    ghost Value = { MemConnState };
 
     ghost view = { λ c. record { source = c.source; sink = c.sink } };
 }
@@ -43,17 +43,12 @@ impl MemConn {
 }
 
 impl Source for MemConn {
-    ghost use Rattle.std.specs.Prelude.{Some};
     ghost use Rattle.road_io.specs.Sides.{sink_side};
-    ghost use Rattle.road_io.specs.MemoryStates.{conn_opening};
+    ghost use Rattle.road_io.specs.MemoryStates.{conn_state};
 
-    ghost left = { λ c. Some c.source.left };
+    ghost view = { λ c. (conn_state c).source };
 
-    ghost faults = { λ c. c.source.faults };
-
-    ghost taken = { λ c. c.source.taken };
-
-    ghost beside = { λ c. sink_side (Some c.sink.written) c.sink.faults (conn_opening c) };
+    ghost beside = { λ c. sink_side (conn_state c) };
 
     fn take(&mut self, into: &mut [u8]) -> Result<usize, Failed> {
         self.source.take(into)
@@ -61,15 +56,12 @@ impl Source for MemConn {
 }
 
 impl Sink for MemConn {
-    ghost use Rattle.std.specs.Prelude.{Some};
     ghost use Rattle.road_io.specs.Sides.{source_side};
-    ghost use Rattle.road_io.specs.MemoryStates.{conn_opening};
+    ghost use Rattle.road_io.specs.MemoryStates.{conn_state};
 
-    ghost written = { λ c. Some c.sink.written };
+    ghost view = { λ c. (conn_state c).sink };
 
-    ghost faults = { λ c. c.sink.faults };
-
-    ghost beside = { λ c. source_side (Some c.source.left) c.source.faults c.source.taken (conn_opening c) };
+    ghost beside = { λ c. source_side (conn_state c) };
 
     fn put(&mut self, bytes: &[u8]) -> Result<usize, Failed> {
         self.sink.put(bytes)
@@ -78,9 +70,13 @@ impl Sink for MemConn {
 
 impl Conn for MemConn {
     ghost use Rattle.std.specs.Prelude.{refl};
-    ghost use Rattle.road_io.specs.MemoryStates.{conn_opening};
+    ghost use Rattle.road_io.specs.MemoryStates.{conn_state};
 
-    ghost opening = { conn_opening };
+    ghost state = { conn_state };
+
+    ghost is_source = { λ c. refl };
+
+    ghost is_sink = { λ c. refl };
 
     ghost take_keeps = { λ c. refl };
 
