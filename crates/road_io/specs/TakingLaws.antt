@@ -1,10 +1,10 @@
 -- How the calls of a source add up, and what of its input they leave.
 use Rattle.std.specs.Prelude.{◌≡◌, ℕ, ◌+◌, ◌-◌, ◌^◌, ◌<◌, ◌≤◌, min, List, [], ◌++◌, Option, None, Some, length, take, refl}
 use Rattle.std.proofs.Common.{sym, ap, ◌∙◌, subst, append-nil, length-append, length-take-le}
-use Rattle.std.specs.Io.KnownBytes.{Consumes, IsAtEnd}
+use Rattle.std.specs.Io.KnownBytes.{Consumes, Keeps, IsAtEnd}
 use Rattle.list_lemmas.proofs.Counts.{count_end, count_is, count_none, count_then, count_within, none_less}
 use Rattle.road_io.specs.Taking.{Took, TookSoFar}
-use Rattle.road_io.specs.Told.{IsContent, consumes_none, consumes_then}
+use Rattle.road_io.specs.Told.{IsContent, consumes_kept, consumes_none, consumes_then}
 use Rattle.road_io.specs.Views.{InputView}
 
 -- before the first call
@@ -22,6 +22,14 @@ took_piece first mid now taken piece count so_far given bound counted =
           ∙ ap (λ (n : ℕ). min (first.taken + n) (2 ^ 64 - 1)) (sym size);
       within = λ some. count_within (2 ^ 64 - 1) mid.taken now.taken count counted;
     }
+
+-- after a call that failed, and so took nothing
+pub took_kept : (first mid now : InputView) (taken : List ℕ) → TookSoFar first mid taken → Keeps mid.left now.left → now.taken ≡ mid.taken → TookSoFar first now taken
+took_kept first mid now taken so_far kept same = record {
+  given = subst (λ (xs : List ℕ). Consumes first.left now.left xs) (append-nil taken) (consumes_then first.left mid.left now.left taken [] so_far.given (consumes_kept mid.left now.left kept));
+  counted = ap (λ (n : ℕ). min n (2 ^ 64 - 1)) same ∙ so_far.counted;
+  within = λ some. subst (λ (n : ℕ). n ≤ 2 ^ 64 - 1) (sym same) (so_far.within some);
+}
 
 -- after one call at the least it is what was taken
 pub took_all : (first now : InputView) (taken : List ℕ) → TookSoFar first now taken → 0 < length taken → Took first now taken
