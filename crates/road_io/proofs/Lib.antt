@@ -1,1 +1,2 @@
+pub mod ConnLaws
 pub mod PutLaws

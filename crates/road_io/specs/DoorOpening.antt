@@ -3,7 +3,7 @@ use Rattle.std.specs.Prelude.{◌≡◌, ℕ, ◌+◌, ◌-◌, ◌<◌, ◌≤�
 use Rattle.road_io.specs.declared.failures.DoorsFault.{DoorsFault}
 use Rattle.road_io.specs.declared.failures.DoorsFault.TheVariants.{Failed, Memory}
 use Rattle.road_io.specs.Faults.{Rose}
-use Rattle.road_io.specs.Sides.{Transcript}
+use Rattle.road_io.specs.Views.{Transcript}
 use Rattle.road_io.specs.Doorway.{DoorView}
 
 -- what an opening asked for: two addresses, and how many query doors

@@ -2,7 +2,7 @@
 use Rattle.std.specs.Prelude.{◌≡◌, ℕ, ◌+◌, ◌-◌, ◌≤◌, ◌⊎◌, Bool, true, false, IsTrue, List, [], ◌∷◌, ◌++◌, Option, None, Some, Result, Ok, Err, option_map}
 use Rattle.road_io.specs.declared.failures.Failed.{Failed}
 use Rattle.road_io.specs.Faults.{Rose}
-use Rattle.road_io.specs.Sides.{Transcript}
+use Rattle.road_io.specs.Views.{Transcript}
 
 -- the transcripts of its finished connections and how many connections wait, both where told; how many
 -- it gave and how many were finished; whether it has seen that it was closed; whether it has ended, by
@@ -27,7 +27,7 @@ TakesOne None new = new ≡ None
 TakesOne (Some waiting) new = (new ≡ Some (waiting - 1)) × (1 ≤ waiting)
 
 -- what `next` answers: a fresh connection; None, where the door had ended or no connection is left; or
--- Failed, where its count rose. A door that has ended answers None
+-- Failed, where its count rose. A door that has ended answers None, and one that was closed stays so
 abbrev pub NextGives : {C : Type 0} → DoorView → Result (Option C) Failed → DoorView → (C → Type 0) → Type 0
 NextGives old (Ok (Some conn)) new IsFresh =
     (old.ended ≡ false)
@@ -36,6 +36,7 @@ NextGives old (Ok (Some conn)) new IsFresh =
     × IsFresh conn
 NextGives old (Ok None) new IsFresh =
     ((old.ended ≡ true) ⊎ IsUsedUp old.waiting new.closed)
+    × (IsTrue old.closed → IsTrue new.closed)
     × (new ≡ record old { closed = new.closed; ended = true })
 NextGives old (Err failed) new IsFresh =
     (old.ended ≡ false)

@@ -1,13 +1,23 @@
 -- Counts of faults, and what a failed call says of them.
 use Rattle.std.specs.Prelude.{◌≡◌, ℕ, ◌+◌, ◌-◌, ◌^◌, ◌≤◌, min, Result, OnOk, OnErr, IsErrOf}
-use Rattle.std.proofs.Common.{arith}
 use Rattle.road_io.specs.declared.failures.FileFault.{FileFault}
 use Rattle.road_io.specs.declared.failures.FileFault.TheVariants.{Failed, Memory}
+use Rattle.road_io.specs.Views.{FilesView, InputView, OutputView}
 
 -- a count rose; at its last value, 18446744073709551615, it stands still, and a fault there counts as
 -- a rise
 abbrev pub Rose : ℕ → ℕ → Type 0
 Rose before now = min (before + 1) (2 ^ 64 - 1) ≤ now
+
+-- the count of the files, of the input, of the output rose
+abbrev pub FilesRose : FilesView → FilesView → Type 0
+FilesRose before after = Rose before.faults after.faults
+
+abbrev pub InputRose : InputView → InputView → Type 0
+InputRose before after = Rose before.faults after.faults
+
+abbrev pub OutputRose : OutputView → OutputView → Type 0
+OutputRose before after = Rose before.faults after.faults
 
 -- the count never falls, rose where the call failed, and stayed where it did not
 pub record HasCause {T E : Type 0} (before now : ℕ) (result : Result T E) : Type 0 where
@@ -21,11 +31,3 @@ pub record HasFileCause {T : Type 0} (before now : ℕ) (result : Result T FileF
   pub failed : IsErrOf result Failed → Rose before now
   pub memory : IsErrOf result Memory → now ≡ before
   pub kept : OnOk result (now ≡ before)
-
--- a rise stays one when the count goes on
-pub rose_then : (before mid now : ℕ) → Rose before mid → mid ≤ now → Rose before now
-rose_then before mid now rose later = omega arith
-
--- and it is one from any earlier count
-pub rose_since : (before mid now : ℕ) → before ≤ mid → Rose mid now → Rose before now
-rose_since before mid now later rose = omega arith

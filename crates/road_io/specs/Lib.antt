@@ -1,10 +1,17 @@
 pub mod DoorOpening
 pub mod Doorway
+pub mod Exchanging
 pub mod FailedNames
+pub mod FaultLaws
 pub mod Faults
 pub mod FileNamed
 pub mod MemoryDoor
 pub mod MemoryStates
 pub mod NoDoors
+pub mod Outside
+pub mod Putting
 pub mod Sides
+pub mod Taking
+pub mod TakingLaws
 pub mod Told
+pub mod Views

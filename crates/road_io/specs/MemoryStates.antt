@@ -1,7 +1,7 @@
 -- What contracts see of the forms in memory.
 use Rattle.std.specs.Prelude.{◌≡◌, ℕ, ◌+◌, ◌-◌, ◌^◌, ◌<◌, ◌⊎◌, min, List, [], length, Contains, Some, IsNone, false}
 use Rattle.road_io.specs.FileNamed.{file_of}
-use Rattle.road_io.specs.Sides.{Opening, Transcript, transcript}
+use Rattle.road_io.specs.Views.{ConnState}
 use Rattle.road_io.specs.Doorway.{DoorView}
 
 -- bytes that are given in pieces: all of them, and those that are left
@@ -36,13 +36,17 @@ abbrev pub new_sink : ℕ → List ℕ → SinkState
 new_sink room failing = record { written = []; room = room; failing = failing; calls = 0; faults = 0 }
 
 -- a connection: both of its halves
-pub record ConnState : Type 0 where
+pub record MemConnState : Type 0 where
   pub source : SourceState
   pub sink : SinkState
 
--- it was given with all of its source's bytes, and with no fault
-abbrev pub conn_opening : ConnState → Opening
-conn_opening conn = record { input = Some conn.source.all; source_faults = 0; sink_faults = 0 }
+-- what it tells; it was given with all of its source's bytes, no output and no fault
+abbrev pub conn_state : MemConnState → ConnState
+conn_state conn = record {
+  source = record { left = Some conn.source.left; taken = conn.source.taken; faults = conn.source.faults };
+  sink = record { written = Some conn.sink.written; faults = conn.sink.faults };
+  opening = record { input = Some conn.source.all; output = Some []; source_faults = 0; sink_faults = 0 };
+}
 
 -- files: each name with its bytes, the numbers of the reads that fail, the count of the reads so far,
 -- their names, the names of the failed ones, the faults
@@ -76,16 +80,11 @@ abbrev pub ReadFails : FilesState → List ℕ → Type 0
 ReadFails files name = Contains files.failing (next_call files.calls) ⊎ IsNone (file_of files.files name)
 
 -- a connection that was not used
-pub record IsUnused (conn : ConnState) : Type 0 where
+pub record IsUnused (conn : MemConnState) : Type 0 where
   pub input : conn.source.left ≡ conn.source.all
   pub source : conn.source.faults ≡ 0
   pub output : conn.sink.written ≡ []
   pub sink : conn.sink.faults ≡ 0
-
--- the transcript of a connection
-abbrev pub conn_transcript : ConnState → Transcript
-conn_transcript conn =
-    transcript (conn_opening conn) (Some conn.source.left) (Some conn.sink.written) conn.source.faults conn.sink.faults
 
 -- a door through which so many connections are to come
 abbrev pub new_door : ℕ → DoorView

@@ -3,7 +3,7 @@
 ghost use Rattle.std.specs.Prelude.{◌≡◌, ℕ, ◌+◌, ◌<◌, map};
 ghost use Rattle.road_io.specs.Doorway.{DoorView, NextGives, after_finish};
 ghost use Rattle.road_io.specs.DoorOpening.{DoorsView, Asked, asked, OpenGives, door_set, BackGives};
-ghost use Rattle.road_io.specs.Sides.{Transcript, transcript, IsFreshConn};
+ghost use Rattle.road_io.specs.Views.{IsFreshConn};
 
 use crate::connections::Conn;
 use crate::failures::{DoorsFault, Failed};
@@ -21,12 +21,12 @@ pub trait Door {
     /// used up. After a None or a Failed the door has ended, and answers None for ever. Failed where the
     /// count of faults rose. May wait.
     fn next(&mut self) -> Result<Option<Self::Conn>, Failed>
-        ensures gives { NextGives (view self.old) result (view self.new) (λ c. IsFreshConn (Self.Conn.opening c) (Self.Conn.Source.left c) (Self.Conn.Sink.written c) (Self.Conn.Source.faults c) (Self.Conn.Sink.faults c)) };
+        ensures gives { NextGives (view self.old) result (view self.new) (λ c. IsFreshConn (Self.Conn.state c)) };
 
     /// Takes a finished connection back, whose transcript joins the door's.
     fn finish(&mut self, conn: Self::Conn)
         requires { (view self.old).finished < (view self.old).given }
-        ensures joins { view self.new ≡ after_finish (view self.old) (transcript (Self.Conn.opening conn) (Self.Conn.Source.left conn) (Self.Conn.Sink.written conn) (Self.Conn.Source.faults conn) (Self.Conn.Sink.faults conn)) };
+        ensures joins { view self.new ≡ after_finish (view self.old) (Self.Conn.state conn) };
 }
 
 /// What closes the query doors of the `Opened` that it came with.

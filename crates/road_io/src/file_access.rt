@@ -1,32 +1,25 @@
 //! Files by name.
 
-ghost use Rattle.std.specs.Prelude.{◌≡◌, ℕ, List, Option, IfOk, IfSome};
+ghost use Rattle.std.specs.Prelude.{◌≡◌, IfOk, IfSome};
 ghost use Rattle.road_io.specs.Faults.{HasFileCause};
 ghost use Rattle.road_io.specs.FailedNames.{TellsFailed, TellsRead};
+ghost use Rattle.road_io.specs.Views.{FilesView};
 
 use crate::failures::FileFault;
 use std::alloc::Global;
 
 /// Files that are read whole by name.
 pub trait Files {
-    /// The bytes of the file of a name, where the object tells them.
-    ghost content: { Self → List ℕ → Option (List ℕ) };
-
-    /// The names of all reads, in order, where the object tells them.
-    ghost reads: { Self → Option (List (List ℕ)) };
-
-    /// The names of the reads that failed, in order, where the object tells them.
-    ghost failed_names: { Self → Option (List (List ℕ)) };
-
-    /// How many faults it has counted; at 18446744073709551615 the count stands still.
-    ghost faults: { Self → ℕ };
+    /// What the object tells: the bytes of the file of a name, the names of all reads and of those that
+    /// failed, and how many faults it has counted.
+    ghost view: { Self → FilesView };
 
     /// Reads the file of this name to its end. Failed where the count of faults rose, as for a file that
     /// is not there; Memory where there was none, which is no fault. May wait.
     fn read(&mut self, alloc: Global, name: &str) -> Result<Vec<u8>, FileFault>
-        ensures kept { content self.new ≡ content self.old }
-        ensures bytes { IfOk result (λ v. IfSome (content self.old name.now) (λ bytes. v.items ≡ bytes)) }
-        ensures asked { TellsRead (reads self.old) (reads self.new) result name.now }
-        ensures told { TellsFailed (failed_names self.old) (failed_names self.new) result name.now }
-        ensures cause { HasFileCause (faults self.old) (faults self.new) result };
+        ensures kept { (view self.new).content ≡ (view self.old).content }
+        ensures bytes { IfOk result (λ v. IfSome ((view self.old).content name.now) (λ bytes. v.items ≡ bytes)) }
+        ensures asked { TellsRead (view self.old).reads (view self.new).reads result name.now }
+        ensures told { TellsFailed (view self.old).failed_names (view self.new).failed_names result name.now }
+        ensures cause { HasFileCause (view self.old).faults (view self.new).faults result };
 }

@@ -2,7 +2,7 @@
 
 /// A gate that each answer passes after it has entered a metric, so that a test can hold it there while
 /// others publish.
-pub trait Gate: Sync {
+pub trait Gate {
     /// Lets the answer of this seat, under the metric of this number, go on. May wait.
     fn pass(&self, seat: u32, number: u32);
 }

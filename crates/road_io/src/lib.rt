@@ -11,29 +11,19 @@ mod doorways;
 mod failures;
 mod file_access;
 mod gateways;
-mod memory_connections;
-mod memory_doors;
-mod memory_files;
-mod memory_sinks;
-mod memory_sources;
-mod no_doors;
-mod pieces;
-mod steady_forms;
+mod memory;
 
 pub use byte_sinks::{Sink, put_all};
 pub use byte_sources::Source;
-pub use connections::Conn;
+pub use connections::{Conn, put_whole, take_into};
 pub use doorways::{Closer, Door, DoorSet, Doors, Opened};
 pub use failures::{DoorsFault, Failed, FileFault};
 pub use file_access::Files;
 pub use gateways::{Gate, OpenGate};
-pub use memory_connections::MemConn;
-pub use memory_doors::{MemCloser, MemDoor};
-pub use memory_files::MemFiles;
-pub use memory_sinks::MemSink;
-pub use memory_sources::MemSource;
-pub use no_doors::NoDoors;
-pub use steady_forms::{SteadyFiles, SteadySink, SteadySource};
+pub use memory::{
+    MemCloser, MemConn, MemDoor, MemFiles, MemSink, MemSource, NoDoors, SteadyFiles, SteadySink,
+    SteadySource,
+};
 
 #[cfg(test)]
 mod tests;
