@@ -1,3 +1,5 @@
 pub mod Counts
+pub mod Distinct
 pub mod Gets
 pub mod Splitting
+pub mod Sums

@@ -5,8 +5,8 @@ use Rattle.search_graph.specs.Costs.{CostOps, CostLaws}
 use Rattle.search_graph.specs.Digraph.{Digraph, Weighting, IsOpen}
 use Rattle.search_graph.specs.Walks.{Walk, IsMove, Paying}
 use Rattle.search_graph.specs.Weighted.{IsWeighting}
-use Rattle.search_graph.proofs.Chains.{Chain-map, Chain-valid}
-use Rattle.search_graph.proofs.Order.{same_from_le}
+use Rattle.search_graph.specs.ChainLaws.{Chain-map, Chain-valid}
+use Rattle.search_graph.specs.OrderLaws.{same_from_le}
 use Rattle.step_search.specs.Spaces.{HasHop, StepBy, Path, IsSpace}
 use Rattle.plain_search.specs.ArcSpace.{arc_space}
 

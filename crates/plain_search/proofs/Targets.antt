@@ -7,8 +7,8 @@ use Rattle.search_graph.specs.Costs.{CostOps, CostLaws, NoDearer}
 use Rattle.search_graph.specs.Digraph.{Digraph, Weighting, IsOpen}
 use Rattle.search_graph.specs.Walks.{IsBetween, IsLeastWalk, NoneBetween, IsMove}
 use Rattle.search_graph.specs.Weighted.{IsWeighting}
-use Rattle.search_graph.proofs.Order.{plus_le, plus_le_back}
-use Rattle.search_graph.proofs.Chains.{Chain-valid, Chain-from_zero, Chain-to_more}
+use Rattle.search_graph.specs.OrderLaws.{plus_le, plus_le_back}
+use Rattle.search_graph.specs.ChainLaws.{Chain-valid, Chain-from_zero, Chain-to_more}
 use Rattle.step_search.specs.Spaces.{HasHop, IsLeastCost}
 use Rattle.step_search.specs.Paths.{AreStarts, IsPathTo, IsLeastPath, NoPathTo}
 use Rattle.plain_search.specs.ArcSpace.{arc_space}

@@ -4,7 +4,7 @@ use Rattle.std.proofs.lemmas.List.Elements.{Contains-push, Contains-push_cases}
 use Rattle.search_graph.specs.declared.costs.DurLen.{DurLen}
 use Rattle.search_graph.specs.Costs.{NoDearer}
 use Rattle.search_graph.specs.Durations.{durlen_ops, durlen_laws}
-use Rattle.search_graph.proofs.Order.{le_trans, le_from_same}
+use Rattle.search_graph.specs.OrderLaws.{le_trans, le_from_same}
 use Rattle.list_lemmas.proofs.Gets.{Contains_push}
 use Rattle.plain_search.specs.declared.found.Found.{Found}
 use Rattle.reply_core.specs.Legs.{IsCheapestOf, IsCheaperOf}

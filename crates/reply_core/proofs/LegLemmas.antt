@@ -3,7 +3,7 @@ use Rattle.std.proofs.Common.{ℕ, inl, inr, List, Option, Some, None, sym, subs
 use Rattle.search_graph.specs.declared.costs.DurLen.{DurLen}
 use Rattle.search_graph.specs.Costs.{NoDearer}
 use Rattle.search_graph.specs.Durations.{durlen_ops, durlen_laws}
-use Rattle.search_graph.proofs.Order.{le_trans}
+use Rattle.search_graph.specs.OrderLaws.{le_trans}
 use Rattle.plain_search.specs.declared.found.Found.{Found}
 use Rattle.reply_core.specs.Legs.{IsLeastOf, IsCheaperOf, Either, IsRouteAnswer}
 use Rattle.road_base.specs.declared.segments.Place.{Place}

@@ -11,7 +11,7 @@ use Rattle.search_graph.specs.Costs.{NoDearer}
 use Rattle.search_graph.specs.Digraph.{Digraph, Weighting}
 use Rattle.search_graph.specs.Durations.{durlen_ops, durlen_laws}
 use Rattle.search_graph.specs.Walks.{IsBetween, IsLeastWalk}
-use Rattle.search_graph.proofs.Order.{le_trans}
+use Rattle.search_graph.specs.OrderLaws.{le_trans}
 use Rattle.list_lemmas.proofs.Gets.{Contains_get, get_Contains, get_some, All_get}
 use Rattle.plain_search.specs.declared.found.Found.{Found}
 use Rattle.plain_search.specs.Answers.{IsFound}

@@ -1,9 +1,12 @@
+pub mod ChainLaws
 pub mod Chained
 pub mod Costs
 pub mod Digraph
 pub mod Durations
 pub mod Faults
 pub mod Indexed
+pub mod OrderLaws
 pub mod Shortened
 pub mod Walks
 pub mod Weighted
+pub mod WeightLaws

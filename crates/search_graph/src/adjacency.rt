@@ -4,10 +4,13 @@ ghost use Rattle.std.specs.Prelude.{◌≡◌, ℕ, ◌+◌, ◌^◌, ◌<◌, �
 ghost use Rattle.std.specs.List.{slice_get, Contains};
 ghost use Rattle.search_graph.specs.Digraph.{IsArc, Leaves};
 ghost use Rattle.search_graph.specs.Faults.{AllInRange, IsGraphFault};
+ghost use Rattle.search_graph.specs.Indexed.{IsAdjacency};
 
-use crate::indexing::{first_bad, index_arcs};
-use std::alloc::{AllocError, Global};
+use crate::indexing::{first_bad, index_by, left_out_range, tails};
+use crate::rows::ArcRow;
+use std::alloc::{AllocError, AllocFailed, Global};
 use std::marker::Model;
+use std::sync::Arc;
 
 /// Why a graph was not made.
 #[derive(Clone, Copy, Debug, PartialEq, Eq)]
@@ -29,27 +32,46 @@ impl From<AllocError> for GraphFault {
     }
 }
 
-/// A directed graph whose vertices are numbered from 0: the arcs that it was made of, in their order.
-///
-/// It costs 4 bytes a vertex and 12 bytes an arc.
+impl<T: Drop> From<AllocFailed<T>> for GraphFault {
+    ghost use Rattle.std.specs.Prelude.{◌≡◌};
+    ghost use Rattle.search_graph.specs.declared.adjacency.GraphFault.TheVariants.{Memory};
+
+    ghost from_gives = { λ _ r. r ≡ Memory };
+
+    fn from(_error: AllocFailed<T>) -> GraphFault {
+        GraphFault::Memory
+    }
+}
+
+// The arcs, and the index of their tails.
 #[derive(Drop)]
-pub struct Graph {
-    vertices: u32,
+struct Adjacency {
     arcs: Vec<(u32, u32)>,
     first: Vec<u32>,
+    // empty where the arcs come by tail: it would be 0, 1, 2 and so on
     order: Vec<u32>,
 }
 
+/// A directed graph whose vertices are numbered from 0: the arcs that it was made of, in their order.
+///
+/// It costs 4 bytes a vertex and 8 bytes an arc, and 4 bytes an arc more where the arcs don't come sorted by
+/// their tails. Copies share one memory.
+#[derive(Drop)]
+pub struct Graph {
+    vertices: u32,
+    shared: Arc<Adjacency>,
+}
+
 impl Model for Graph {
+    ghost use Rattle.std.specs.Arc.{arc_value};
     ghost use Rattle.search_graph.specs.Digraph.{Digraph};
+    ghost use Rattle.search_graph.specs.Indexed.{IsAdjacency};
 
     ghost Value = { Digraph };
 
-    ghost use Rattle.search_graph.specs.Indexed.{IsIndexed};
+    ghost view = { λ g. record { vertices = g.vertices; arcs = (arc_value g.shared).arcs.items } };
 
-    ghost view = { λ g. record { vertices = g.vertices; arcs = g.arcs.items } };
-
-    ghost invariant = { λ g. IsIndexed g.vertices g.arcs.items g.first.items g.order.items };
+    ghost invariant = { λ g. IsAdjacency g.vertices (arc_value g.shared).arcs.items (arc_value g.shared).first.items (arc_value g.shared).order.items };
 }
 
 impl Graph {
@@ -67,33 +89,32 @@ impl Graph {
         if let Some(i) = first_bad(vertices, arcs) {
             return Err(GraphFault::BadArc(i as u32));
         }
-        let index = index_arcs(alloc, vertices, arcs)?;
-        let arcs = arcs.to_vec(alloc)?;
-        Ok(Graph {
-            vertices,
-            arcs,
-            first: index.first,
-            order: index.order,
-        })
+        let adjacency = adjacency_of(alloc, vertices, arcs)?;
+        let shared = Arc::new(alloc, adjacency)?;
+        Ok(Graph { vertices, shared })
     }
 
-    /// A copy.
-    pub fn copy(&self, alloc: Global) -> Result<Graph, AllocError>
+    /// A copy, which shares the memory of this graph. It answers the error where no more can share it.
+    pub fn copy(&self) -> Result<Graph, AllocError>
         ensures same { IfOk result (λ g. g ≡ self.now) }
         ensures in_range { OnOk result (AllInRange self.now.vertices self.now.arcs) }
     {
-        let arcs = self.arcs.to_vec(alloc)?;
-        let first = self.first.to_vec(alloc)?;
-        let order = self.order.to_vec(alloc)?;
+        let shared = Arc::try_clone(&self.shared)?;
         Ok(Graph {
             vertices: self.vertices,
-            arcs,
-            first,
-            order,
+            shared,
         })
     }
 
+    /// Tells a proof that all arcs are in range. It does nothing.
+    pub fn known(&self)
+        ensures { AllInRange self.now.vertices self.now.arcs }
+    {
+        let _ = &self.shared;
+    }
+
     /// How many vertices there are.
+    #[inline(always)]
     pub fn vertices(&self) -> u32
         ensures { result ≡ self.now.vertices }
     {
@@ -104,24 +125,51 @@ impl Graph {
     pub fn arcs(&self) -> u32
         ensures { result ≡ length self.now.arcs }
     {
-        self.arcs.len() as u32
+        self.shared.arcs.len() as u32
     }
 
     /// The two ends of arc `i`: it leads from the first to the second.
+    #[inline(always)]
     pub fn arc(&self, i: u32) -> (u32, u32)
         requires { i < length self.now.arcs }
         ensures is { IsArc self.now i result.0 result.1 }
         ensures in_range { (result.0 < self.now.vertices) × (result.1 < self.now.vertices) }
     {
-        self.arcs[i as usize]
+        self.shared.arcs[i as usize]
     }
 
     /// The numbers of the arcs that leave `v`, each once, in ascending order.
-    pub fn out(&self, v: u32) -> &[u32]
+    #[inline(always)]
+    pub fn out(&self, v: u32) -> ArcRow<'_>
         requires { v < self.now.vertices }
-        ensures leaves { (i : ℕ) → Contains result.now i ↔ Leaves self.now i v }
-        ensures ascending { (k l i j : ℕ) → k < l → slice_get result.now k ≡ Some i → slice_get result.now l ≡ Some j → i < j }
+        ensures leaves { (i : ℕ) → Contains result i ↔ Leaves self.now i v }
+        ensures ascending { (k l i j : ℕ) → k < l → slice_get result k ≡ Some i → slice_get result l ≡ Some j → i < j }
     {
-        &self.order[self.first[v as usize] as usize..self.first[v as usize + 1] as usize]
+        let lists: &Adjacency = &self.shared;
+        let from = lists.first[v as usize];
+        let to = lists.first[v as usize + 1];
+        let order = lists.order.as_slice();
+        if order.is_empty() {
+            return ArcRow::range(from, to - from);
+        }
+        ArcRow::listed(&order[from as usize..to as usize])
     }
+}
+
+// The arcs with the index of their tails.
+fn adjacency_of(alloc: Global, vertices: u32, arcs: &[(u32, u32)]) -> Result<Adjacency, AllocError>
+    requires few { length arcs.now < 2 ^ 32 }
+    requires in_range { AllInRange vertices arcs.now }
+    ensures arcs { IfOk result (λ a. a.arcs.items ≡ arcs.now) }
+    ensures indexed { IfOk result (λ a. IsAdjacency vertices arcs.now a.first.items a.order.items) }
+{
+    let tails = tails(alloc, arcs)?;
+    let index = index_by(alloc, vertices, tails.as_slice())?;
+    let order = left_out_range(alloc, index.order);
+    let arcs = arcs.to_vec(alloc)?;
+    Ok(Adjacency {
+        arcs,
+        first: index.first,
+        order,
+    })
 }

@@ -4,7 +4,8 @@
 //! A vertex may be closed, which is a vertex without a cost. A walk runs over open vertices along
 //! arcs. It pays for each arc, and for each vertex that it enters. The definitions stand in `specs/`:
 //! `Costs` (what a lawful cost is), `Digraph` (graphs and weights), `Walks` (walks, and the least of
-//! them) and `Weighted` (which weights a search takes).
+//! them), `Weighted` (which weights a search takes) and `Indexed` (an index of keys). What follows from
+//! them stands there too: `OrderLaws`, `ChainLaws` and `WeightLaws`.
 //!
 //! The laws are those of Dijkstra's shortest paths (E. W. Dijkstra, "A note on two problems in
 //! connexion with graphs", 1959); the bounds on sizes are this project's rule.
@@ -16,6 +17,8 @@ mod ends;
 mod indexing;
 #[cfg(test)]
 mod list_tests;
+mod numbers;
+mod rows;
 #[cfg(test)]
 mod tests;
 mod weighting;
@@ -23,5 +26,7 @@ mod weighting;
 pub use adjacency::{Graph, GraphFault};
 pub use costs::{Cost, DurLen};
 pub use ends::{Start, Target};
-pub use indexing::{Index, index_arcs};
+pub use indexing::{Index, index_by};
+pub use numbers::Numbers;
+pub use rows::ArcRow;
 pub use weighting::{Weights, small_weights};

@@ -1,10 +1,9 @@
 //! What the vertices and arcs of a graph cost.
 
-ghost use Rattle.std.specs.Prelude.{◌≡◌, ◌^◌, ◌<◌, ◌≤◌, length, Some, All};
-ghost use Rattle.std.specs.Option.{ForSome};
+ghost use Rattle.std.specs.Prelude.{◌≡◌, ◌<◌, length, Some};
 ghost use Rattle.std.specs.List.{slice_get};
 ghost use Rattle.search_graph.specs.Digraph.{Weighting};
-ghost use Rattle.search_graph.specs.Weighted.{IsWeighting};
+ghost use Rattle.search_graph.specs.Weighted.{IsWeighting, AreSmall};
 
 use crate::adjacency::Graph;
 use crate::costs::Cost;
@@ -13,7 +12,8 @@ use std::marker::Model;
 
 /// What each vertex and each arc of a graph costs. A vertex without a cost is closed.
 ///
-/// It costs the size of an `Option<C>` a vertex and of a `C` an arc.
+/// It costs eight bytes a vertex and eight an arc, and the size of a `C` more for each cost that isn't short
+/// enough for a word (see `Narrow`).
 #[derive(Drop)]
 pub struct Weights<C: Narrow> {
     vertex: CostList<C>,
@@ -57,13 +57,14 @@ impl<C: Cost> Weights<C> {
 
 /// The weights of a graph of at most 2^27 vertices where each cost is within one unit. Such weights are
 /// always a weighting.
-pub fn small_weights<C: Cost>(graph: &Graph, vertex: CostList<C>, arc: FullCostList<C>) -> Weights<C>
-    requires few { graph.now.vertices ≤ 2 ^ 27 }
-    requires vertices { length vertex ≡ graph.now.vertices }
-    requires arcs { length arc ≡ length graph.now.arcs }
-    requires vertex_unit { All (λ o. ForSome o (λ x. C.ops.units x 1)) vertex }
-    requires arc_unit { All (λ a. C.ops.units a 1) arc }
+pub fn small_weights<C: Cost>(
+    graph: &Graph,
+    vertex: CostList<C>,
+    arc: FullCostList<C>,
+) -> Weights<C>
+    requires { AreSmall C.ops graph.now (record { vertex = vertex; arc = arc }) }
     ensures value { result ≡ record { vertex = vertex; arc = arc } }
+    ensures small { AreSmall C.ops graph.now result }
     ensures weighting { IsWeighting C.ops graph.now result }
 {
     Weights::of(graph, vertex, arc)

@@ -4,7 +4,7 @@ use Rattle.std.specs.List.{Contains}
 use Rattle.std.proofs.lemmas.Option.{same_Some, none-some}
 use Rattle.search_graph.specs.Costs.{CostOps, CostLaws, NoDearer}
 use Rattle.search_graph.specs.declared.ends.Start.{Start}
-use Rattle.search_graph.proofs.Order.{le_trans}
+use Rattle.search_graph.specs.OrderLaws.{le_trans}
 use Rattle.step_search.specs.Spaces.{Space}
 use Rattle.step_search.specs.Paths.{IsPathTo, IsLeastPath, NoPathTo}
 use Rattle.step_search.specs.Labelled.{label_of, settled_of}

@@ -3,7 +3,7 @@ use Rattle.std.proofs.Common.{◌≡◌, ℕ, ◌⊎◌, inl, inr, Bool, true, f
 use Rattle.std.proofs.lemmas.Bool.Decides.{eqb_tells}
 use Rattle.std.proofs.lemmas.Option.{same_Some}
 use Rattle.search_graph.specs.Costs.{CostOps, CostLaws, NoDearer}
-use Rattle.search_graph.proofs.Order.{le_refl, le_trans}
+use Rattle.search_graph.specs.OrderLaws.{le_refl, le_trans}
 use Rattle.step_search.specs.Spaces.{Space}
 use Rattle.step_search.specs.Labelled.{changed}
 use Rattle.step_search.specs.Progress.{LabelWithin, LabelsFall, SettledWithin, Expanded, NodesExpanded, IsFront}

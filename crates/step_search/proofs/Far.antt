@@ -4,8 +4,8 @@ use Rattle.std.specs.List.{Contains, slice_get}
 use Rattle.std.proofs.lemmas.Option.{same_Some}
 use Rattle.search_graph.specs.Costs.{CostOps, CostLaws, NoDearer}
 use Rattle.search_graph.specs.declared.ends.Start.{Start}
-use Rattle.search_graph.proofs.Order.{le_trans, plus_le, plus_le_back, plus_grows}
-use Rattle.search_graph.proofs.Chains.{Chain-push, Chain-valid, Chain-grows, Chain-from_zero, Chain-to_more}
+use Rattle.search_graph.specs.OrderLaws.{le_trans, plus_le, plus_le_back, plus_grows}
+use Rattle.search_graph.specs.ChainLaws.{Chain-push, Chain-valid, Chain-grows, Chain-from_zero, Chain-to_more}
 use Rattle.step_search.specs.Spaces.{Space, HasHop, StepBy, Path, IsSpace, IsLeastCost}
 use Rattle.step_search.specs.Paths.{AreStarts, IsPathTo}
 use Rattle.step_search.specs.Progress.{ComesFrom, IsTree, LabelWithin, Expanded, NodesExpanded, StartsIn, IsFront}

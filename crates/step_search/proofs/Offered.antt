@@ -6,7 +6,7 @@ use Rattle.std.specs.Ordering.{is_lt}
 use Rattle.std.specs.declared.cmp.Ordering.{Ordering}
 use Rattle.std.proofs.lemmas.Option.{same_Some}
 use Rattle.search_graph.specs.Costs.{CostOps, CostLaws, NoDearer}
-use Rattle.search_graph.proofs.Order.{le_refl, le_trans, le_from_less, le_from_not_less, not_both, plus_grows}
+use Rattle.search_graph.specs.OrderLaws.{le_refl, le_trans, le_from_less, le_from_not_less, not_both, plus_grows}
 use Rattle.step_search.specs.Spaces.{Space, HasHop}
 use Rattle.step_search.specs.Queued.{Adds}
 use Rattle.step_search.specs.Labelled.{changed, label_of, settled_of}

@@ -11,7 +11,7 @@ use Rattle.std.specs.declared.cmp.Reverse.{Reverse}
 use Rattle.std.proofs.lemmas.List.Elements.{Contains-append_left, Contains-append_right, Contains-append_cases, Contains-push, Contains-push_cases, All-contains, All-from_recursion, All-map, All-weaker}
 use Rattle.std.proofs.lemmas.List.Sorted.{Contains-permutation, IsPermutation-map, IsPermutation-sym, length_permutation}
 use Rattle.search_graph.specs.Costs.{CostOps, CostLaws, NoDearer}
-use Rattle.search_graph.proofs.Order.{le_from_not_less}
+use Rattle.search_graph.specs.OrderLaws.{le_from_not_less}
 use Rattle.step_search.specs.Queued.{Adds, TakesLeast, entry_cmp, entry_of}
 
 nothing : {E : Type 0} (x : E) → Contains [] x → ⊥

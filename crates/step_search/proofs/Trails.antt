@@ -5,7 +5,7 @@ use Rattle.std.proofs.lemmas.Option.{same_Some, none-some}
 use Rattle.std.proofs.lemmas.List.{reverse-append}
 use Rattle.search_graph.specs.Costs.{CostOps}
 use Rattle.search_graph.specs.declared.ends.Start.{Start}
-use Rattle.search_graph.proofs.Chains.{Chain-push}
+use Rattle.search_graph.specs.ChainLaws.{Chain-push}
 use Rattle.step_search.specs.Spaces.{Space, StepBy, Path}
 use Rattle.step_search.specs.Progress.{ComesFrom, IsTree, IsBackward, IsTrail}
 use Rattle.step_search.specs.declared.dijkstra.Node.{Node}

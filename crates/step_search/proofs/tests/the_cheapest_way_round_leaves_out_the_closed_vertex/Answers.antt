@@ -3,10 +3,10 @@ use Rattle.std.proofs.Common.{◌≡◌, ◌≢◌, ℕ, ◌+◌, ◌*◌, ◌%�
 use Rattle.std.specs.List.{slice_get, slice_range}
 use Rattle.std.proofs.lemmas.List.Elements.{All-cons, All-nil, All-take, All-drop}
 use Rattle.list_lemmas.proofs.Gets.{All_get}
-use Rattle.search_graph.proofs.Order.{same_from_le}
+use Rattle.search_graph.specs.OrderLaws.{same_from_le}
 use Rattle.search_graph.specs.declared.costs.DurLen.{DurLen}
 use Rattle.search_graph.specs.Durations.{durlen_ops, durlen_laws}
-use Rattle.search_graph.proofs.ShortChains.{Chain-short}
+use Rattle.search_graph.specs.ChainLaws.{Chain-short}
 use Rattle.step_search.specs.Spaces.{Space, HasHop}
 use Rattle.step_search.proofs.tests.the_cheapest_way_round_leaves_out_the_closed_vertex.Goals as goal
 

@@ -1,13 +1,14 @@
 -- What follows from the laws of costs: the order, and how sums keep it.
-use Rattle.std.proofs.Common.{◌≡◌, true, false, refl, ◌∙◌, ap, subst, ◌⊎◌, inl, inr}
+use Rattle.std.proofs.Common.{◌≡◌, true, false, refl, sym, ◌∙◌, ap, subst, ◌⊎◌, inl, inr}
 use Rattle.std.specs.declared.cmp.Ordering.{Ordering}
 use Rattle.std.specs.declared.cmp.Ordering.TheVariants.{Less, Equal, Greater}
 use Rattle.std.specs.Ordering.{is_gt, is_lt, ordering_reverse}
+use Rattle.std.proofs.lemmas.Bool.{true≢false}
 use Rattle.std.proofs.lemmas.Cmp.{upto, tied_itself}
 use Rattle.search_graph.specs.Costs.{CostOps, CostLaws, NoDearer}
 
 gt_from_flipped : (r s : Ordering) → r ≡ ordering_reverse s → is_lt s ≡ false → is_gt r ≡ false
-gt_from_flipped r Less e h = cc
+gt_from_flipped r Less e h = absurd (true≢false h)
 gt_from_flipped r Equal e h = ap is_gt e
 gt_from_flipped r Greater e h = ap is_gt e
 
@@ -20,7 +21,7 @@ less_or_not Greater = inr refl
 by_not_gt : {G : Type 0} (r : Ordering) → is_gt r ≡ false → (r ≡ Less → G) → (r ≡ Equal → G) → G
 by_not_gt Less h p q = p refl
 by_not_gt Equal h p q = q refl
-by_not_gt Greater h p q = cc
+by_not_gt Greater h p q = absurd (true≢false h)
 
 module _ {C : Type 0} {ops : CostOps C} (laws : CostLaws ops) where
   -- a cost is no dearer than itself
@@ -42,7 +43,7 @@ module _ {C : Type 0} {ops : CostOps C} (laws : CostLaws ops) where
 
   -- no cost is both no dearer and dearer than another
   pub not_both : (a b : C) → NoDearer ops a b → ops.cmp b a ≡ Less → ⊥
-  not_both a b h e = let r : ops.cmp a b ≡ Greater = laws.total.antisymm a b ∙ ap ordering_reverse e in let g : is_gt (ops.cmp a b) ≡ true = ap is_gt r in cc
+  not_both a b h e = let r : ops.cmp a b ≡ Greater = laws.total.antisymm a b ∙ ap ordering_reverse e in true≢false (sym (ap is_gt r) ∙ h)
 
   -- two costs of which neither is the dearer are one
   pub same_from_le : (a b : C) → ops.valid a → ops.valid b → NoDearer ops a b → NoDearer ops b a → a ≡ b
@@ -54,7 +55,7 @@ module _ {C : Type 0} {ops : CostOps C} (laws : CostLaws ops) where
 
   -- and from the left
   pub plus_le_left : (a b c : C) → ops.valid a → ops.valid b → ops.valid c → NoDearer ops a b → NoDearer ops (ops.plus c a) (ops.plus c b)
-  plus_le_left a b c va vb vc h = rw (laws.comm c a vc va, laws.comm c b vc vb) (plus_le a b c va vb vc h)
+  plus_le_left a b c va vb vc h = subst (λ x. NoDearer ops x (ops.plus c b)) (laws.comm a c va vc) (subst (λ x. NoDearer ops (ops.plus a c) x) (laws.comm b c vb vc) (plus_le a b c va vb vc h))
 
   -- nothing is neutral from the left, too
   pub zero_plus : (a : C) → ops.valid a → ops.plus ops.zero a ≡ a
@@ -66,7 +67,7 @@ module _ {C : Type 0} {ops : CostOps C} (laws : CostLaws ops) where
 
   -- and nothing cheaper that it is added to
   pub plus_grows_left : (a b : C) → ops.valid a → ops.valid b → NoDearer ops b (ops.plus a b)
-  plus_grows_left a b va vb = rw (laws.comm a b va vb) (plus_grows b a vb va)
+  plus_grows_left a b va vb = subst (λ x. NoDearer ops b x) (laws.comm b a vb va) (plus_grows b a vb va)
 
   -- b costs less, or a is no dearer
   pub less_or_le : (a b : C) → (ops.cmp b a ≡ Less) ⊎ NoDearer ops a b
