@@ -1,5 +1,6 @@
 pub mod Counts
 pub mod Distinct
 pub mod Gets
+pub mod Singles
 pub mod Splitting
 pub mod Sums

@@ -1,0 +1,5 @@
+pub mod Entering
+pub mod Levels
+pub mod Parting
+pub mod Spacing
+pub mod Stepping

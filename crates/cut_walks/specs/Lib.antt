@@ -1,0 +1,4 @@
+pub mod Answering
+pub mod Bounds
+pub mod Cut
+pub mod Cutting
