@@ -1,6 +1,9 @@
+pub mod Between
 pub mod Counts
 pub mod Distinct
+pub mod Fronts
 pub mod Gets
+pub mod Parts
 pub mod Singles
 pub mod Splitting
 pub mod Sums
