@@ -21,3 +21,9 @@ twos_and_three n l lt = omega arith
 
 pub one_within : 1 ≤ 2 ^ 28
 one_within = omega arith
+
+pub two_within : 2 ^ 28 + 2 ^ 28 ≤ 2 ^ 29
+two_within = omega arith
+
+pub three_within : 1 + 2 ^ 28 + 2 ^ 28 + 1 ≤ 2 ^ 31
+three_within = omega arith
