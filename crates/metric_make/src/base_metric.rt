@@ -17,8 +17,8 @@ use search_graph::{DurLen, Weights, small_weights};
 use std::alloc::{AllocError, Global};
 use std::marker::Model;
 
-/// What each vertex and each turn of a network costs: 24 bytes a vertex and 16 bytes a turn. Each cost
-/// is within one unit, 2^32 deciseconds and 2^32 decimetres.
+/// What each vertex and each turn of a network costs: 8 bytes a vertex and 8 bytes a turn, as long as a
+/// duration is below 2^31 deciseconds and a length below 2^32 decimetres. Each cost is within one unit, 2^32 of both.
 #[derive(Drop)]
 pub struct BaseMetric {
     weights: Weights<DurLen>,

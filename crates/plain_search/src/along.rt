@@ -4,10 +4,10 @@ ghost use Rattle.std.specs.Prelude.{◌≡◌, ℕ, ◌<◌, IfSome, Some};
 ghost use Rattle.std.specs.Bool.{OnTrue, OnFalse};
 ghost use Rattle.std.specs.List.{Contains};
 ghost use Rattle.search_graph.specs.Weighted.{IsWeighting};
-ghost use Rattle.plain_search.specs.ArcSpace.{arc_space};
+ghost use Rattle.step_search.specs.ArcSpace.{arc_space};
 
 use cost_lists::CostRow;
-use search_graph::{Cost, Graph, Weights};
+use search_graph::{ArcRow, Cost, Graph, Weights};
 use step_search::{Hop, Steps};
 
 /// A graph and its weights. An arc is a step to its head where that is open, and costs the arc and the head.
@@ -26,10 +26,12 @@ impl<'a, C: Cost> Steps<C> for Along<'a, C> {
         self.weights.vertex(v).is_some()
     }
 
-    fn arcs(&self, v: u32) -> &[u32] {
+    #[inline(always)]
+    fn arcs(&self, v: u32) -> ArcRow<'_> {
         self.graph.out(v)
     }
 
+    #[inline(always)]
     fn by_arc(&self, v: u32, i: u32) -> Option<Hop<C>> {
         let _ = v;
         let head = self.graph.arc(i).1;

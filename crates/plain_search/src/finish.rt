@@ -5,7 +5,7 @@ ghost use Rattle.search_graph.specs.Digraph.{IsOpen};
 ghost use Rattle.search_graph.specs.Walks.{IsLeastWalk};
 ghost use Rattle.search_graph.specs.Weighted.{IsWeighting};
 ghost use Rattle.step_search.specs.Paths.{AreStarts, IsLeastPath};
-ghost use Rattle.plain_search.specs.ArcSpace.{arc_space};
+ghost use Rattle.step_search.specs.ArcSpace.{arc_space};
 
 use search_graph::{Cost, Graph, Start, Target, Weights};
 use step_search::Reached;

@@ -1,9 +1,7 @@
 //! What a query answers.
 
-ghost use Rattle.std.specs.Prelude.{◌≡◌};
-
+use search_graph::Numbers;
 use std::alloc::{AllocError, AllocFailed};
-use std::marker::Model;
 
 /// Why a query was not answered.
 #[derive(Clone, Copy, Debug, PartialEq, Eq)]
@@ -21,43 +19,6 @@ impl From<AllocError> for SearchFault {
 impl<T: Drop> From<AllocFailed<T>> for SearchFault {
     fn from(_error: AllocFailed<T>) -> SearchFault {
         SearchFault::Memory
-    }
-}
-
-/// A list of vertices.
-#[derive(Drop)]
-pub struct Numbers {
-    numbers: Vec<u32>,
-}
-
-impl Model for Numbers {
-    ghost use Rattle.std.specs.Prelude.{ℕ, List};
-
-    ghost Value = { List ℕ };
-
-    ghost view = { λ n. n.numbers.items };
-}
-
-impl Numbers {
-    /// The numbers of a vector.
-    pub fn of(numbers: Vec<u32>) -> Numbers
-        ensures { result ≡ numbers.items }
-    {
-        Numbers { numbers }
-    }
-
-    /// The numbers, in their order.
-    pub fn as_slice(&self) -> &[u32]
-        ensures { result.now ≡ self.now }
-    {
-        self.numbers.as_slice()
-    }
-
-    /// The vector of the numbers.
-    pub fn into_vec(self) -> Vec<u32>
-        ensures { result.items ≡ self }
-    {
-        self.numbers
     }
 }
 

@@ -16,5 +16,5 @@ mod queries;
 #[cfg(test)]
 mod tests;
 
-pub use found::{Found, Numbers, SearchFault};
+pub use found::{Found, SearchFault};
 pub use queries::least_from;

@@ -7,13 +7,13 @@ ghost use Rattle.search_graph.specs.declared.ends.Target.{Target};
 ghost use Rattle.search_graph.specs.Weighted.{IsWeighting};
 ghost use Rattle.step_search.specs.Paths.{AreStarts};
 ghost use Rattle.step_search.specs.UnderWay.{IsUnderWay};
-ghost use Rattle.plain_search.specs.ArcSpace.{arc_space};
+ghost use Rattle.step_search.specs.ArcSpace.{arc_space};
 ghost use Rattle.plain_search.specs.Answers.{IsFound};
 
 use crate::along::Along;
 use crate::finish::cost_with;
-use crate::found::{Found, Numbers, SearchFault};
-use search_graph::{Cost, Graph, Start, Target, Weights};
+use crate::found::{Found, SearchFault};
+use search_graph::{Cost, Graph, Numbers, Start, Target, Weights};
 use std::alloc::{AllocError, Global};
 use step_search::Search;
 

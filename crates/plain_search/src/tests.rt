@@ -1,8 +1,10 @@
-ghost use Rattle.std.specs.Prelude.{◌≡◌, ◌<◌, ◌≤◌, ℕ, length, IfOk};
+ghost use Rattle.std.specs.Prelude.{◌≡◌, length, All, IfOk};
+ghost use Rattle.std.specs.Option.{ForSome};
 ghost use Rattle.search_graph.specs.Weighted.{IsWeighting};
 ghost use Rattle.search_graph.specs.Durations.{durlen_ops};
 
 use crate::{Found, SearchFault, least_from};
+use cost_lists::{CostList, FullCostList};
 use search_graph::{DurLen, Graph, Start, Target, Weights, small_weights};
 use std::alloc::{AllocError, Global};
 use std::process::Abort;
@@ -27,32 +29,44 @@ fn cost(duration: u64, length: u64) -> DurLen
     DurLen { duration, length }
 }
 
+// What the vertices cost.
+fn vertex_costs(alloc: Global) -> Result<CostList<DurLen>, AllocError>
+    ensures { IfOk result (λ costs. (length costs ≡ 7) × All (λ o. ForSome o (λ x. durlen_ops.units x 1)) costs) }
+{
+    let mut costs = CostList::with_capacity(alloc, 7)?;
+    costs.push(Some(cost(10, 100)))?;
+    costs.push(Some(cost(5, 50)))?;
+    costs.push(Some(cost(20, 30)))?;
+    costs.push(None)?;
+    costs.push(Some(cost(7, 10)))?;
+    costs.push(Some(cost(1, 1)))?;
+    costs.push(Some(cost(3, 3)))?;
+    Ok(costs)
+}
+
+// What the arcs cost.
+fn arc_costs(alloc: Global) -> Result<FullCostList<DurLen>, AllocError>
+    ensures { IfOk result (λ costs. (length costs ≡ 10) × All (λ a. durlen_ops.units a 1) costs) }
+{
+    let mut costs = FullCostList::with_capacity(alloc, 10)?;
+    costs.push(cost(2, 1))?;
+    costs.push(cost(4, 2))?;
+    costs.push(cost(6, 5))?;
+    costs.push(cost(1, 1))?;
+    costs.push(cost(1, 1))?;
+    costs.push(cost(3, 2))?;
+    costs.push(cost(40, 1))?;
+    costs.push(cost(0, 9))?;
+    costs.push(cost(1, 1))?;
+    costs.push(cost(4, 1))?;
+    Ok(costs)
+}
+
 fn weights(alloc: Global, graph: &Graph) -> Result<Weights<DurLen>, AllocError>
     requires { (graph.now.vertices ≡ 7) × (length graph.now.arcs ≡ 10) }
     ensures { IfOk result (IsWeighting durlen_ops graph.now) }
 {
-    let vertex = vec![in alloc;
-        Some(cost(10, 100)),
-        Some(cost(5, 50)),
-        Some(cost(20, 30)),
-        None,
-        Some(cost(7, 10)),
-        Some(cost(1, 1)),
-        Some(cost(3, 3)),
-    ]?;
-    let arc = vec![in alloc;
-        cost(2, 1),
-        cost(4, 2),
-        cost(6, 5),
-        cost(1, 1),
-        cost(1, 1),
-        cost(3, 2),
-        cost(40, 1),
-        cost(0, 9),
-        cost(1, 1),
-        cost(4, 1),
-    ]?;
-    Ok(small_weights(graph, vertex, arc))
+    Ok(small_weights(graph, vertex_costs(alloc)?, arc_costs(alloc)?))
 }
 
 fn start(vertex: u32, cost: DurLen) -> Start<DurLen>

@@ -8,9 +8,9 @@ ghost use Rattle.reply_core.specs.Places.{IsDirection, IsPlaceOf, before, parts_
 
 use crate::cheapest::cheaper;
 use metric_make::BaseMetric;
-use plain_search::{Found, Numbers};
+use plain_search::Found;
 use road_base::Place;
-use search_graph::DurLen;
+use search_graph::{DurLen, Numbers};
 use std::alloc::{AllocError, Global};
 
 /// How many parts a segment has: a place lies so many of them along it.

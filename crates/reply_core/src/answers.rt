@@ -2,7 +2,8 @@
 
 ghost use Rattle.std.specs.Prelude.{◌≡◌};
 
-use plain_search::{Numbers, SearchFault};
+use plain_search::SearchFault;
+use search_graph::Numbers;
 use road_base::{Place, Text};
 use std::alloc::{AllocError, AllocFailed};
 use std::marker::Model;

@@ -20,9 +20,9 @@ use crate::missing::Missing;
 use crate::reply_texts::{found_text, no_route_text, no_segment_text};
 use crate::routes::least_route;
 use crate::snap::snap;
-use plain_search::{Found, Numbers};
+use plain_search::Found;
 use road_base::{Place, Point, Text};
-use search_graph::DurLen;
+use search_graph::{DurLen, Numbers};
 use std::alloc::{AllocError, Global};
 
 /// The answer to a request for a route through these coordinates, of which there are 2 or more.

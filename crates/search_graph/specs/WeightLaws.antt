@@ -1,7 +1,9 @@
 -- Laws of small weights: a search takes them, and what a least walk over them costs grows with the number of vertices alone.
-use Rattle.std.proofs.Common.{◌≡◌, ℕ, ◌+◌, ◌*◌, ◌^◌, ◌<◌, List, ◌∷◌, ◌++◌, [], length, Some, sym, subst, refl}
+use Rattle.std.proofs.Common.{◌≡◌, ℕ, ◌+◌, ◌*◌, ◌^◌, ◌<◌, ◌≤◌, List, ◌∷◌, ◌++◌, [], length, Option, Some, All, sym, subst, refl}
+use Rattle.std.specs.Option.{ForSome}
 use Rattle.std.specs.List.{Contains}
 use Rattle.std.proofs.lemmas.Option.{slice_get_within}
+use Rattle.list_lemmas.proofs.Gets.{All_get}
 use Rattle.list_lemmas.proofs.Sums.{twos_within, twos_and_three, one_within}
 use Rattle.search_graph.specs.declared.ends.Start.{Start}
 use Rattle.search_graph.specs.declared.ends.Target.{Target}
@@ -11,6 +13,17 @@ use Rattle.search_graph.specs.Walks.{IsMove, IsBetween, IsLeastWalk}
 use Rattle.search_graph.specs.Weighted.{IsWeighting, AreSmall}
 use Rattle.search_graph.specs.OrderLaws.{plus_le, plus_le_left, same_from_le}
 use Rattle.search_graph.specs.ChainLaws.{Chain-valid, Chain-from_zero, Chain-to_more, Chain-short}
+
+-- lists of which each cost is within one unit are small weights
+pub small_from_lists : {C : Type 0} (ops : CostOps C) (g : Digraph) (vertex : List (Option C)) (arc : List C) → g.vertices ≤ 2 ^ 27 → length vertex ≡ g.vertices → length arc ≡ length g.arcs →
+    All (λ o. ForSome o (λ x. ops.units x 1)) vertex → All (λ a. ops.units a 1) arc → AreSmall ops g (record { vertex = vertex; arc = arc })
+small_from_lists ops g vertex arc few vertices arcs vertex_unit arc_unit = record {
+  few = few;
+  vertices = vertices;
+  arcs = arcs;
+  vertex_unit = λ v x o. All_get (λ m. ForSome m (λ y. ops.units y 1)) vertex v (Some x) vertex_unit o x refl;
+  arc_unit = λ i a e. All_get (λ y. ops.units y 1) arc i a arc_unit e;
+}
 
 module _ {C : Type 0} {ops : CostOps C} (laws : CostLaws ops) (g : Digraph) (w : Weighting C) (small : AreSmall ops g w) where
   -- a move costs an arc and a vertex

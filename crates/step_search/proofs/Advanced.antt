@@ -9,7 +9,7 @@ use Rattle.step_search.specs.Spaces.{Space, IsSpace}
 use Rattle.step_search.specs.Paths.{AreStarts}
 use Rattle.step_search.specs.Labelled.{changed, label_of, settled_of}
 use Rattle.step_search.specs.Progress.{HasNode, IsNode, IsTree, Expanded, NodesExpanded, StartsIn, IsFront}
-use Rattle.step_search.specs.Stepping.{IsTaken, Settles, Begins, node_of, start_node}
+use Rattle.step_search.specs.Stepping.{IsFresh, IsTaken, Settles, Begins, node_of, start_node}
 use Rattle.step_search.specs.UnderWay.{IsUnderWay, IsBegun}
 use Rattle.step_search.specs.declared.labels.Label.{Label}
 use Rattle.step_search.specs.declared.dijkstra.Node.{Node}
@@ -125,22 +125,19 @@ module _ {C : Type 0} {ops : CostOps C} (laws : CostLaws ops) (S : Space C) (sta
       }
     ]
 
--- an empty search has begun nowhere
-module _ {C : Type 0} (ops : CostOps C) (S : Space C) (starts : List (Start C)) (search : Search C) (tree : search.tree.items ≡ []) (labels : search.labels ≡ []) (queue : search.queue ≡ []) where
+-- a fresh search has begun nowhere
+module _ {C : Type 0} (ops : CostOps C) (S : Space C) (starts : List (Start C)) (search : Search C) (fresh : IsFresh search) where
   no_label : (v : ℕ) (l : Label C) → label_of search.labels v ≡ Some l → ⊥
-  no_label v l h = none-some l (sym (ap (λ x. label_of x v) labels) ∙ h)
+  no_label v l h = none-some l (sym (fresh.unlabelled v) ∙ h)
 
   no_node : (i : ℕ) (n : Node C) → slice_get search.tree.items i ≡ Some n → ⊥
-  no_node i n h = none-some n (sym (ap (λ t. slice_get t i) tree) ∙ h)
+  no_node i n h = none-some n (sym (ap (λ t. slice_get t i) fresh.tree) ∙ h)
 
   no_entry : (x : C × ℕ) → Contains search.queue x → ⊥
-  no_entry x h = let none : Contains [] x = subst (λ ys. Contains ys x) queue h in let lt : none.0 < 0 = none.1 in omega arith
+  no_entry x h = let none : Contains [] x = subst (λ ys. Contains ys x) fresh.queue h in let lt : none.0 < 0 = none.1 in omega arith
 
   no_start : (s : Start C) → Contains [] s → ⊥
   no_start s h = let lt : h.0 < 0 = h.1 in omega arith
-
-  pub none_settled : (v : ℕ) → settled_of search.labels v ≡ false
-  none_settled v = ap (λ x. settled_of x v) labels
 
   pub begun_nowhere : IsSpace ops S → AreStarts ops S starts → IsBegun ops S starts [] search
   begun_nowhere space fit = record {
@@ -149,7 +146,7 @@ module _ {C : Type 0} (ops : CostOps C) (S : Space C) (starts : List (Start C)) 
     tree = record { nodes = λ i n h. absurd (no_node i n h) };
     front = record {
       labelled = λ v l h. absurd (no_label v l h);
-      in_tree = λ v s. absurd (true≢false (sym s ∙ none_settled v));
+      in_tree = λ v s. absurd (true≢false (sym s ∙ fresh.unsettled v));
       queued = λ v l s h. absurd (no_label v l h);
       keys = λ k v h. absurd (no_entry (k, v) h);
       ordered = λ k v h. absurd (no_entry (k, v) h);

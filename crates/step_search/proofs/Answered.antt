@@ -1,5 +1,5 @@
 -- The answer to a target that is settled, or when nothing is left to settle.
-use Rattle.std.proofs.Common.{◌≡◌, ℕ, ◌<◌, inl, inr, Some, None, List, [], ◌∷◌, ◌++◌, reverse, sym, ◌∙◌, ap, subst, arith}
+use Rattle.std.proofs.Common.{◌≡◌, ℕ, ◌<◌, inl, inr, Some, None, List, [], ◌∷◌, ◌++◌, reverse, refl, sym, ◌∙◌, ap, subst, arith}
 use Rattle.std.specs.List.{Contains}
 use Rattle.std.proofs.lemmas.Option.{same_Some, none-some}
 use Rattle.search_graph.specs.Costs.{CostOps, CostLaws, NoDearer}
@@ -13,7 +13,7 @@ use Rattle.step_search.specs.UnderWay.{IsUnderWay, IsDone}
 use Rattle.step_search.specs.declared.labels.Label.{Label}
 use Rattle.step_search.specs.declared.dijkstra.Search.{Search}
 use Rattle.step_search.proofs.Far.{path_far}
-use Rattle.step_search.proofs.Trails.{trail_of}
+use Rattle.step_search.proofs.Trails.{trail_of, trail_exists}
 
 nothing_in : {E : Type 0} (xs : List E) (x : E) → xs ≡ [] → Contains xs x → ⊥
 nothing_in xs x e h = let none : Contains [] x = subst (λ ys. Contains ys x) e h in let lt : none.0 < 0 = none.1 in omega arith
@@ -70,3 +70,10 @@ module _ {C : Type 0} {ops : CostOps C} (laws : CostLaws ops) (S : Space C) (sta
       leads = subst (λ (x : List ℕ). IsPathTo ops S starts target x l.cost) (sym (d ∙ ap (λ (x : List ℕ). x ++ target ∷ []) e)) (trail_leads trail t);
       least = label_is_least;
     }
+
+    -- there is such a trail
+    pub least_cost : (walk : List ℕ) × IsLeastPath ops S starts target walk l.cost
+    least_cost =
+        let m = under_way.front.labelled target l has in
+        let t = trail_exists ops S starts search.tree.items under_way.tree l.node m.0 m.1 in
+        (reverse t.0 ++ target ∷ [], least_path t.0 (reverse t.0) (reverse t.0 ++ target ∷ []) t.1 refl refl)

@@ -105,18 +105,18 @@ module _ {C : Type 0} {ops : CostOps C} (laws : CostLaws ops) (S : Space C) (spa
             let vm : ops.valid m.cost = node_valid l.node m lab.1 in
             let is_cost : l.cost ≡ ops.plus m.cost s = step.2 in
             let least : IsLeastCost ops S b.vertex m.vertex d0 = λ ws e p.
-                let ve : ops.valid e = Chain-valid laws hop_valid b.vertex m.vertex ops.zero e ws laws.zero_valid p in
-                let vbe : ops.valid (ops.plus b.cost e) = laws.plus_valid b.cost e vb ve in
-                let q : Path ops S b.vertex b.cost ws m.vertex (ops.plus b.cost e) = Chain-to_more laws hop_valid b.vertex m.vertex b.cost e ws vb p in
-                let upper : NoDearer ops l.cost (ops.plus (ops.plus b.cost e) s) = elim (hop_far b w.1 w.2 m.vertex v (ops.plus b.cost e) (ops.plus (ops.plus b.cost e) s) ws q (s, step.1, refl)) [
-                  | inl f ↦ let q : f.0 ≡ l = same_Some f.0 l (sym f.1 ∙ has) in subst (λ (y : Label C). NoDearer ops y.cost (ops.plus (ops.plus b.cost e) s)) q f.2
-                  | inr f ↦ within (ops.plus (ops.plus b.cost e) s) f
-                ] in
-                let all : NoDearer ops (ops.plus m.cost s) (ops.plus (ops.plus b.cost e) s) = subst (λ (y : C). NoDearer ops y (ops.plus (ops.plus b.cost e) s)) is_cost upper in
-                let before : NoDearer ops m.cost (ops.plus b.cost e) = plus_le_back laws m.cost (ops.plus b.cost e) s vm vbe vs all in
-                let begun : NoDearer ops (ops.plus b.cost d0) (ops.plus b.cost e) = subst (λ (y : C). NoDearer ops y (ops.plus b.cost e)) z.2 before in
-                let turned : NoDearer ops (ops.plus d0 b.cost) (ops.plus e b.cost) = rw (laws.comm d0 b.cost vd0 vb, laws.comm e b.cost ve vb) begun in
-                plus_le_back laws d0 e b.cost vd0 ve vb turned in
+            let ve : ops.valid e = Chain-valid laws hop_valid b.vertex m.vertex ops.zero e ws laws.zero_valid p in
+            let vbe : ops.valid (ops.plus b.cost e) = laws.plus_valid b.cost e vb ve in
+            let q : Path ops S b.vertex b.cost ws m.vertex (ops.plus b.cost e) = Chain-to_more laws hop_valid b.vertex m.vertex b.cost e ws vb p in
+            let upper : NoDearer ops l.cost (ops.plus (ops.plus b.cost e) s) = elim (hop_far b w.1 w.2 m.vertex v (ops.plus b.cost e) (ops.plus (ops.plus b.cost e) s) ws q (s, step.1, refl)) [
+              | inl f ↦ let q : f.0 ≡ l = same_Some f.0 l (sym f.1 ∙ has) in subst (λ (y : Label C). NoDearer ops y.cost (ops.plus (ops.plus b.cost e) s)) q f.2
+              | inr f ↦ within (ops.plus (ops.plus b.cost e) s) f
+            ] in
+            let all : NoDearer ops (ops.plus m.cost s) (ops.plus (ops.plus b.cost e) s) = subst (λ (y : C). NoDearer ops y (ops.plus (ops.plus b.cost e) s)) is_cost upper in
+            let before : NoDearer ops m.cost (ops.plus b.cost e) = plus_le_back laws m.cost (ops.plus b.cost e) s vm vbe vs all in
+            let begun : NoDearer ops (ops.plus b.cost d0) (ops.plus b.cost e) = subst (λ (y : C). NoDearer ops y (ops.plus b.cost e)) z.2 before in
+            let turned : NoDearer ops (ops.plus d0 b.cost) (ops.plus e b.cost) = rw (laws.comm d0 b.cost vd0 vb, laws.comm e b.cost ve vb) begun in
+            plus_le_back laws d0 e b.cost vd0 ve vb turned in
             let small : ops.units d0 (2 ^ 28) = space.least_units b.vertex m.vertex d0 w.3 w.2 z.1 least in
             let same : l.cost ≡ ops.plus (ops.plus b.cost d0) s = is_cost ∙ ap (λ (y : C). ops.plus y s) z.2 in
             let few : ops.units (ops.plus (ops.plus b.cost d0) s) (1 + 2 ^ 28 + 2 ^ 29) = laws.plus_units (ops.plus b.cost d0) s (1 + 2 ^ 28) (2 ^ 29) (laws.plus_units b.cost d0 1 (2 ^ 28) (fit b w.1).1 small) (space.hop_units m.vertex v s step.1) in

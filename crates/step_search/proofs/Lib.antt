@@ -7,6 +7,7 @@ mod Offered
 mod Paged
 mod Queues
 mod Rewritten
+mod RingOfSix
 mod Settled
 mod Taken
 mod Trails

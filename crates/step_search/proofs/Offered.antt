@@ -1,5 +1,5 @@
 -- What an offered label leaves: the front of the search, with labels that have only fallen.
-use Rattle.std.proofs.Common.{◌≡◌, ℕ, ◌+◌, ◌^◌, inl, inr, Bool, true, false, nat_eq, Option, Some, List, refl, sym, ◌∙◌, ap, subst, true≢false, arith}
+use Rattle.std.proofs.Common.{◌≡◌, ℕ, ◌+◌, ◌^◌, inl, inr, Bool, true, false, nat_eq, Option, Some, None, IfSome, List, refl, sym, ◌∙◌, ap, subst, true≢false, arith}
 use Rattle.std.specs.Bool.{OnFalse}
 use Rattle.std.specs.List.{Contains, slice_get}
 use Rattle.std.specs.Ordering.{is_lt}
@@ -177,3 +177,14 @@ module _ {C : Type 0} {ops : CostOps C} (laws : CostLaws ops) where
 -- what holds of the hop that a call gave holds of each that it may give
 pub each_hop : {C : Type 0} (P : ℕ → C → Type 0) (hop : Hop C) → P hop.head hop.cost → (w : ℕ) (s : C) → Some hop ≡ Some (record { head = w; cost = s }) → P w s
 each_hop {C} P hop p w s e = subst (λ (h : Hop C). P h.head h.cost) (same_Some hop (record { head = w; cost = s }) e) p
+
+-- what an arc answers is a hop
+pub hop_by_arc : {C : Type 0} (S : Space C) (u i : ℕ) (o : Option (Hop C)) → IfSome o (λ h. S.Arc u i h.head h.cost) → IfSome o (λ h. HasHop S u h.head h.cost)
+hop_by_arc S u i None p = p
+hop_by_arc S u i (Some h) p = inl (i, p)
+
+-- and what a place of the row does
+pub hop_by_place : {C : Type 0} (S : Space C) (u j : ℕ) (heads : List ℕ) (costs : List (Option C)) (o : Option (Hop C)) → heads ≡ S.heads u → ((k : ℕ) (s : C) → slice_get costs k ≡ Some (Some s) → S.Costs u k s) →
+    IfSome o (λ h. (slice_get heads j ≡ Some h.head) × (slice_get costs j ≡ Some (Some h.cost))) → IfSome o (λ h. HasHop S u h.head h.cost)
+hop_by_place S u j heads costs None e all p = p
+hop_by_place S u j heads costs (Some h) e all p = inr (j, subst (λ (xs : List ℕ). slice_get xs j ≡ Some h.head) e p.0, all j h.cost p.1)

@@ -1,10 +1,13 @@
 -- What a page that is made leaves, and what a write to one page changes.
-use Rattle.std.proofs.Common.{◌≡◌, ◌≢◌, ℕ, zero, suc, ◌/◌, ◌%◌, ◌<◌, ◌≤◌, inl, inr, List, [], ◌∷◌, ◌++◌, length, get_or, refl, sym, ◌∙◌, ap, true≢false, eq-eqb, arith, take, take_all, get_or-set_same, get_or-set_other}
+use Rattle.std.proofs.Common.{◌≡◌, ◌≢◌, ℕ, zero, suc, ◌/◌, ◌%◌, ◌<◌, ◌≤◌, inl, inr, List, [], ◌∷◌, ◌++◌, length, get_or, refl, sym, ◌∙◌, ap, subst, true≢false, eq-eqb, arith, take, take_all, get_or-set_same, get_or-set_other}
 use Rattle.std.proofs.Math.ListN.{set, replicate}
 use Rattle.std.proofs.lemmas.Bool.{cases_eq, cases_lt}
+use Rattle.std.specs.List.{Contains}
+use Rattle.std.proofs.lemmas.List.Elements.{Contains-push_cases}
 use Rattle.std.proofs.lemmas.List.{get_or_append_left, get_or-append_right, get_or_default}
 use Rattle.step_search.specs.Labelled.{changed}
-use Rattle.step_search.specs.Paged.{page_of, slot_on, slot_at}
+use Rattle.list_lemmas.proofs.Gets.{Contains_get, Contains_push, get_pushed}
+use Rattle.step_search.specs.Paged.{page_of, slot_on, slot_at, AreTouched}
 use Rattle.step_search.specs.declared.labels.Slot.{Slot}
 use Rattle.step_search.specs.declared.labels.Slot.TheVariants.{Untouched}
 use Rattle.step_search.proofs.Falls.{same_place, changed-here, changed-there}
@@ -69,3 +72,60 @@ module _ {C : Type 0} (pages : List (List (Slot C))) (v : ℕ) (slot : Slot C) (
   slot_at-written page new is e =
       let there : page ≡ page_of pages (v / 256) = is ∙ sym (get_or_default pages (v / 256) [] page (page_in pages (v / 256) (v % 256) made)) in
       ap (λ (p : List (Slot C)). slot_at (set pages (v / 256) p)) (e ∙ ap (λ (p : List (Slot C)). set p (v % 256) slot) there) ∙ (λ i u. written_at u i)
+
+-- a page with no slots still has none, where a slot of another page is written
+pub empty_stays : {C : Type 0} (pages : List (List (Slot C))) (q r : ℕ) (new : List (Slot C)) → r < length (page_of pages q) → (p : ℕ) → page_of pages p ≡ [] → page_of (set pages q new) p ≡ []
+empty_stays pages q r new made p none = elim (cases_eq p q) [
+  | inl e ↦ let zero_long : length (page_of pages q) ≡ 0 = ap (λ (x : ℕ). length (page_of pages x)) (sym e) ∙ ap length none in absurd (omega arith)
+  | inr ne ↦ get_or-set_other pages q p new [] ne ∙ none
+]
+
+-- so pages with slots stay among the touched ones
+pub AreTouched-written : {C : Type 0} (old new : List (List (Slot C))) (touched : List ℕ) → ((p : ℕ) → page_of old p ≡ [] → page_of new p ≡ []) → AreTouched old touched → AreTouched new touched
+AreTouched-written old new touched keeps h = record { each = λ p. elim (h.each p) [ inl e ↦ inl (keeps p e) | inr c ↦ inr c ] }
+
+pub AreTouched-same : {C : Type 0} (old new : List (List (Slot C))) (touched : List ℕ) → ((p : ℕ) → page_of new p ≡ page_of old p) → AreTouched old touched → AreTouched new touched
+AreTouched-same old new touched same h = AreTouched-written old new touched (λ p e. same p ∙ e) h
+
+-- one page more is touched
+pub AreTouched-more : {C : Type 0} (pages : List (List (Slot C))) (touched : List ℕ) (q : ℕ) → AreTouched pages touched → AreTouched pages (touched ++ q ∷ [])
+AreTouched-more pages touched q h = record { each = λ p. elim (h.each p) [ inl e ↦ inl e | inr c ↦ inr (Contains_push touched q p c) ] }
+
+-- and made
+pub AreTouched-made : {C : Type 0} (old new : List (List (Slot C))) (touched : List ℕ) (q : ℕ) → ((p : ℕ) → (p ≡ q → ⊥) → page_of new p ≡ page_of old p) → AreTouched old (touched ++ q ∷ []) → AreTouched new (touched ++ q ∷ [])
+AreTouched-made old new touched q others h = record {
+  each = λ p. elim (cases_eq p q) [
+    | inl e ↦ inr (subst (λ (x : ℕ). Contains (touched ++ q ∷ []) x) (sym e) (Contains_get (touched ++ q ∷ []) (length touched) q (get_pushed touched q)))
+    | inr ne ↦ elim (h.each p) [ inl e ↦ inl (others p ne ∙ e) | inr c ↦ inr c ]
+  ];
+}
+
+-- the last of the touched pages has its slots taken away
+pub AreTouched-cleared : {C : Type 0} (old new : List (List (Slot C))) (before after : List ℕ) (q : ℕ) → before ≡ after ++ q ∷ [] → page_of new q ≡ [] → ((p : ℕ) → page_of old p ≡ [] → page_of new p ≡ []) → AreTouched old before → AreTouched new after
+AreTouched-cleared old new before after q e here keeps h = record {
+  each = λ p. elim (h.each p) [
+    | inl none ↦ inl (keeps p none)
+    | inr c ↦ elim (Contains-push_cases after q p (subst (λ (xs : List ℕ). Contains xs p) e c)) [ inl d ↦ inr d | inr same ↦ inl (subst (λ (x : ℕ). page_of new x ≡ []) same here) ]
+  ];
+}
+
+-- with none touched no page has slots
+pub none_touched : {C : Type 0} (pages : List (List (Slot C))) (touched : List ℕ) → touched ≡ [] → AreTouched pages touched → (p : ℕ) → page_of pages p ≡ []
+none_touched pages touched e h p = elim (h.each p) [
+  | inl none ↦ none
+  | inr c ↦ let d : Contains [] p = subst (λ (xs : List ℕ). Contains xs p) e c in let lt : d.0 < 0 = d.1 in absurd (omega arith)
+]
+
+-- and no vertex a slot
+pub blank_at : {C : Type 0} (pages : List (List (Slot C))) → ((p : ℕ) → page_of pages p ≡ []) → (v : ℕ) → slot_at pages v ≡ Untouched
+blank_at pages none v = ap (λ (p : List (Slot _)). slot_on p (v % 256)) (none (v / 256))
+
+-- where a page is made, all slots are as they were
+pub same_slots : {C : Type 0} (old new : List (List (Slot C))) (q : ℕ) → ((r : ℕ) → slot_on (page_of new q) r ≡ slot_on (page_of old q) r) → ((p : ℕ) → (p ≡ q → ⊥) → page_of new p ≡ page_of old p) → slot_at new ≡ slot_at old
+same_slots {C} old new q here others =
+    let at : (v : ℕ) → slot_at new v ≡ slot_at old v =
+    λ v. elim (cases_eq (v / 256) q) [
+      | inl e ↦ ap (λ (p : ℕ). slot_on (page_of new p) (v % 256)) e ∙ here (v % 256) ∙ ap (λ (p : ℕ). slot_on (page_of old p) (v % 256)) (sym e)
+      | inr ne ↦ ap (λ (p : List (Slot C)). slot_on p (v % 256)) (others (v / 256) ne)
+    ] in
+    λ i v. at v i

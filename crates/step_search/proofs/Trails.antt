@@ -1,8 +1,9 @@
 -- The trail back from a node, read from its start.
-use Rattle.std.proofs.Common.{◌≡◌, ℕ, suc, ◌<◌, Option, Some, None, List, [], ◌∷◌, ◌++◌, reverse, append_assoc, arith, refl, sym, ◌∙◌, ap, subst}
+use Rattle.std.proofs.Common.{◌≡◌, ℕ, zero, suc, ◌<◌, length, Option, Some, None, List, [], ◌∷◌, ◌++◌, reverse, append_assoc, arith, refl, sym, ◌∙◌, ap, subst}
 use Rattle.std.specs.List.{Contains, slice_get}
-use Rattle.std.proofs.lemmas.Option.{same_Some, none-some}
+use Rattle.std.proofs.lemmas.Option.{same_Some, none-some, slice_get_within}
 use Rattle.std.proofs.lemmas.List.{reverse-append}
+use Rattle.list_lemmas.proofs.Gets.{get_some}
 use Rattle.search_graph.specs.Costs.{CostOps}
 use Rattle.search_graph.specs.declared.ends.Start.{Start}
 use Rattle.search_graph.specs.ChainLaws.{Chain-push}
@@ -71,3 +72,21 @@ module _ {C : Type 0} (ops : CostOps C) (S : Space C) (starts : List (Start C)) 
       let e : t.0 ≡ i = sym (same_Some i t.0 t.2) in
       let same : t.1 ≡ n = same_Some t.1 n (sym t.3 ∙ ap (slice_get tree) e ∙ h) in
       subst (λ (x : Node C). IsWalkOver (reverse (v ∷ vs)) x.vertex x.cost) same (trail_walk v vs t.0 t.1 t.3 t.4 t.5)
+
+  -- each node below place k has a trail
+  trail_below : (k i : ℕ) (n : Node C) → i < k → slice_get tree i ≡ Some n → (trail : List ℕ) × IsTrail tree (Some i) trail
+  trail_below zero i n lt h = absurd (omega arith)
+  trail_below (suc k) i n lt h =
+      let before : (o : Option ℕ) → n.before ≡ o → (trail : List ℕ) × IsTrail tree o trail = λ o. elim o as (λ o. n.before ≡ o → (trail : List ℕ) × IsTrail tree o trail) [
+        | None ↦ λ e. ([], refl)
+        | Some j ↦ λ e.
+            let less : j < i = backward.earlier i j n h e in
+            let within : i < length tree = slice_get_within tree i n h in
+            let m = get_some tree j (omega arith) in
+            trail_below k j m.0 (omega arith) m.1
+      ] in
+      let rest = before n.before refl in
+      (n.vertex ∷ rest.0, (i, n, refl, h, refl, rest.1))
+
+  pub trail_exists : (i : ℕ) (n : Node C) → slice_get tree i ≡ Some n → (trail : List ℕ) × IsTrail tree (Some i) trail
+  trail_exists i n h = trail_below (suc i) i n (omega arith) h

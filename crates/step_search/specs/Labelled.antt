@@ -1,4 +1,4 @@
--- What the contracts of the labels cite: labels as their pages of slots, read as two functions of the vertex.
+-- Private to this crate: what the contracts of the labels cite: labels as their pages of slots, read as two functions of the vertex.
 use Rattle.std.specs.Prelude.{ℕ, Bool, true, false, cond, List, Option, Some, None}
 use Rattle.std.specs.Prelude.{nat_eq}
 use Rattle.step_search.specs.Paged.{slot_at}

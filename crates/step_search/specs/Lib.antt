@@ -7,3 +7,6 @@ pub mod Paged
 pub mod Progress
 pub mod UnderWay
 pub mod Stepping
+pub mod ArcLaws
+pub mod ArcSpace
+pub mod TargetLaws

@@ -1,4 +1,4 @@
--- A link as the place in the tree that it leads to: its number is one more than the place, or 0 for none.
+-- Private to this crate: a link as the place in the tree that it leads to: its number is one more than the place, or 0 for none.
 use Rattle.std.specs.Prelude.{◌≡◌, ℕ, zero, suc, Option, Some, None, refl}
 
 -- the place that a number stands for

@@ -33,6 +33,10 @@ pub record IsLeastPath {C : Type 0} (ops : CostOps C) (S : Space C) (starts : Li
 abbrev pub NoPathTo : {C : Type 0} → CostOps C → Space C → List (Start C) → ℕ → Type 0
 NoPathTo {C} ops S starts target = (walk : List ℕ) (d : C) → ¬ IsPathTo ops S starts target walk d
 
+-- what a cheapest path to the target costs, and none exactly where there is none
+abbrev pub IsLeastPathCost : {C : Type 0} → CostOps C → Space C → List (Start C) → ℕ → Option C → Type 0
+IsLeastPathCost ops S starts target cost = MatchOption cost (NoPathTo ops S starts target) (λ d. (walk : List ℕ) × IsLeastPath ops S starts target walk d)
+
 -- the answer to a target: a cheapest path to it, and none exactly where there is none
 abbrev pub IsAnswer : {C : Type 0} → CostOps C → Space C → List (Start C) → ℕ → Option (Reached C) → Type 0
 IsAnswer {C} ops S starts target answer = MatchOption answer (NoPathTo ops S starts target)

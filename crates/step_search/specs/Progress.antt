@@ -1,4 +1,4 @@
--- What holds of a search under way, over its tree of walks, its labels and its queue.
+-- Private to this crate: what holds of a search under way, over its tree of walks, its labels and its queue.
 use Rattle.std.specs.Prelude.{◌≡◌, ℕ, ◌<◌, ◌^◌, Bool, true, false, List, [], ◌∷◌, Option, Some, None}
 use Rattle.std.specs.List.{Contains, slice_get}
 use Rattle.search_graph.specs.Costs.{CostOps, NoDearer}

@@ -1,4 +1,4 @@
--- What the queue's contracts cite: a queue as the list of its entries, each a key and a vertex.
+-- Private to this crate: what the queue's contracts cite: a queue as the list of its entries, each a key and a vertex.
 use Rattle.std.specs.Prelude.{◌≡◌, ℕ, ◌+◌, ◌⊎◌, ◌↔◌, List, length}
 use Rattle.std.specs.List.{Contains}
 use Rattle.std.specs.Ordering.{ordering_then, nat_cmp}

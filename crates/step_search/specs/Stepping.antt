@@ -1,4 +1,4 @@
--- What the private functions of the search do, one step each.
+-- Private to this crate: what the private functions of the search do, one step each.
 use Rattle.std.specs.Prelude.{◌≡◌, ℕ, ◌<◌, ◌^◌, ◌⊎◌, Bool, true, false, List, [], ◌∷◌, ◌++◌, Option, Some, None}
 use Rattle.std.specs.List.{Contains, slice_get}
 use Rattle.std.specs.declared.cmp.Ordering.TheVariants.{Less}
@@ -15,6 +15,13 @@ use Rattle.step_search.specs.declared.dijkstra.Search.{Search}
 -- no vertex is settled
 abbrev pub NoneSettled : (ℕ → Bool) → Type 0
 NoneSettled settled = (v : ℕ) → settled v ≡ false
+
+-- a search that has nothing
+pub record IsFresh {C : Type 0} (search : Search C) : Type 0 where
+  pub tree : search.tree.items ≡ []
+  pub unlabelled : (v : ℕ) → label_of search.labels v ≡ None
+  pub unsettled : NoneSettled (settled_of search.labels)
+  pub queue : search.queue ≡ []
 
 -- c is less than what the label of v costs, if it has one
 abbrev pub Improves : {C : Type 0} → CostOps C → (ℕ → Option (Label C)) → ℕ → C → Type 0

@@ -1,13 +1,13 @@
 //! The search: a tree of walks, the labels of the vertices, and the queue.
 
-ghost use Rattle.std.specs.Prelude.{◌≡◌, ℕ, ◌<◌, ◌^◌, List, [], true, false, reverse, length, Some, IfSome, IfNone, IfOk, OnOk};
+ghost use Rattle.std.specs.Prelude.{◌≡◌, ℕ, ◌<◌, ◌^◌, List, [], true, reverse, length, Some, IfSome, IfNone, IfOk, OnOk};
 ghost use Rattle.std.specs.Bool.{OnTrue, OnFalse};
 ghost use Rattle.std.specs.List.{Contains, slice_get};
 ghost use Rattle.step_search.specs.Spaces.{HasHop, IsSpace};
-ghost use Rattle.step_search.specs.Paths.{AreStarts, IsAnswer};
+ghost use Rattle.step_search.specs.Paths.{AreStarts, IsAnswer, IsLeastPathCost};
 ghost use Rattle.step_search.specs.Labelled.{label_of, settled_of};
 ghost use Rattle.step_search.specs.Progress.{LabelWithin, Expanded, IsBackward, IsFront, IsTrail};
-ghost use Rattle.step_search.specs.Stepping.{Begins, Improves, IsAtWork, IsNearest, IsTaken, NoneSettled, Offers, OnlyFalls, Settles, Skips};
+ghost use Rattle.step_search.specs.Stepping.{Begins, Improves, IsAtWork, IsFresh, IsNearest, IsTaken, NoneSettled, Offers, OnlyFalls, Settles, Skips};
 ghost use Rattle.step_search.specs.UnderWay.{IsUnderWay, IsDone};
 
 use crate::hops::{Hop, Steps};
@@ -58,10 +58,24 @@ impl<C: Cost> Search<C> {
             labels: Labels::new(alloc),
             queue: Queue::new(alloc),
         };
-        for start in starts {
-            search.begin_at(steps, *start)?;
-        }
+        search.begin_all(steps, starts)?;
         Ok(search)
+    }
+
+    /// Begins anew, in the memory that the search has, at each start where a path may begin, or gives the error
+    /// where memory runs out. It takes time for the pages that were touched since it last began.
+    ///
+    /// It may be called after any error.
+    pub fn restart<T: Steps<C>>(&mut self, steps: &T, starts: &[Start<C>]) -> Result<(), AllocError>
+        requires ready { T.ready steps.now }
+        requires space { IsSpace C.ops (T.space steps.now) }
+        requires starts { AreStarts C.ops (T.space steps.now) starts.now }
+        ensures { OnOk result (IsUnderWay C.ops (T.space steps.now) starts.now self.new) }
+    {
+        self.tree.clear();
+        self.labels.clear();
+        self.queue.clear();
+        self.begin_all(steps, starts)
     }
 
     /// Goes on until `until` is settled or nothing is left to settle. It ends in the error where memory runs
@@ -118,6 +132,37 @@ impl<C: Cost> Search<C> {
                 Ok(Some(reached))
             }
         }
+    }
+
+    /// What a cheapest path to `target` costs, or `None` exactly where there is none, once the search has run
+    /// until it.
+    ///
+    /// `steps` and `starts` are those with which the search began.
+    pub fn cost<T: Steps<C>>(&self, steps: &T, starts: &[Start<C>], target: u32) -> Option<C>
+        requires under_way { IsUnderWay C.ops (T.space steps.now) starts.now self.now }
+        requires done { IsDone self.now target }
+        ensures { IsLeastPathCost C.ops (T.space steps.now) starts.now target result }
+    {
+        let _ = steps;
+        let _ = starts;
+        match self.labels.label(target) {
+            None => None,
+            Some(label) => Some(label.cost),
+        }
+    }
+
+    // Begins at each start, in a search that has nothing.
+    fn begin_all<T: Steps<C>>(&mut self, steps: &T, starts: &[Start<C>]) -> Result<(), AllocError>
+        requires ready { T.ready steps.now }
+        requires space { IsSpace C.ops (T.space steps.now) }
+        requires starts { AreStarts C.ops (T.space steps.now) starts.now }
+        requires fresh { IsFresh self.old }
+        ensures { OnOk result (IsUnderWay C.ops (T.space steps.now) starts.now self.new) }
+    {
+        for start in starts {
+            self.begin_at(steps, *start)?;
+        }
+        Ok(())
     }
 
     // Begins at one start, where a path may begin there.
@@ -208,8 +253,10 @@ impl<C: Cost> Search<C> {
         ensures falls { OnOk result (OnlyFalls C.ops self.old self.new) }
         ensures found { OnOk result ((i w : ℕ) (s : _) → (T.space steps.now).Arc node.vertex i w s → LabelWithin C.ops (label_of self.new.labels) w (C.ops.plus node.cost s)) }
     {
-        for arc in steps.arcs(node.vertex) {
-            self.relax_arc(steps, at, node, *arc)?;
+        let arcs = steps.arcs(node.vertex);
+        for place in 0..arcs.len() {
+            let hop = steps.by_arc(node.vertex, arcs.get(place));
+            self.relax(steps, at, node, hop)?;
         }
         Ok(())
     }
@@ -230,58 +277,31 @@ impl<C: Cost> Search<C> {
         let heads = steps.heads(node.vertex);
         let costs = steps.costs(node.vertex);
         for place in 0..heads.len() {
-            self.relax_place(steps, at, node, heads, &costs, place)?;
+            let hop = hop_at(heads, &costs, place);
+            self.relax(steps, at, node, hop)?;
         }
         Ok(())
     }
 
-    // Offers a label along one arc.
-    fn relax_arc<T: Steps<C>>(
+    // Offers a label along a hop out of the node, where that way is open.
+    #[inline(always)]
+    fn relax<T: Steps<C>>(
         &mut self,
         steps: &T,
         at: usize,
         node: Node<C>,
-        arc: u32,
-    ) -> Result<(), AllocError>
-        requires ready { T.ready steps.now }
-        requires at_work { IsAtWork C.ops (T.space steps.now) self.old at node }
-        requires named { (T.space steps.now).Name node.vertex arc }
-        ensures at_work { OnOk result (IsAtWork C.ops (T.space steps.now) self.new at node) }
-        ensures falls { OnOk result (OnlyFalls C.ops self.old self.new) }
-        ensures found { OnOk result ((w : ℕ) (s : _) → (T.space steps.now).Arc node.vertex arc w s → LabelWithin C.ops (label_of self.new.labels) w (C.ops.plus node.cost s)) }
-    {
-        match steps.by_arc(node.vertex, arc) {
-            Some(hop) => {
-                self.offer(at, node.cost, hop)?;
-                Ok(())
-            }
-            None => Ok(()),
-        }
-    }
-
-    // Offers a label along one place of the row, where it has a cost.
-    fn relax_place<T: Steps<C>>(
-        &mut self,
-        steps: &T,
-        at: usize,
-        node: Node<C>,
-        heads: &[u32],
-        costs: &CostRow<'_, C>,
-        place: usize,
+        hop: Option<Hop<C>>,
     ) -> Result<(), AllocError>
         requires at_work { IsAtWork C.ops (T.space steps.now) self.old at node }
-        requires heads { heads.now ≡ (T.space steps.now).heads node.vertex }
-        requires costs { (j : ℕ) (s : _) → slice_get costs.now j ≡ Some (Some s) → (T.space steps.now).Costs node.vertex j s }
-        requires place { place < length heads.now }
+        requires hop { IfSome hop (λ h. HasHop (T.space steps.now) node.vertex h.head h.cost) }
         ensures at_work { OnOk result (IsAtWork C.ops (T.space steps.now) self.new at node) }
         ensures falls { OnOk result (OnlyFalls C.ops self.old self.new) }
-        ensures found { OnOk result ((w : ℕ) (s : _) → slice_get heads.now place ≡ Some w → slice_get costs.now place ≡ Some (Some s) → LabelWithin C.ops (label_of self.new.labels) w (C.ops.plus node.cost s)) }
+        ensures found { OnOk result ((w : ℕ) (s : _) → hop ≡ Some (record { head = w; cost = s }) → LabelWithin C.ops (label_of self.new.labels) w (C.ops.plus node.cost s)) }
     {
         let _ = steps;
-        match cost_at(costs, place) {
-            Some(cost) => {
-                let head = heads[place];
-                self.offer(at, node.cost, Hop { head, cost })?;
+        match hop {
+            Some(hop) => {
+                self.offer(at, node.cost, hop)?;
                 Ok(())
             }
             None => Ok(()),
@@ -320,7 +340,24 @@ impl<C: Cost> Search<C> {
     }
 }
 
+// The hop by a place of a row, where that has a cost.
+#[inline(always)]
+fn hop_at<C: Cost>(heads: &[u32], costs: &CostRow<'_, C>, place: usize) -> Option<Hop<C>>
+    requires { place < length heads.now }
+    ensures some { IfSome result (λ h. (slice_get heads.now place ≡ Some h.head) × (slice_get costs.now place ≡ Some (Some h.cost))) }
+    ensures all { (w : ℕ) (s : _) → slice_get heads.now place ≡ Some w → slice_get costs.now place ≡ Some (Some s) → result ≡ Some (record { head = w; cost = s }) }
+{
+    match cost_at(costs, place) {
+        Some(cost) => Some(Hop {
+            head: heads[place],
+            cost,
+        }),
+        None => None,
+    }
+}
+
 // What a place of a row costs.
+#[inline(always)]
 fn cost_at<C: Cost>(costs: &CostRow<'_, C>, place: usize) -> Option<C>
     ensures some { IfSome result (λ s. slice_get costs.now place ≡ Some (Some s)) }
     ensures all { (s : _) → slice_get costs.now place ≡ Some (Some s) → result ≡ Some s }

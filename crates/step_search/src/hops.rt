@@ -6,6 +6,7 @@ ghost use Rattle.std.specs.List.{Contains, slice_get};
 ghost use Rattle.step_search.specs.Spaces.{Space};
 
 use cost_lists::{CostRow, Narrow};
+use search_graph::ArcRow;
 
 /// A hop out of a vertex: to `head`, at `cost`, which has the cost of the head in it.
 #[derive(Clone, Copy, Drop)]
@@ -31,11 +32,11 @@ pub trait Steps<C: Narrow> {
         ensures no { OnFalse result (¬ (space self.now).May v) };
 
     /// The names of the arcs out of `v`.
-    fn arcs(&self, v: u32) -> &[u32]
+    fn arcs(&self, v: u32) -> ArcRow<'_>
         requires ready { ready self.now }
         requires vertex { v < (space self.now).vertices }
-        ensures named { (i : ℕ) → Contains result.now i → (space self.now).Name v i }
-        ensures all { (i w : ℕ) (s : C) → (space self.now).Arc v i w s → Contains result.now i };
+        ensures named { (i : ℕ) → Contains result i → (space self.now).Name v i }
+        ensures all { (i w : ℕ) (s : C) → (space self.now).Arc v i w s → Contains result i };
 
     /// The hop out of `v` by its arc `i`, or none where that way is closed.
     fn by_arc(&self, v: u32, i: u32) -> Option<Hop<C>>

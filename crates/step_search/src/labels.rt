@@ -1,10 +1,10 @@
 //! The labels of the vertices that a search has come to. They stand on pages of neighbouring vertices, and a
 //! page is made when one of its vertices is first labelled.
 
-ghost use Rattle.std.specs.Prelude.{◌≡◌, [], true, false, Some, IsSome, OnOk};
+ghost use Rattle.std.specs.Prelude.{◌≡◌, ℕ, [], true, false, Some, None, IsSome, OnOk};
 ghost use Rattle.step_search.specs.Labelled.{label_of, settled_of, changed};
 
-use crate::pages::{Page, ensure_page, read, write};
+use crate::pages::{Page, clear_pages, ensure_page, read, write};
 use std::alloc::{AllocError, Global};
 use std::marker::Model;
 
@@ -29,6 +29,8 @@ pub enum Slot<C> {
 pub struct Labels<C> {
     alloc: Global,
     pages: Vec<Page<C>>,
+    // the numbers of the pages that are made; a number comes before its page
+    touched: Vec<u32>,
 }
 
 impl<C> Model for Labels<C> {
@@ -37,7 +39,11 @@ impl<C> Model for Labels<C> {
 
     ghost Value = { List (List (Slot C)) };
 
+    ghost use Rattle.step_search.specs.Paged.{AreTouched};
+
     ghost view = { λ s. s.pages.items };
+
+    ghost invariant = { λ s. AreTouched s.pages.items s.touched.items };
 }
 
 impl<C: Copy> Labels<C> {
@@ -48,7 +54,16 @@ impl<C: Copy> Labels<C> {
         Labels {
             alloc,
             pages: Vec::new(alloc),
+            touched: Vec::new(alloc),
         }
+    }
+
+    /// Takes all labels away, and keeps their memory.
+    pub fn clear(&mut self)
+        ensures label { (v : ℕ) → label_of self.new v ≡ None }
+        ensures settled { (v : ℕ) → settled_of self.new v ≡ false }
+    {
+        clear_pages(&mut self.pages, &mut self.touched);
     }
 
     /// The label of `v`, if it has one.
@@ -79,7 +94,7 @@ impl<C: Copy> Labels<C> {
         ensures label { OnOk result (label_of self.new ≡ changed (label_of self.old) v (Some label)) }
         ensures settled { OnOk result (settled_of self.new ≡ settled_of self.old) }
     {
-        ensure_page(self.alloc, &mut self.pages, v)?;
+        ensure_page(self.alloc, &mut self.pages, &mut self.touched, v)?;
         write(&mut self.pages, v, Slot::Labelled(label));
         Ok(())
     }

@@ -2,11 +2,16 @@
 //! so that plain graphs, the inside of a cell and an overlay share one search.
 //!
 //! A search goes from several starts, each with a cost of its own, and answers for each target a path of the
-//! least cost, and none exactly where there is none. It ends at a target as soon as the target is settled.
+//! least cost, and none exactly where there is none. It goes on until its target is settled, or nothing is left.
 //! Its work and its memory follow what it touches, by pages of 256 neighbouring vertices: nothing is made for each
 //! vertex of the space. A directory has 24 bytes for each page up to the last one that is touched.
 //!
-//! `least` answers a list of targets at once. The parts of `Search` serve who wants to go target by target.
+//! `least` answers a list of targets at once. The parts of `Search` serve who wants to go target by target, or
+//! to begin anew in the same memory.
+//!
+//! What a space is stands in `specs/Spaces`, what is answered in `specs/Paths`. The arcs of a graph as a space,
+//! and the passage from a path to a walk with its target's cost, stand in `specs/ArcSpace`, `specs/ArcLaws` and
+//! `specs/TargetLaws`.
 #![tactic(auto)]
 
 mod dijkstra;

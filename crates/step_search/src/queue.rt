@@ -37,6 +37,13 @@ impl<C: Cost> Queue<C> {
         }
     }
 
+    /// Takes all entries away.
+    pub fn clear(&mut self)
+        ensures { self.new ≡ [] }
+    {
+        self.heap.clear();
+    }
+
     /// Adds an entry.
     pub fn push(&mut self, key: C, vertex: u32) -> Result<(), AllocError>
         ensures { OnOk result (Adds self.old self.new (key, vertex)) }

@@ -3,9 +3,9 @@ ghost use Rattle.std.specs.Prelude.{◌≡◌, ◌≢◌, ℕ, ◌+◌, ◌%◌,
 ghost use Rattle.std.specs.List.{slice_range};
 ghost use Rattle.search_graph.specs.declared.costs.DurLen.{DurLen};
 
-use crate::{Hop, Steps, least};
+use crate::{Hop, Search, Steps, least};
 use cost_lists::{CostList, CostRow};
-use search_graph::{DurLen, Start};
+use search_graph::{ArcRow, DurLen, Start};
 use std::alloc::{AllocError, Global};
 
 // Where each vertex's row leads, and what its place costs where that is open.
@@ -49,9 +49,9 @@ impl Steps<DurLen> for Ring {
         v != 3
     }
 
-    fn arcs(&self, v: u32) -> &[u32] {
+    fn arcs(&self, v: u32) -> ArcRow<'_> {
         let _ = v;
-        &[0]
+        ArcRow::range(0, 1)
     }
 
     fn by_arc(&self, v: u32, i: u32) -> Option<Hop<DurLen>> {
@@ -94,5 +94,25 @@ fn the_cheapest_way_round_leaves_out_the_closed_vertex(rt: HostRuntime) -> Resul
         }
         None => assert!(rt; false, "there is a way round"),
     }
+    Ok(())
+}
+
+#[test]
+fn a_search_that_begins_anew_forgets_where_it_began(rt: HostRuntime) -> Result<(), AllocError> {
+    let ring = ring_of_six(rt.alloc())?;
+    let first = [Start {
+        vertex: 0,
+        cost: cost(1, 0),
+    }];
+    let mut search = Search::begin(rt.alloc(), &ring, &first)?;
+    search.run(&ring, &first, 4)?;
+    assert_eq!(rt; search.cost(&ring, &first, 4), Some(cost(11, 4)));
+    let second = [Start {
+        vertex: 4,
+        cost: cost(0, 0),
+    }];
+    search.restart(&ring, &second)?;
+    search.run(&ring, &second, 1)?;
+    assert_eq!(rt; search.cost(&ring, &second, 1), Some(cost(8, 3)));
     Ok(())
 }

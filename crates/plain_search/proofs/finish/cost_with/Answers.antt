@@ -1,5 +1,5 @@
 -- The vertex's cost is a part of the path's, and what is left is what a walk pays before its target.
-use Rattle.plain_search.proofs.Targets.{path_parts, rest_units, IsLeastWalk-from_path}
+use Rattle.step_search.specs.TargetLaws.{path_parts, rest_units, IsLeastWalk-from_path}
 use Rattle.plain_search.proofs.finish.cost_with.Goals as goal
 
 pub minus-requires : goal.minus-requires

@@ -1,5 +1,5 @@
 -- Where no path leads to the target's vertex, no walk leads to the target.
-use Rattle.plain_search.proofs.Targets.{NoneBetween-from_path}
+use Rattle.step_search.specs.TargetLaws.{NoneBetween-from_path}
 use Rattle.plain_search.proofs.queries.find.Goals as goal
 
 pub returns-in-None-clause-found : goal.returns-in-None-clause-found

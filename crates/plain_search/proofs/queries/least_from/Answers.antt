@@ -4,7 +4,7 @@ use Rattle.std.specs.List.{slice_get}
 use Rattle.std.proofs.lemmas.Option.{same_Some}
 use Rattle.list_lemmas.proofs.Gets.{get_is, get_push}
 use Rattle.plain_search.specs.Answers.{IsFound}
-use Rattle.plain_search.proofs.Arcs.{IsSpace-arcs}
+use Rattle.step_search.specs.ArcLaws.{IsSpace-arcs}
 use Rattle.plain_search.proofs.queries.least_from.Goals as goal
 
 -- one answer more, to the target at its place

@@ -2,7 +2,7 @@ use Rattle.std.proofs.Common.{◌≡◌, ℕ, Some, length}
 use Rattle.std.specs.List.{slice_get}
 use Rattle.search_graph.specs.declared.ends.Target.{Target}
 use Rattle.step_search.specs.UnderWay.{IsUnderWay}
-use Rattle.plain_search.specs.ArcSpace.{arc_space}
+use Rattle.step_search.specs.ArcSpace.{arc_space}
 use Rattle.plain_search.specs.Answers.{IsFound}
 use Rattle.plain_search.proofs.queries.least_from.Given as goal
 

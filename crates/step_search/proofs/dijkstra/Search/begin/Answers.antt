@@ -1,27 +1,12 @@
--- A search begins empty, and at one start after the other.
-use Rattle.std.proofs.Common.{[], ◌∷◌, ◌++◌, take, sym, ◌∙◌, ap, subst}
-use Rattle.std.specs.List.{Contains}
-use Rattle.std.proofs.lemmas.List.{take_more}
-use Rattle.step_search.specs.Labelled.{settled_of}
-use Rattle.step_search.specs.UnderWay.{IsBegun}
-use Rattle.step_search.proofs.Advanced.{begun_more, begun_nowhere}
+-- A new search has nothing.
+use Rattle.std.proofs.Common.{ap}
+use Rattle.step_search.specs.Labelled.{label_of, settled_of}
 use Rattle.step_search.proofs.dijkstra.Search.begin.Goals as goal
 
-pub loop-start-init : goal.loop-start-init
-loop-start-init g c = record {
-  begun = begun_nowhere g.C.Cost.ops (g.T.Steps.space c.args.steps.now) c.args.starts.now _ c.new.ensures.items c.new-2.ensures c.new-3.ensures c.requires.space c.requires.starts;
+pub begin_all-requires-clause-fresh : goal.begin_all-requires-clause-fresh
+begin_all-requires-clause-fresh g c = record {
+  tree = c.new.ensures.items;
+  unlabelled = λ v. ap (λ x. label_of x v) c.new-2.ensures;
   unsettled = λ v. ap (λ x. settled_of x v) c.new-2.ensures;
+  queue = c.new-3.ensures;
 }
-
-pub begin_at-requires-clause-vertex : goal.begin_at-requires-clause-vertex
-begin_at-requires-clause-vertex g c = (c.requires.starts c.start-item.result (c.loop-start.start-index, c.loop-start-test.true, sym c.start-item.is)).0
-
-pub loop-start-preserved : goal.loop-start-preserved
-loop-start-preserved g c =
-    let among : Contains c.args.starts.now c.start-item.result = (c.loop-start.start-index, c.loop-start-test.true, sym c.start-item.is) in
-    let more = begun_more g.met.C.Cost.laws (g.T.Steps.space c.args.steps.now) c.args.starts.now c.loop-start.search c.begin_at.new.self c.in_ok-begin_at.ensures.front (take c.loop-start.start-index c.args.starts.now) c.loop-start.invariant.begun c.start-item.result among c.in_ok-begin_at.ensures.begins in
-    record {
-      begun = subst (λ ss. IsBegun g.C.Cost.ops (g.T.Steps.space c.args.steps.now) c.args.starts.now ss c.begin_at.new.self)
-          (ap (λ x. take c.loop-start.start-index c.args.starts.now ++ x ∷ []) c.start-item.is ∙ sym (take_more c.args.starts.now c.loop-start.start-index c.start-item.result c.loop-start-test.true)) more;
-      unsettled = λ v. ap (λ f. f v) c.in_ok-begin_at.ensures.begins.settled ∙ c.loop-start.invariant.unsettled v;
-    }

@@ -3,10 +3,10 @@ use Rattle.std.proofs.Common.{take}
 use Rattle.step_search.specs.Labelled.{settled_of}
 use Rattle.step_search.specs.Stepping.{NoneSettled}
 use Rattle.step_search.specs.UnderWay.{IsBegun}
-use Rattle.step_search.proofs.dijkstra.Search.begin.Given as goal
+use Rattle.step_search.proofs.dijkstra.Search.begin_all.Given as goal
 
 abbrev pub invariant-loop-start : goal.invariant-loop-start
 invariant-loop-start g l = record {
-  begun : IsBegun g.C.Cost.ops (g.T.Steps.space l.steps) l.starts (take l.start-index l.starts) l.search;
-  unsettled : NoneSettled (settled_of l.search.labels);
+  begun : IsBegun g.C.Cost.ops (g.T.Steps.space l.steps) l.starts (take l.start-index l.starts) l.self;
+  unsettled : NoneSettled (settled_of l.self.labels);
 }

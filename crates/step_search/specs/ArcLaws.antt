@@ -1,6 +1,7 @@
--- The steps of a search over a graph are the moves of its walks.
-use Rattle.std.proofs.Common.{◌≡◌, ℕ, ◌+◌, ◌^◌, ◌<◌, inl, inr, List, length, Some, arith, sym, ◌∙◌, subst}
+-- Laws of the arcs of a graph as a space: its hops are the moves of the graph's walks.
+use Rattle.std.proofs.Common.{◌≡◌, ℕ, ◌+◌, ◌^◌, ◌<◌, inl, inr, List, Some, sym, ◌∙◌, subst}
 use Rattle.std.proofs.lemmas.Option.{same_Some, slice_get_within}
+use Rattle.list_lemmas.proofs.Sums.{two_within}
 use Rattle.search_graph.specs.Costs.{CostOps, CostLaws}
 use Rattle.search_graph.specs.Digraph.{Digraph, Weighting, IsOpen}
 use Rattle.search_graph.specs.Walks.{Walk, IsMove, Paying}
@@ -8,7 +9,7 @@ use Rattle.search_graph.specs.Weighted.{IsWeighting}
 use Rattle.search_graph.specs.ChainLaws.{Chain-map, Chain-valid}
 use Rattle.search_graph.specs.OrderLaws.{same_from_le}
 use Rattle.step_search.specs.Spaces.{HasHop, StepBy, Path, IsSpace}
-use Rattle.plain_search.specs.ArcSpace.{arc_space}
+use Rattle.step_search.specs.ArcSpace.{arc_space}
 
 module _ {C : Type 0} (ops : CostOps C) (g : Digraph) (w : Weighting C) where
   -- an open vertex has one cost
@@ -33,17 +34,15 @@ module _ {C : Type 0} (ops : CostOps C) (g : Digraph) (w : Weighting C) where
   IsSpace-arcs laws h = record {
     heads = λ u v s p.
         let m = move_from_hop u v s p in
-        let lt : v < length w.vertex = slice_get_within w.vertex v (Some m.1) m.3 in
-        let n : length w.vertex ≡ g.vertices = h.vertices in
-        omega arith;
+        subst (λ (n : ℕ). v < n) h.vertices (slice_get_within w.vertex v (Some m.1) m.3);
     hop_units = λ u v s p.
         let m = move_from_hop u v s p in
         subst (λ x. ops.units x (2 ^ 29)) (sym m.4)
-        (laws.units_more (ops.plus m.0 m.1) (2 ^ 28 + 2 ^ 28) (2 ^ 29) (laws.plus_units m.0 m.1 (2 ^ 28) (2 ^ 28) (h.arc_units m.2.0 m.0 m.2.2) (h.vertex_units v m.1 m.3)) (omega arith));
+        (laws.units_more (ops.plus m.0 m.1) (2 ^ 28 + 2 ^ 28) (2 ^ 29) (laws.plus_units m.0 m.1 (2 ^ 28) (2 ^ 28) (h.arc_units m.2.0 m.0 m.2.2) (h.vertex_units v m.1 m.3)) two_within);
     least_units = λ u z d vs may p least.
         let r = h.walk_units u z may.0 d vs may.1 (walk_from_path u z ops.zero d vs p) in
         let valid : (u v : ℕ) (s : C) → IsMove ops g w u v s → ops.valid s =
-            λ u v s m. subst ops.valid (sym m.4) (laws.plus_valid m.0 m.1 (laws.units_valid m.0 (2 ^ 28) (h.arc_units m.2.0 m.0 m.2.2)) (laws.units_valid m.1 (2 ^ 28) (h.vertex_units v m.1 m.3))) in
+        λ u v s m. subst ops.valid (sym m.4) (laws.plus_valid m.0 m.1 (laws.units_valid m.0 (2 ^ 28) (h.arc_units m.2.0 m.0 m.2.2)) (laws.units_valid m.1 (2 ^ 28) (h.vertex_units v m.1 m.3))) in
         let vd : ops.valid d = Chain-valid laws valid u z ops.zero d vs laws.zero_valid (walk_from_path u z ops.zero d vs p) in
         let same : r.1 ≡ d = same_from_le laws r.1 d (laws.units_valid r.1 (2 ^ 28) r.4) vd r.3 (least r.0 r.1 (path_from_walk u z ops.zero r.1 r.0 r.2)) in
         subst (λ x. ops.units x (2 ^ 28)) same r.4;

@@ -1,4 +1,4 @@
--- The arcs of a graph as the steps of a search.
+-- The arcs of a graph as a space to search.
 use Rattle.std.specs.Prelude.{◌≡◌, Some, []}
 use Rattle.std.specs.List.{slice_get}
 use Rattle.search_graph.specs.Costs.{CostOps}

@@ -1,6 +1,7 @@
--- From a cheapest path to a target's vertex to a cheapest walk to the target: its cost takes the place of the vertex's.
-use Rattle.std.proofs.Common.{◌≡◌, ℕ, ◌+◌, ◌^◌, List, [], ◌∷◌, ◌++◌, arith, refl, sym, ◌∙◌, ap, subst}
+-- Laws of a target's cost: a cheapest path to its vertex is a cheapest walk to it, with its cost in place of the vertex's.
+use Rattle.std.proofs.Common.{◌≡◌, ℕ, ◌+◌, ◌^◌, List, [], ◌∷◌, ◌++◌, refl, sym, ◌∙◌, ap, subst}
 use Rattle.std.specs.List.{Contains}
+use Rattle.list_lemmas.proofs.Sums.{three_within}
 use Rattle.search_graph.specs.declared.ends.Start.{Start}
 use Rattle.search_graph.specs.declared.ends.Target.{Target}
 use Rattle.search_graph.specs.Costs.{CostOps, CostLaws, NoDearer}
@@ -11,8 +12,8 @@ use Rattle.search_graph.specs.OrderLaws.{plus_le, plus_le_back}
 use Rattle.search_graph.specs.ChainLaws.{Chain-valid, Chain-from_zero, Chain-to_more}
 use Rattle.step_search.specs.Spaces.{HasHop, IsLeastCost}
 use Rattle.step_search.specs.Paths.{AreStarts, IsPathTo, IsLeastPath, NoPathTo}
-use Rattle.plain_search.specs.ArcSpace.{arc_space}
-use Rattle.plain_search.proofs.Arcs.{IsSpace-arcs, open_cost, move_from_hop, hop_from_move, walk_from_path, path_from_walk}
+use Rattle.step_search.specs.ArcSpace.{arc_space}
+use Rattle.step_search.specs.ArcLaws.{IsSpace-arcs, open_cost, move_from_hop, hop_from_move, walk_from_path, path_from_walk}
 
 module _ {C : Type 0} {ops : CostOps C} (laws : CostLaws ops) (g : Digraph) (w : Weighting C) (starts : List (Start C)) (t : Target C) where
   -- a walk to the target is a path to its vertex
@@ -56,22 +57,22 @@ module _ {C : Type 0} {ops : CostOps C} (laws : CostLaws ops) (g : Digraph) (w :
           let v_rest : ops.valid rest.0 = Chain-valid laws valid_hop p.start.vertex p.last ops.zero rest.0 p.middle laws.zero_valid rest.1 in
           let v_paid : ops.valid p.paid = valid_paid walk r p in
           let least : IsLeastCost ops (arc_space ops g w) p.start.vertex p.last rest.0 = λ ws e q.
-              let v_e : ops.valid e = Chain-valid laws valid_hop p.start.vertex p.last ops.zero e ws laws.zero_valid q in
-              let v_less : ops.valid (ops.plus c e) = laws.plus_valid c e vc v_e in
-              let other : IsPathTo ops (arc_space ops g w) starts t.vertex (p.start.vertex ∷ (ws ++ t.vertex ∷ [])) (ops.plus (ops.plus c e) s) = record {
-                start = p.start;
-                among = p.among;
-                may = p.may;
-                middle = ws;
-                last = p.last;
-                paid = ops.plus c e;
-                goes = Chain-to_more laws valid_hop p.start.vertex p.last c e ws vc q;
-                joins = (s, p.joins.1, refl);
-                is_walk = refl;
-              } in
-              let le : NoDearer ops (ops.plus p.paid s) (ops.plus (ops.plus c e) s) = subst (λ x. NoDearer ops x (ops.plus (ops.plus c e) s)) p.joins.2 (path.least _ (ops.plus (ops.plus c e) s) other) in
-              let before : NoDearer ops (ops.plus c rest.0) (ops.plus c e) = subst (λ x. NoDearer ops x (ops.plus c e)) rest.2 (plus_le_back laws p.paid (ops.plus c e) s v_paid v_less vs le) in
-              plus_le_back laws rest.0 e c v_rest v_e vc (rw (laws.comm rest.0 c v_rest vc, laws.comm e c v_e vc) before) in
+          let v_e : ops.valid e = Chain-valid laws valid_hop p.start.vertex p.last ops.zero e ws laws.zero_valid q in
+          let v_less : ops.valid (ops.plus c e) = laws.plus_valid c e vc v_e in
+          let other : IsPathTo ops (arc_space ops g w) starts t.vertex (p.start.vertex ∷ (ws ++ t.vertex ∷ [])) (ops.plus (ops.plus c e) s) = record {
+            start = p.start;
+            among = p.among;
+            may = p.may;
+            middle = ws;
+            last = p.last;
+            paid = ops.plus c e;
+            goes = Chain-to_more laws valid_hop p.start.vertex p.last c e ws vc q;
+            joins = (s, p.joins.1, refl);
+            is_walk = refl;
+          } in
+          let le : NoDearer ops (ops.plus p.paid s) (ops.plus (ops.plus c e) s) = subst (λ x. NoDearer ops x (ops.plus (ops.plus c e) s)) p.joins.2 (path.least _ (ops.plus (ops.plus c e) s) other) in
+          let before : NoDearer ops (ops.plus c rest.0) (ops.plus c e) = subst (λ x. NoDearer ops x (ops.plus c e)) rest.2 (plus_le_back laws p.paid (ops.plus c e) s v_paid v_less vs le) in
+          plus_le_back laws rest.0 e c v_rest v_e vc (subst (λ x. NoDearer ops x (ops.plus e c)) (laws.comm c rest.0 vc v_rest) (subst (λ x. NoDearer ops (ops.plus c rest.0) x) (laws.comm c e vc v_e) before)) in
           let small : ops.units rest.0 (2 ^ 28) = (IsSpace-arcs ops g w laws weighting).least_units p.start.vertex p.last rest.0 p.middle p.may rest.1 least in
           subst (λ x. ops.units x (1 + 2 ^ 28)) (sym rest.2) (laws.plus_units c rest.0 1 (2 ^ 28) (fit p.start p.among).1 small)
 
@@ -126,7 +127,7 @@ module _ {C : Type 0} {ops : CostOps C} (laws : CostLaws ops) (g : Digraph) (w :
       rest_units x o rest v e =
           let b = before x o in
           let u : ops.units rest (1 + 2 ^ 28 + 2 ^ 28) = subst (λ y. ops.units y (1 + 2 ^ 28 + 2 ^ 28)) (rest_is x o rest v e) b.3 in
-          laws.units_more (ops.plus rest t.cost) (1 + 2 ^ 28 + 2 ^ 28 + 1) (2 ^ 31) (laws.plus_units rest t.cost (1 + 2 ^ 28 + 2 ^ 28) 1 u unit) (omega arith)
+          laws.units_more (ops.plus rest t.cost) (1 + 2 ^ 28 + 2 ^ 28 + 1) (2 ^ 31) (laws.plus_units rest t.cost (1 + 2 ^ 28 + 2 ^ 28) 1 u unit) three_within
 
       -- with the target's cost in place of the vertex's, the walk is a cheapest one
       pub IsLeastWalk-from_path : (x : C) → IsOpen w t.vertex x → (rest : C) → ops.valid rest → r ≡ ops.plus x rest → IsLeastWalk ops g w starts t walk (ops.plus rest t.cost)
