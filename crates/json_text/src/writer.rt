@@ -74,8 +74,8 @@ impl Json {
         ensures value { string_bytes result ≡ self.bytes }
         ensures finished { IsFinished self → (v : JsonValue) × (string_bytes result ≡ compact_text v) }
     {
-        let _containers = &self.containers;
-        self.out
+        let Json { out, .. } = self;
+        out
     }
 
     /// Begins an object.
