@@ -6,7 +6,7 @@ use Rattle.json_text.specs.declared.draft.Container.TheVariants as container
 use Rattle.json_text.specs.declared.draft.Last.{Last}
 use Rattle.json_text.specs.declared.draft.Last.TheVariants as last
 use Rattle.json_text.specs.Values.{JsonValue, array, object, Items, no_items, item, Members, no_members, member, compact_text, items_text, later_items_text, members_text, later_members_text}
-use Rattle.json_text.specs.Drafts.{Draft, TakesValue, TakesKey, TakesEnd, comma_text, opening_bracket, closing_bracket, outer_of, begun, ended, with_key, with_value}
+use Rattle.json_text.specs.Drafts.{Draft, TakesValue, TakesKey, TakesEnd, comma_text, opening_bracket, closing_bracket, outer_of, begun, ended, with_key, with_text, with_value}
 use Rattle.json_text.specs.Parts.{Frame, in_array, in_object, Part, nothing, finished, items, members, key, last_of_items, last_of_members, frames_text, containers_of, draft_of, IsPart}
 
 -- the items, and one more behind them
@@ -91,7 +91,7 @@ hole (key k ms outer) may = record { outer = in_object ms k ∷ outer; text = ap
 hole_of : (d : Draft) → IsPart d → TakesValue d → Hole d
 hole_of d (p, is) may = subst Hole (sym is) (hole p (subst TakesValue is may))
 
-pub IsPart-with_value : (d : Draft) → IsPart d → TakesValue d → (v : JsonValue) → IsPart (with_value (compact_text v) d)
+pub IsPart-with_value : (d : Draft) → IsPart d → TakesValue d → (v : JsonValue) → IsPart (with_value v d)
 IsPart-with_value d part may v =
     let h = hole_of d part may in
     subst IsPart (same_draft _ _ _ _ _ _ (ap (λ (t : List ℕ). t ++ compact_text v) (sym h.text)) (sym h.around) refl) (value_inside h.outer v)

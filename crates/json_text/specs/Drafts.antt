@@ -5,6 +5,7 @@ use Rattle.json_text.specs.declared.draft.Container.{Container}
 use Rattle.json_text.specs.declared.draft.Container.TheVariants as container
 use Rattle.json_text.specs.declared.draft.Last.{Last}
 use Rattle.json_text.specs.declared.draft.Last.TheVariants as last
+use Rattle.json_text.specs.Values.{JsonValue, compact_text}
 
 -- the bytes so far, the containers that are open, the innermost first, and what stands last in the
 -- innermost one
@@ -105,9 +106,13 @@ with_key name d = record {
 }
 
 -- a whole value with this text
-abbrev pub with_value : List ℕ → Draft → Draft
-with_value value d = record {
+abbrev pub with_text : List ℕ → Draft → Draft
+with_text value d = record {
   bytes = d.bytes ++ comma_text d.latest ++ value;
   containers = d.containers;
   latest = last.Value;
 }
+
+-- this value
+abbrev pub with_value : JsonValue → Draft → Draft
+with_value v d = with_text (compact_text v) d

@@ -3,3 +3,5 @@ pub mod Values
 pub mod Drafts
 pub mod Parts
 pub mod Inside
+pub mod Wholes
+pub mod WholeLaws

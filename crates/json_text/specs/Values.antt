@@ -54,8 +54,8 @@ abbrev mutual
 
 -- the list of a longitude and a latitude in microdegrees, with six decimals each (GeoJSON's order,
 -- RFC 7946, section 3.1.1)
-abbrev pub degrees_text : ℤ → ℤ → List ℕ
-degrees_text lon lat = 91 ∷ millionths_text lon ++ 44 ∷ millionths_text lat ++ 93 ∷ []
+abbrev pub location : ℤ → ℤ → JsonValue
+location lon lat = array (item (millionths lon) (item (millionths lat) no_items))
 
 -- the bytes are the compact text of some value
 abbrev pub IsValueText : List ℕ → Type 0

@@ -1,30 +1,29 @@
 //! The digits of numbers with a fixed count of decimals.
-ghost use Rattle.std.specs.Prelude.{◌≡◌, ◌<◌, ◌^◌, ◌+◌, ◌%◌, ◌∷◌, [], unsigned_abs};
-ghost use Rattle.json_text.specs.Numbers.{sign_text, six_digits};
+ghost use Rattle.std.specs.Prelude.{◌≡◌, ◌<◌, ◌^◌, ◌+◌, ◌∷◌, []};
+ghost use Rattle.json_text.specs.Numbers.{sign_text};
 
-/// The last six digits of a number, zeros among them.
-pub fn six_digits(n: u32) -> [u8; 6]
-    ensures { result ≡ six_digits n }
+/// A digit below ten.
+pub fn digit(n: u32) -> &'static str
+    requires { n < 10 }
+    ensures { result.now ≡ (48 + n) ∷ [] }
 {
-    [
-        last_digit(n / 100_000),
-        last_digit(n / 10_000),
-        last_digit(n / 1_000),
-        last_digit(n / 100),
-        last_digit(n / 10),
-        last_digit(n),
-    ]
-}
-
-fn last_digit(n: u32) -> u8
-    ensures { result ≡ 48 + n % 10 }
-{
-    b'0' + (n % 10) as u8
+    match n {
+        0 => "0",
+        1 => "1",
+        2 => "2",
+        3 => "3",
+        4 => "4",
+        5 => "5",
+        6 => "6",
+        7 => "7",
+        8 => "8",
+        _ => "9",
+    }
 }
 
 /// `-` before a number below 0.
-pub fn sign_text(n: i32) -> &'static [u8]
+pub fn sign_text(n: i32) -> &'static str
     ensures { result.now ≡ sign_text n }
 {
-    if n < 0 { b"-" } else { b"" }
+    if n < 0 { "-" } else { "" }
 }

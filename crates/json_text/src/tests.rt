@@ -1,3 +1,8 @@
+ghost use Rattle.std.specs.Prelude.{◌≡◌, ◌∷◌, [], OnOk, codes};
+ghost use Rattle.json_text.specs.Values.{text, tenths, location};
+ghost use Rattle.json_text.specs.Drafts.{TakesValue, with_value};
+ghost use Rattle.json_text.specs.Wholes.{object_of};
+
 use crate::Json;
 use road_base::Point;
 use std::alloc::{AllocError, Global};
@@ -73,6 +78,40 @@ fn whole_numbers_and_texts_stand_as_json_has_them(rt: HostRuntime) -> Result<(),
         json.text(text)?;
         assert_eq!(rt; json.bytes(), want.as_bytes());
     }
+    Ok(())
+}
+
+/// A caller that writes an object says which value it is.
+fn waypoint(json: &mut Json, distance: u128, name: &str, p: Point) -> Result<(), AllocError>
+    requires { TakesValue json.old }
+    ensures { OnOk result (json.new ≡ with_value (object_of ((codes "distance", tenths distance) ∷ (codes "name", text name.now) ∷ (codes "location", location p.lon p.lat) ∷ [])) json.old) }
+{
+    json.begin_object()?;
+    json.key("distance")?;
+    json.tenths(distance)?;
+    json.key("name")?;
+    json.text(name)?;
+    json.key("location")?;
+    json.degrees(p)?;
+    json.end_object()?;
+    Ok(())
+}
+
+#[test]
+fn text_is_handed_out(rt: HostRuntime) -> Result<(), AllocError> {
+    let mut json = Json::new(rt.alloc());
+    let mut list = Json::new(rt.alloc());
+    list.begin_list()?;
+    if let Some(point) = Point::of(-1, 2) {
+        waypoint(&mut json, 15, "Stra\u{df}e", point)?;
+        list.part(&json)?;
+    }
+    list.count(u128::MAX)?;
+    list.end_list()?;
+    let want =
+        "[{\"distance\":1.5,\"name\":\"Stra\u{df}e\",\"location\":[-0.000001,0.000002]},340282366920938463463374607431768211455]";
+    assert_eq!(rt; list.as_str(), want);
+    assert_eq!(rt; list.into_text().as_str(), want);
     Ok(())
 }
 

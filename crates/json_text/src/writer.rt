@@ -1,15 +1,14 @@
 //! A JSON text under construction.
-ghost use Rattle.std.specs.Prelude.{◌≡◌, IfOk, OnOk, OnErr, codes, flat_map};
-ghost use Rattle.std.specs.Fmt.{signed_decimal};
+ghost use Rattle.std.specs.Prelude.{◌≡◌, pos, IfOk, OnOk, OnErr, IsUtf8, flat_map, string_bytes};
 ghost use Rattle.json.specs.Print.{quoted};
-ghost use Rattle.json_text.specs.Numbers.{tenths_text};
-ghost use Rattle.json_text.specs.Values.{JsonValue, compact_text, degrees_text, IsValueText};
-ghost use Rattle.json_text.specs.Drafts.{empty_draft, TakesValue, TakesKey, TakesEnd, IsFinished, comma_text, opening_bracket, closing_bracket, begun, ended, with_key, with_value};
+ghost use Rattle.json_text.specs.Values.{JsonValue, null, text, whole, tenths, location, compact_text, IsValueText};
+ghost use Rattle.json_text.specs.Drafts.{empty_draft, TakesValue, TakesKey, TakesEnd, IsFinished, comma_text, opening_bracket, closing_bracket, begun, ended, with_key, with_text, with_value};
 
 use crate::append::append_all;
 use crate::draft::{Container, Last};
-use crate::numbers::{sign_text, six_digits};
+use crate::numbers::{digit, sign_text};
 use road_base::Point;
+use serde_json::Value;
 use std::alloc::{AllocError, Global};
 use std::marker::Model;
 
@@ -22,7 +21,7 @@ use std::marker::Model;
 #[derive(Drop)]
 pub struct Json {
     alloc: Global,
-    out: Vec<u8>,
+    out: String,
     // the innermost container is the last
     containers: Vec<Container>,
     latest: Last,
@@ -47,18 +46,36 @@ impl Json {
     {
         Json {
             alloc,
-            out: Vec::new(alloc),
+            out: String::new(alloc),
             containers: Vec::new(alloc),
             latest: Last::Opening,
         }
     }
 
     /// The text so far. Where it is finished it is the compact text of a JSON value.
-    pub fn bytes(&self) -> &[u8]
+    pub fn as_str(&self) -> &str
         ensures value { result.now ≡ self.now.bytes }
         ensures finished { IsFinished self.now → (v : JsonValue) × (result.now ≡ compact_text v) }
     {
-        &self.out
+        self.out.as_str()
+    }
+
+    /// The bytes of the text so far, which are UTF-8.
+    pub fn bytes(&self) -> &[u8]
+        ensures value { result.now ≡ self.now.bytes }
+        ensures text { IsUtf8 result.now }
+        ensures finished { IsFinished self.now → (v : JsonValue) × (result.now ≡ compact_text v) }
+    {
+        self.out.as_str().as_bytes()
+    }
+
+    /// The text, handed out. Where it is finished it is the compact text of a JSON value.
+    pub fn into_text(self) -> String
+        ensures value { string_bytes result ≡ self.bytes }
+        ensures finished { IsFinished self → (v : JsonValue) × (string_bytes result ≡ compact_text v) }
+    {
+        let Json { out, .. } = self;
+        out
     }
 
     /// Begins an object.
@@ -104,7 +121,7 @@ impl Json {
         ensures err { OnErr result (self.new ≡ self.old) }
     {
         let quoted = quoted(self.alloc, name)?;
-        append_all(&mut self.out, comma(self.latest), &[&quoted, b":"])?;
+        append_all(&mut self.out, comma(self.latest), &[quoted.as_str(), ":"])?;
         self.latest = Last::Key;
         Ok(())
     }
@@ -112,71 +129,101 @@ impl Json {
     /// The value `null`.
     pub fn null(&mut self) -> Result<(), AllocError>
         requires { TakesValue self.old }
-        ensures ok { OnOk result (self.new ≡ with_value (codes "null") self.old) }
+        ensures ok { OnOk result (self.new ≡ with_value null self.old) }
         ensures err { OnErr result (self.new ≡ self.old) }
     {
-        self.value(&[b"null"])
+        self.value(&["null"])
     }
 
     /// A text, escaped as `serde_json` escapes it.
     pub fn text(&mut self, t: &str) -> Result<(), AllocError>
         requires { TakesValue self.old }
-        ensures ok { OnOk result (self.new ≡ with_value (quoted t.now) self.old) }
+        ensures ok { OnOk result (self.new ≡ with_value (text t.now) self.old) }
         ensures err { OnErr result (self.new ≡ self.old) }
     {
         let quoted = quoted(self.alloc, t)?;
-        self.value(&[&quoted])
+        self.value(&[quoted.as_str()])
     }
 
     /// A whole number.
     pub fn whole(&mut self, n: i64) -> Result<(), AllocError>
         requires { TakesValue self.old }
-        ensures ok { OnOk result (self.new ≡ with_value (signed_decimal n) self.old) }
+        ensures ok { OnOk result (self.new ≡ with_value (whole n) self.old) }
         ensures err { OnErr result (self.new ≡ self.old) }
     {
         let mut buffer = itoa::Buffer::new();
-        self.value(&[buffer.format(n).as_bytes()])
+        self.value(&[buffer.format(n)])
+    }
+
+    /// A whole number that isn't below 0.
+    pub fn count(&mut self, n: u128) -> Result<(), AllocError>
+        requires { TakesValue self.old }
+        ensures ok { OnOk result (self.new ≡ with_value (whole (pos n)) self.old) }
+        ensures err { OnErr result (self.new ≡ self.old) }
+    {
+        let mut buffer = itoa::Buffer::new();
+        self.value(&[buffer.format(n)])
     }
 
     /// So many tenths, with one decimal.
     pub fn tenths(&mut self, n: u128) -> Result<(), AllocError>
         requires { TakesValue self.old }
-        ensures ok { OnOk result (self.new ≡ with_value (tenths_text n) self.old) }
+        ensures ok { OnOk result (self.new ≡ with_value (tenths n) self.old) }
         ensures err { OnErr result (self.new ≡ self.old) }
     {
         let mut buffer = itoa::Buffer::new();
-        let tenth = [b'0' + (n % 10) as u8];
-        self.value(&[buffer.format(n / 10).as_bytes(), b".", &tenth])
+        let tenth = digit((n % 10) as u32);
+        self.value(&[buffer.format(n / 10), ".", tenth])
     }
 
     /// A point as the list of its longitude and its latitude in degrees, with six decimals each.
     pub fn degrees(&mut self, p: Point) -> Result<(), AllocError>
         requires { TakesValue self.old }
-        ensures ok { OnOk result (self.new ≡ with_value (degrees_text p.lon p.lat) self.old) }
+        ensures ok { OnOk result (self.new ≡ with_value (location p.lon p.lat) self.old) }
         ensures err { OnErr result (self.new ≡ self.old) }
     {
         let (lon, lat) = (p.lon.unsigned_abs(), p.lat.unsigned_abs());
         let (mut east, mut north) = (itoa::Buffer::new(), itoa::Buffer::new());
         self.value(&[
-            b"[",
+            "[",
             sign_text(p.lon),
-            east.format(lon / 1_000_000).as_bytes(),
-            b".",
-            &six_digits(lon),
-            b",",
+            east.format(lon / 1_000_000),
+            ".",
+            digit(lon / 100_000 % 10),
+            digit(lon / 10_000 % 10),
+            digit(lon / 1_000 % 10),
+            digit(lon / 100 % 10),
+            digit(lon / 10 % 10),
+            digit(lon % 10),
+            ",",
             sign_text(p.lat),
-            north.format(lat / 1_000_000).as_bytes(),
-            b".",
-            &six_digits(lat),
-            b"]",
+            north.format(lat / 1_000_000),
+            ".",
+            digit(lat / 100_000 % 10),
+            digit(lat / 10_000 % 10),
+            digit(lat / 1_000 % 10),
+            digit(lat / 100 % 10),
+            digit(lat / 10 % 10),
+            digit(lat % 10),
+            "]",
         ])
     }
 
+    /// A value that was written before, whole.
+    pub fn part(&mut self, part: &Json) -> Result<(), AllocError>
+        requires takes { TakesValue self.old }
+        requires whole { IsFinished part.now }
+        ensures ok { OnOk result (self.new ≡ with_text part.now.bytes self.old) }
+        ensures err { OnErr result (self.new ≡ self.old) }
+    {
+        self.value(&[part.as_str()])
+    }
+
     /// A whole value, in pieces.
-    fn value(&mut self, pieces: &[&[u8]]) -> Result<(), AllocError>
+    fn value(&mut self, pieces: &[&str]) -> Result<(), AllocError>
         requires takes { TakesValue self.old }
         requires text { IsValueText (flat_map (λ piece. piece.now) pieces.now) }
-        ensures ok { OnOk result (self.new ≡ with_value (flat_map (λ piece. piece.now) pieces.now) self.old) }
+        ensures ok { OnOk result (self.new ≡ with_text (flat_map (λ piece. piece.now) pieces.now) self.old) }
         ensures err { OnErr result (self.new ≡ self.old) }
     {
         append_all(&mut self.out, comma(self.latest), pieces)?;
@@ -211,47 +258,45 @@ impl Json {
         ensures ok { OnOk result (self.new ≡ ended container self.old) }
         ensures err { OnErr result (self.new ≡ self.old) }
     {
-        self.out.extend_from_slice(closing_bracket(container))?;
+        self.out.push_str(closing_bracket(container))?;
         self.containers.pop();
         self.latest = Last::Value;
         Ok(())
     }
 }
 
-fn opening_bracket(container: Container) -> &'static [u8]
+fn opening_bracket(container: Container) -> &'static str
     ensures { result.now ≡ opening_bracket container }
 {
     match container {
-        Container::Object => b"{",
-        Container::Array => b"[",
+        Container::Object => "{",
+        Container::Array => "[",
     }
 }
 
-fn closing_bracket(container: Container) -> &'static [u8]
+fn closing_bracket(container: Container) -> &'static str
     ensures { result.now ≡ closing_bracket container }
 {
     match container {
-        Container::Object => b"}",
-        Container::Array => b"]",
+        Container::Object => "}",
+        Container::Array => "]",
     }
 }
 
 /// The comma behind a value, where another item or member follows.
-fn comma(latest: Last) -> &'static [u8]
+fn comma(latest: Last) -> &'static str
     ensures { result.now ≡ comma_text latest }
 {
     match latest {
-        Last::Value => b",",
-        Last::Opening | Last::Key => b"",
+        Last::Value => ",",
+        Last::Opening | Last::Key => "",
     }
 }
 
 /// The text between its quotes, escaped by `serde_json`. Only memory can be wanting for it.
-fn quoted(alloc: Global, text: &str) -> Result<Vec<u8>, AllocError>
-    ensures { IfOk result (λ v. v.items ≡ quoted text.now) }
+fn quoted(alloc: Global, text: &str) -> Result<String, AllocError>
+    ensures { IfOk result (λ quote. string_bytes quote ≡ quoted text.now) }
 {
-    match serde_json::to_vec(alloc, &text) {
-        Ok(bytes) => Ok(bytes),
-        Err(_) => Err(AllocError),
-    }
+    let value = Value::try_from_str(alloc, text)?;
+    value.to_string(alloc)
 }

@@ -11,6 +11,7 @@ use Rattle.metric_publish.specs.declared.held.Held.{Held}
 use Rattle.metric_publish.specs.History.{last_of, entry, IsKin, AreKin}
 use Rattle.metric_publish.specs.Board.{Sees}
 use Rattle.metric_publish.specs.Calls.{IsLast, ReadsOne, EnterGives, Entered, ReadGives}
+use Rattle.metric_publish.proofs.Fronts.{prefix_trans}
 use Rattle.metric_publish.proofs.Kin.{held_kin}
 
 -- a word that was found as expected was exchanged
@@ -32,23 +33,30 @@ module _ {V : Type 0} where
   pub given : {P : Type 0} (v w : View V) (list : P → List (Entry V)) (held : P → Result (Held V) AllocError) (r : Option P) (p : P) → r ≡ Some p → ReadGives v w list held r → ReadGives v w list held (Some p)
   given {P} v w list held r p is h = subst (λ (o : Option P). ReadGives v w list held o) is h
 
-  pub reads_one : (v w : View V) (seen front : List (Entry V)) → v.seen ≡ seen → Entered v w front → ReadsOne seen front (Some v.reads) (Some w.reads)
-  reads_one v w seen front same h =
-      (subst (λ (l : List (Entry V)). IsPrefix l front) same h.later, (h.last, h.is_last, ap Some h.reads))
+  -- the beginning of what was seen before the read begins what is seen after it
+  seen_before : (v w : View V) (seen front : List (Entry V)) → IsPrefix seen v.seen → Entered v w front → IsPrefix seen front
+  seen_before v w seen front ahead h = prefix_trans seen v.seen front ahead h.later
 
-  -- an Enter whose list begins with what was learned
-  pub enter_gives : (v w : View V) (seen learned front : List (Entry V)) (held : Result (Held V) AllocError) → v.seen ≡ seen → Entered v w front → IfOk held (λ h. IsLast front h) → IsPrefix learned front → EnterGives seen learned front (Some v.reads) (Some w.reads) held
-  enter_gives v w seen learned front (Ok held) same h last known =
+  pub reads_one : (v w : View V) (seen learned front : List (Entry V)) (reads : List ℕ) → IsPrefix seen v.seen → IsPrefix learned v.seen → v.reads ≡ reads → Entered v w front → ReadsOne seen learned front (Some reads) (Some w.reads)
+  reads_one v w seen learned front reads ahead known same h = (
+    seen_before v w seen front ahead h,
+    seen_before v w learned front known h,
+    (h.last, h.is_last, ap Some (h.reads ∙ ap (λ (l : List ℕ). l ++ h.last.number ∷ []) same)),
+  )
+
+  -- an Enter by a reader that has caught up with what was learned
+  pub enter_gives : (v w : View V) (seen learned front : List (Entry V)) (reads : List ℕ) (held : Result (Held V) AllocError) → IsPrefix seen v.seen → IsPrefix learned v.seen → v.reads ≡ reads → Entered v w front → IfOk held (λ h. IsLast front h) → EnterGives seen learned front (Some reads) (Some w.reads) held
+  enter_gives v w seen learned front reads (Ok held) ahead known same h last =
       let number : h.last.number ≡ held.number = ap (λ (u : Entry V). u.number) (same_Some _ _ (sym h.is_last ∙ last)) in (
-        subst (λ (l : List (Entry V)). IsPrefix l front) same h.later,
-        known,
+        seen_before v w seen front ahead h,
+        seen_before v w learned front known h,
         last,
-        ap Some (h.reads ∙ ap (λ (n : ℕ). v.reads ++ n ∷ []) number),
+        ap Some (h.reads ∙ (ap (λ (l : List ℕ). l ++ h.last.number ∷ []) same ∙ ap (λ (n : ℕ). reads ++ n ∷ []) number)),
       )
-  enter_gives v w seen learned front (Err e) same h last known = inr (reads_one v w seen front same h)
+  enter_gives v w seen learned front reads (Err e) ahead known same h last = inr (reads_one v w seen learned front reads ahead known same h)
 
   -- what it holds is akin to what was seen before
-  pub enter_kin : (akin : V → V → Type 0) (v w : View V) (seen front : List (Entry V)) (held : Result (Held V) AllocError) → v.seen ≡ seen → Entered v w front → IfOk held (λ h. IsLast front h) → AreKin akin front → IfOk held (λ h. IsKin akin seen (arc_value h.value))
-  enter_kin akin v w seen front (Ok held) same h last kin =
-      held_kin akin seen front (entry held.number (arc_value held.value)) (subst (λ (l : List (Entry V)). IsPrefix l front) same h.later) last kin
-  enter_kin akin v w seen front (Err e) same h last kin = tt
+  pub enter_kin : (akin : V → V → Type 0) (v w : View V) (seen front : List (Entry V)) (held : Result (Held V) AllocError) → IsPrefix seen v.seen → Entered v w front → IfOk held (λ h. IsLast front h) → AreKin akin front → IfOk held (λ h. IsKin akin seen (arc_value h.value))
+  enter_kin akin v w seen front (Ok held) ahead h last kin =
+      held_kin akin seen front (entry held.number (arc_value held.value)) (seen_before v w seen front ahead h) last kin
+  enter_kin akin v w seen front (Err e) ahead h last kin = tt

@@ -26,8 +26,9 @@ module _ {V T : Type 0} (list : T → List (Entry V)) where
 
   pub sits : (seat : ℕ) (v : View V) (x : T) → TurnsAt Held seat v x x (λ v x y w. Sits v (list y) w)
   sits seat v x views h at =
+      let k = h seat v at in
       let w : View V = record { seen = list x; reads = v.reads } in
-      (w, set_keep (list x) views seat w h (prefix_self (list x)), record { all = refl; reads = refl })
+      (w, set_keep (list x) views seat w h (prefix_self (list x)), record { later = k; all = refl; reads = refl })
 
   pub enters : (number : T → ℕ) (seat : ℕ) (v : View V) (x : T) → TurnsAt Held seat v x x (λ v x y w. Sees v (list y) (number y) w)
   enters number seat v x views h at =

@@ -25,10 +25,11 @@ module _ {V : Type 0} where
   abbrev pub IsLast : List (Entry V) → Held V → Type 0
   IsLast list held = last_of list ≡ Some (entry held.number (arc_value held.value))
 
-  -- one read: the list that is then seen begins with what was seen, and its last number was read
-  abbrev pub ReadsOne : List (Entry V) → List (Entry V) → Option (List ℕ) → Option (List ℕ) → Type 0
-  ReadsOne seen now reads after =
-      IsPrefix seen now × ((e : Entry V) × (last_of now ≡ Some e) × CountsOne reads after e.number)
+  -- one read: the list that is then seen begins with what was seen and with what was learned, and its last
+  -- number was read
+  abbrev pub ReadsOne : List (Entry V) → List (Entry V) → List (Entry V) → Option (List ℕ) → Option (List ℕ) → Type 0
+  ReadsOne seen learned now reads after =
+      IsPrefix seen now × IsPrefix learned now × ((e : Entry V) × (last_of now ≡ Some e) × CountsOne reads after e.number)
 
   -- an Enter: one read, whose list begins with what was learned too, and ends in what is held.
   -- Where memory ran out there was one read, or nothing changed
@@ -36,7 +37,7 @@ module _ {V : Type 0} where
   EnterGives seen learned now reads after (Ok held) =
       IsPrefix seen now × IsPrefix learned now × IsLast now held × CountsOne reads after held.number
   EnterGives seen learned now reads after (Err e) =
-      ((now ≡ seen) × (after ≡ reads)) ⊎ ReadsOne seen now reads after
+      ((now ≡ seen) × (after ≡ reads)) ⊎ ReadsOne seen learned now reads after
 
   -- the value is the list's new last entry, under the next number; or it is handed back, and the list is as before.
   -- No number is left exactly behind 4294967295
@@ -55,6 +56,11 @@ module _ {V : Type 0} where
     pub last : Entry V
     pub is_last : last_of list ≡ Some last
     pub reads : w.reads ≡ v.reads ++ last.number ∷ []
+
+  -- no look; or one, at this list, which counts as no read
+  abbrev pub LookGives : {P : Type 0} → View V → View V → (P → List (Entry V)) → Option P → Type 0
+  LookGives v w list None = w ≡ v
+  LookGives v w list (Some p) = IsPrefix v.seen (list p) × (w.seen ≡ list p) × (w.reads ≡ v.reads)
 
   -- no read; or one, with a pointer to the list's last value unless memory ran out
   abbrev pub ReadGives : {P : Type 0} → View V → View V → (P → List (Entry V)) → (P → Result (Held V) AllocError) → Option P → Type 0

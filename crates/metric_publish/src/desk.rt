@@ -3,7 +3,7 @@ ghost use Rattle.std.specs.Prelude.{◌≡◌, ◌++◌, ◌∷◌, ◌↔◌, [
 ghost use mathlib.Core.List.{IsPrefix};
 ghost use Rattle.std.specs.Arc.{arc_value};
 ghost use Rattle.left_right.specs.Sides.{view};
-ghost use Rattle.metric_publish.specs.History.{IsKin};
+ghost use Rattle.metric_publish.specs.History.{IsKin, IsRun, last_number};
 ghost use Rattle.metric_publish.specs.Calls.{PublishGives};
 
 use crate::entry::{Kindred, Put, View};
@@ -98,6 +98,24 @@ impl<V: Kindred, J: Naming> Desk<Shown<V, J>, V, Board, Book<V, J>> {
         Note {
             front: self.writer.published().front.again(),
         }
+    }
+
+    /// The number of the last publication. The numbers run up by one to it.
+    pub fn number(&self) -> u32
+        ensures number { result ≡ last_number self.now.writer.desk.shown.value.front.token.log }
+        ensures runs { IsRun self.now.writer.desk.shown.value.front.token.log }
+    {
+        let shown = self.writer.published();
+        shown.front.check_law();
+        shown.number()
+    }
+
+    /// Whether all that the seat has seen was published here. By the order of the steps it was; no
+    /// clause of the reader says so, and this comparison stands for it.
+    pub fn covers(&self, seat: &Seat<V, J>) -> bool
+        ensures { IsTrue result → IsPrefix seat.now.seen.token.log self.now.writer.desk.shown.value.front.token.log }
+    {
+        seat.seen.begins(&self.writer.published().front)
     }
 
     /// Whether the seat has seen all that was published.

@@ -3,7 +3,7 @@
 ghost use Rattle.std.specs.Prelude.{◌≡◌, ◌+◌, ◌==◌, ◌<◌, ◌≤◌, ◌^◌, ◌++◌, ◌∷◌, ◌↔◌, IsTrue, [], length, true, false, MatchBool};
 ghost use Rattle.std.specs.Arc.{arc_value};
 ghost use mathlib.Core.List.{IsPrefix};
-ghost use Rattle.metric_publish.specs.History.{IsNext, IsKin, AreKin, entry_of, head_of};
+ghost use Rattle.metric_publish.specs.History.{IsNext, IsKin, IsRun, AreKin, entry_of, head_of};
 
 use crate::entry::{Entry, Kindred, Put};
 use logbook::{Gain, Offer, Plain, Play, Rule, Seen, Start, Word};
@@ -82,9 +82,10 @@ pub fn append<V: Kindred>(head: &Head<V>, reached: &mut Reached<V>, len: u64, pu
     head.compare_exchange::<Add, Nothing>(len, len + 1, reached, &mut offer, &mut pen)
 }
 
-/// All values of what was reached are akin to the first.
-pub fn check_kin<V: Kindred>(reached: &Reached<V>)
-    ensures { AreKin V.akin reached.now.log }
+/// The numbers of what was reached run up by one, and all its values are akin to the first.
+pub fn check_law<V: Kindred>(reached: &Reached<V>)
+    ensures runs { IsRun reached.now.log }
+    ensures kin { AreKin V.akin reached.now.log }
 {
     let mut both = reached.again();
     both.learn(reached);
@@ -139,11 +140,12 @@ impl<V: Kindred, J: Naming> Front<V, J> {
         }
     }
 
-    /// All values are akin to the first.
-    pub fn check_kin(&self)
-        ensures { AreKin V.akin self.now.token.log }
+    /// The numbers run up by one, and all values are akin to the first.
+    pub fn check_law(&self)
+        ensures runs { IsRun self.now.token.log }
+        ensures kin { AreKin V.akin self.now.token.log }
     {
-        check_kin(&self.token);
+        check_law(&self.token);
     }
 
     /// Whether this front is no longer than the other, which then begins with it.

@@ -1,12 +1,12 @@
 //! A board for one thread.
 ghost use Rattle.std.specs.Prelude.{◌≡◌, ◌+◌, ◌<◌, ◌∷◌, [], Some, None, length, IfOk, MatchOption};
 ghost use Rattle.std.specs.Arc.{arc_value};
-ghost use Rattle.metric_publish.specs.History.{IsKin, entry, entry_of, head_of, last_of, last_number};
+ghost use Rattle.metric_publish.specs.History.{IsKin, IsRun, entry, entry_of, head_of, last_of, last_number};
 ghost use Rattle.metric_publish.specs.Calls.{IsLast, PublishGives};
 
 use crate::entry::{Kindred, Put};
 use crate::held::{Held, Receipt, Refused};
-use crate::history::{Head, Opened, Reached, append, check_kin};
+use crate::history::{Head, Opened, Reached, append, check_law};
 use crate::meaning::{Publishing, Reading};
 use std::alloc::{AllocError, Global};
 use std::sync::Arc;
@@ -59,9 +59,10 @@ impl<V: Kindred> LocalBoard<V> {
     /// Takes the last publication.
     pub fn enter(&self) -> Result<Held<V>, AllocError>
         ensures last { IfOk result (IsLast self.now.page.token.log) }
+        ensures runs { IsRun self.now.page.token.log }
         ensures kin { IfOk result (λ h. IsKin V.akin self.now.page.token.log (arc_value h.value)) }
     {
-        check_kin(&self.page.token);
+        check_law(&self.page.token);
         Ok(Held {
             number: self.page.put.number,
             value: Arc::try_clone(&self.page.put.value)?,

@@ -2,6 +2,7 @@
 ghost use Rattle.std.specs.Prelude.{◌≡◌, ℕ, List, Option, IfOk};
 ghost use Rattle.std.specs.Arc.{arc_value};
 ghost use Rattle.metric_publish.specs.declared.entry.Entry.{Entry};
+ghost use Rattle.metric_publish.specs.History.{IsRun};
 ghost use Rattle.metric_publish.specs.Calls.{EnterGives, PublishGives};
 
 use crate::held::{Held, Receipt, Refused};
@@ -26,6 +27,7 @@ pub trait Reading<V: Drop> {
     /// made, and the place may have read or not.
     fn enter(&mut self) -> Result<Held<V>, AllocError>
         ensures gives { EnterGives (seen self.old) (learned self.old) (seen self.new) (reads self.old) (reads self.new) result }
+        ensures runs { IsRun (seen self.new) }
         ensures learned { learned self.new ≡ learned self.old }
         ensures kin { IfOk result (λ h. kin self.old (arc_value h.value)) }
         ensures kin_stays { (x : V) → kin self.new x → kin self.old x };

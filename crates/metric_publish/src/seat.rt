@@ -1,10 +1,11 @@
 //! Seats read without waiting.
-ghost use Rattle.std.specs.Prelude.{◌≡◌, ◌++◌, ◌∷◌, [], Some, IfOk};
+ghost use Rattle.std.specs.Prelude.{◌≡◌, ◌++◌, ◌∷◌, [], true, Some, IfOk};
 ghost use mathlib.Core.List.{IsPrefix};
 ghost use Rattle.std.specs.Arc.{arc_value};
 ghost use Rattle.left_right.specs.Sides.{view};
-ghost use Rattle.metric_publish.specs.History.{IsKin};
-ghost use Rattle.metric_publish.specs.Calls.{ReadGives, EnterGives};
+ghost use Rattle.metric_publish.specs.History.{IsKin, IsRun};
+ghost use Rattle.metric_publish.specs.Board.{IsFront};
+ghost use Rattle.metric_publish.specs.Calls.{LookGives, ReadGives, EnterGives};
 
 use crate::entry::{Kindred, View};
 use crate::held::Held;
@@ -23,13 +24,13 @@ pub struct Note<V: Kindred, J: Naming> {
     pub front: Front<V, J>,
 }
 
-/// A place that reads, in a thread of its own.
+/// A place that reads, in a thread of its own. Its reader may have looked at more than it has seen.
 #[derive(Drop)]
 pub struct Seat<V: Kindred, J: Naming> {
     pub reader: Reader<Shown<V, J>, View<V>, Board>,
     pub seen: Front<V, J>,
     pub learned: Front<V, J>,
-    ghost sees: { (view reader.place).seen ≡ seen.token.log },
+    ghost sees: { IsFront seen.token.log (view reader.place).seen },
 }
 
 // The list that was read and the pointer, unless memory ran out; or no read.
@@ -56,10 +57,49 @@ fn read<V: Kindred, J: Naming>(
     }
 }
 
-// One read. The list that it saw begins with what was learned, by the order of the steps;
-// no clause of the reader says so, and this comparison stands for it.
+// What is shown now, or nothing. It counts as no read.
+fn look<V: Kindred, J: Naming>(
+    reader: Reader<Shown<V, J>, View<V>, Board>,
+) -> (Reader<Shown<V, J>, View<V>, Board>, Option<Front<V, J>>)
+    ensures { LookGives (view reader.place) (view result.0.place) (λ f. f.token.log) result.1 }
+{
+    match reader.enter_as::<Sitting>() {
+        Ok(reading) => {
+            let front = reading.get().front.again();
+            (reading.leave(), Some(front))
+        }
+        Err(reader) => (reader, None),
+    }
+}
+
+// A reader that is at least as far as what was learned, if it can be told to be. By the order of the
+// steps what is shown begins with what was learned; no clause of the reader says so, and this
+// comparison stands for it.
+fn catch_up<V: Kindred, J: Naming>(
+    reader: Reader<Shown<V, J>, View<V>, Board>,
+    seen: &Front<V, J>,
+    learned: &Front<V, J>,
+) -> (Reader<Shown<V, J>, View<V>, Board>, bool)
+    requires { IsFront seen.now.token.log (view reader.place).seen }
+    ensures caught { result.1 ≡ true → IsPrefix learned.now.token.log (view result.0.place).seen }
+    ensures later { IsPrefix (view reader.place).seen (view result.0.place).seen }
+    ensures reads { (view result.0.place).reads ≡ (view reader.place).reads }
+{
+    if learned.begins(seen) {
+        return (reader, true);
+    }
+    let (reader, shown) = look(reader);
+    let Some(front) = shown else {
+        return (reader, false);
+    };
+    let is_ahead = learned.begins(&front);
+    (reader, is_ahead)
+}
+
+// One read. A reader that can't catch up with what was learned doesn't read.
 fn entered<V: Kindred, J: Naming>(seat: Seat<V, J>) -> (Seat<V, J>, Result<Held<V>, AllocError>)
     ensures gives { EnterGives seat.seen.token.log seat.learned.token.log result.0.seen.token.log (Some (view seat.reader.place).reads) (Some (view result.0.reader.place).reads) result.1 }
+    ensures runs { IsRun result.0.seen.token.log }
     ensures learned { result.0.learned.token.log ≡ seat.learned.token.log }
     ensures kin { IfOk result.1 (λ h. IsKin V.akin seat.seen.token.log (arc_value h.value)) }
 {
@@ -68,6 +108,16 @@ fn entered<V: Kindred, J: Naming>(seat: Seat<V, J>) -> (Seat<V, J>, Result<Held<
         seen,
         learned,
     } = seat;
+    seen.check_law();
+    let (reader, is_ahead) = catch_up(reader, &seen, &learned);
+    if !is_ahead {
+        let seat = Seat {
+            reader,
+            seen,
+            learned,
+        };
+        return (seat, Err(AllocError));
+    }
     let (reader, got) = read(reader);
     let Some((front, held)) = got else {
         let seat = Seat {
@@ -77,18 +127,13 @@ fn entered<V: Kindred, J: Naming>(seat: Seat<V, J>) -> (Seat<V, J>, Result<Held<
         };
         return (seat, Err(AllocError));
     };
-    front.check_kin();
-    let is_learned = learned.begins(&front);
+    front.check_law();
     let seat = Seat {
         reader,
         seen: front,
         learned,
     };
-    if is_learned {
-        (seat, held)
-    } else {
-        (seat, Err(AllocError))
-    }
+    (seat, held)
 }
 
 impl<V: Kindred, J: Naming> Seat<V, J> {
@@ -96,13 +141,12 @@ impl<V: Kindred, J: Naming> Seat<V, J> {
     pub fn over(reader: Reader<Shown<V, J>, View<V>, Board>) -> Result<Seat<V, J>, AllocError>
         ensures { IfOk result (λ s. (s.learned.token.log ≡ s.seen.token.log) × ((view s.reader.place).reads ≡ (view reader.place).reads)) }
     {
-        let reading = match reader.enter_as::<Sitting>() {
-            Ok(reading) => reading,
-            Err(_) => return Err(AllocError),
+        let (reader, shown) = look(reader);
+        let Some(seen) = shown else {
+            return Err(AllocError);
         };
-        let seen = reading.get().front.again();
         Ok(Seat {
-            reader: reading.leave(),
+            reader,
             learned: seen.again(),
             seen,
         })

@@ -32,6 +32,13 @@ impl<V: Kindred, J: Naming> Shown<V, J> {
         })
     }
 
+    /// The number of this publication, the last of the list.
+    pub fn number(&self) -> u32
+        ensures { result ≡ last_number self.now.front.token.log }
+    {
+        self.put.number
+    }
+
     /// The number of the next publication. `None`: no number is left.
     pub fn next_number(&self) -> Option<u32>
         ensures { MatchOption result (last_number self.now.front.token.log ≡ 4294967295) (λ n. (last_number self.now.front.token.log < 4294967295) × (n ≡ last_number self.now.front.token.log + 1)) }

@@ -1,32 +1,17 @@
-use Rattle.std.proofs.Common.{◌≡◌, ℕ, ◌/◌, List, OnOk, rules, decimal, ap, ◌∙◌, subst}
-use Rattle.json_text.specs.Numbers.{six_digits}
-use Rattle.json_text.specs.Values.{array, millionths, item, no_items}
-use Rattle.json_text.specs.Drafts.{with_value}
-use Rattle.json_text.proofs.Pieces.{degrees_pieces, degrees_text-compact_text}
+use Rattle.std.proofs.Common.{◌≡◌, ℕ, List, OnOk, rules, subst}
+use Rattle.json_text.specs.Values.{location}
+use Rattle.json_text.specs.Drafts.{with_text}
+use Rattle.json_text.proofs.Pieces.{Millionths, location_pieces}
 use Rattle.json_text.proofs.writer.Json.degrees.Goals as goal
 
--- the digits before the point, and those behind it
-whole : (text shown : List ℕ) (n : ℕ) {m : ℕ} → text ≡ shown → shown ≡ decimal (n / 1000000) → n ≡ m → text ≡ decimal (m / 1000000)
-whole text shown n same text_is n_is = same ∙ text_is ∙ ap (λ (k : ℕ). decimal (k / 1000000)) n_is
-
-digits : (text : List ℕ) (n : ℕ) {m : ℕ} → text ≡ six_digits n → n ≡ m → text ≡ six_digits m
-digits text n text_is n_is = text_is ∙ ap six_digits n_is
-
 pub value-requires-clause-text : goal.value-requires-clause-text
-value-requires-clause-text c = (
-  array (item (millionths c.args.p.lon) (item (millionths c.args.p.lat) no_items)),
-  degrees_pieces c.args.p.lon c.args.p.lat
-      c.sign_text.result.now c.as_bytes.result.now c.six_digits.result c.sign_text-2.result.now c.as_bytes-2.result.now c.six_digits-2.result
-      (search rules) (whole _ _ _ c.as_bytes.ensures.value c.format.ensures.text (search rules)) (digits _ _ c.six_digits.ensures (search rules))
-      (search rules) (whole _ _ _ c.as_bytes-2.ensures.value c.format-2.ensures.text (search rules)) (digits _ _ c.six_digits-2.ensures (search rules))
-      ∙ degrees_text-compact_text c.args.p.lon c.args.p.lat,
-)
+value-requires-clause-text c =
+    let east : Millionths c.args.p.lon c.unsigned_abs-lon.result c.sign_text.result.now c.format.result.now c.digit.result.now c.digit-2.result.now c.digit-3.result.now c.digit-4.result.now c.digit-5.result.now c.digit-6.result.now = (record { size = search rules; sign = search rules; whole = c.format.ensures.text; first = c.digit.ensures; second = c.digit-2.ensures; third = c.digit-3.ensures; fourth = c.digit-4.ensures; fifth = c.digit-5.ensures; sixth = c.digit-6.ensures }) in
+    let north : Millionths c.args.p.lat c.unsigned_abs-lat.result c.sign_text-2.result.now c.format-2.result.now c.digit-7.result.now c.digit-8.result.now c.digit-9.result.now c.digit-10.result.now c.digit-11.result.now c.digit-12.result.now = (record { size = search rules; sign = search rules; whole = c.format-2.ensures.text; first = c.digit-7.ensures; second = c.digit-8.ensures; third = c.digit-9.ensures; fourth = c.digit-10.ensures; fifth = c.digit-11.ensures; sixth = c.digit-12.ensures }) in
+    (location c.args.p.lon c.args.p.lat, location_pieces _ _ _ _ _ _ _ _ _ _ _ _ _ _ _ _ _ _ _ _ east north)
 
 pub returns-clause-ok : goal.returns-clause-ok
 returns-clause-ok c =
-    subst (λ (t : List ℕ). OnOk c.value.result (c.value.new.self ≡ with_value t c.args.self.now))
-    (degrees_pieces c.args.p.lon c.args.p.lat
-    c.sign_text.result.now c.as_bytes.result.now c.six_digits.result c.sign_text-2.result.now c.as_bytes-2.result.now c.six_digits-2.result
-    (search rules) (whole _ _ _ c.as_bytes.ensures.value c.format.ensures.text (search rules)) (digits _ _ c.six_digits.ensures (search rules))
-    (search rules) (whole _ _ _ c.as_bytes-2.ensures.value c.format-2.ensures.text (search rules)) (digits _ _ c.six_digits-2.ensures (search rules)))
-    c.value.ensures.ok
+    let east : Millionths c.args.p.lon c.unsigned_abs-lon.result c.sign_text.result.now c.format.result.now c.digit.result.now c.digit-2.result.now c.digit-3.result.now c.digit-4.result.now c.digit-5.result.now c.digit-6.result.now = (record { size = search rules; sign = search rules; whole = c.format.ensures.text; first = c.digit.ensures; second = c.digit-2.ensures; third = c.digit-3.ensures; fourth = c.digit-4.ensures; fifth = c.digit-5.ensures; sixth = c.digit-6.ensures }) in
+    let north : Millionths c.args.p.lat c.unsigned_abs-lat.result c.sign_text-2.result.now c.format-2.result.now c.digit-7.result.now c.digit-8.result.now c.digit-9.result.now c.digit-10.result.now c.digit-11.result.now c.digit-12.result.now = (record { size = search rules; sign = search rules; whole = c.format-2.ensures.text; first = c.digit-7.ensures; second = c.digit-8.ensures; third = c.digit-9.ensures; fourth = c.digit-10.ensures; fifth = c.digit-11.ensures; sixth = c.digit-12.ensures }) in
+    subst (λ (t : List ℕ). OnOk c.value.result (c.value.new.self ≡ with_text t c.args.self.now)) (location_pieces _ _ _ _ _ _ _ _ _ _ _ _ _ _ _ _ _ _ _ _ east north) c.value.ensures.ok

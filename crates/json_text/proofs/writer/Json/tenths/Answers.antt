@@ -3,4 +3,4 @@ use Rattle.json_text.specs.Values.{tenths}
 use Rattle.json_text.proofs.writer.Json.tenths.Goals as goal
 
 pub value-requires-clause-text : goal.value-requires-clause-text
-value-requires-clause-text c = (tenths c.args.n, rw (c.as_bytes.ensures.value, c.format.ensures.text) refl)
+value-requires-clause-text c = (tenths c.args.n, rw (c.format.ensures.text, c.digit-tenth.ensures) refl)

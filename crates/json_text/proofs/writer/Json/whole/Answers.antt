@@ -6,4 +6,4 @@ use Rattle.json_text.proofs.writer.Json.whole.Goals as goal
 pub value-requires-clause-text : goal.value-requires-clause-text
 value-requires-clause-text c =
     let text : c.format.result.now ≡ signed_decimal c.args.n = search rules in
-    (whole c.args.n, append-nil _ ∙ c.as_bytes.ensures.value ∙ text)
+    (whole c.args.n, append-nil _ ∙ text)
