@@ -6,7 +6,8 @@ use Rattle.std.proofs.lemmas.Bool.{cond-true, cond-false}
 use Rattle.std.proofs.lemmas.Int.{ints}
 use Rattle.std.specs.Prelude.{FitsSigned}
 use Rattle.std.specs.Int.{w32}
-use Rattle.polyline_text.specs.Decoding.{fits_32, checked, moved, moved_by, value_in, coordinate_in, longitude_behind, with_latitude, point_in, Path, behind_points, points_behind, points_in, decoded}
+use Rattle.polyline_text.specs.Grammar.{Path}
+use Rattle.polyline_text.specs.Decoding.{checked, coordinate_in, longitude_behind, with_latitude, point_in, behind_points, points_behind, points_in, decoded}
 
 pub checked-fits : (sum : ℤ) (taken : ℕ) → FitsSigned w32 sum → checked sum taken ≡ Ok (sum, taken)
 checked-fits (pos n) taken fits =

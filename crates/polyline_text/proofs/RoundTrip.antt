@@ -7,24 +7,14 @@ use Rattle.std.proofs.Math.Nat.{pow-suc}
 use Rattle.std.proofs.Math.Seq.{drop-append_seam}
 use Rattle.road_base.specs.declared.coordinates.Point.{Point}
 use Rattle.std.specs.Int.{int_div_euclid}
-use Rattle.polyline_text.specs.RoundTrip.{GivesBackPoints, GivesBackRounded}
+use Rattle.polyline_text.specs.RoundTrip.{GivesBackPoints, GivesBackRounded, to_tens}
 use Rattle.polyline_text.specs.Encoding.{rounded, folded, groups_text, difference_text, text_from, encoded}
-use Rattle.polyline_text.specs.Decoding.{is_last_group, is_group_with_more, behind_group, value_in, unfolded, unit_of, fits_32, checked, moved_by, coordinate_in, point_in, behind_points, points_in, decoded}
+use Rattle.polyline_text.specs.Grammar.{unfolded, unit_of, fits_32}
+use Rattle.polyline_text.specs.Decoding.{behind_group, value_in, checked, moved_by, coordinate_in, point_in, behind_points, points_in, decoded}
 use Rattle.polyline_text.proofs.Groups.{groups_text-last, groups_text-more}
+use Rattle.polyline_text.proofs.Values.{value_in-last, value_in-more}
 use Rattle.polyline_text.proofs.Reading.{point_of, one_point_read, end_read}
-
-value_in-last : (g b : ℕ) (bytes : List ℕ) → 63 ≤ b → b < 95 → value_in (suc g) (b ∷ bytes) ≡ Ok (b - 63, 1)
-unfolding value_in
-value_in-last g b bytes low high =
-    let test : is_last_group b ≡ true = grind (arith, nat_tests) in
-    cond-true _ _ _ test
-
-value_in-more : (g b : ℕ) (bytes : List ℕ) → 95 ≤ b → b < 127 → value_in (suc g) (b ∷ bytes) ≡ behind_group (b - 95) (value_in g bytes)
-unfolding value_in
-value_in-more g b bytes low high =
-    let test : is_last_group b ≡ false = grind (arith, nat_tests) in
-    let other : is_group_with_more b ≡ true = grind (arith, nat_tests) in
-    cond-false _ _ _ test ∙ cond-true _ _ _ other
+use Rattle.polyline_text.proofs.Grammar.{path_read}
 
 -- groups that were written are read as their number
 value_in-groups_text : (k g n : ℕ) (rest : List ℕ) → k ≤ g → n < 32 ^ suc k → (n < 32) ⊎ (32 ≤ n)
@@ -200,8 +190,9 @@ one_times z = omega (arith, ints)
 
 pub gives_back_points : (points : List Point) → GivesBackPoints points
 gives_back_points points =
-    decoded-encoded 6 points six refl
-    ∙ ap Ok (map-same (back 6) (λ p. (p.lon, p.lat)) points (λ p. ap₂ (λ (x y : ℤ). (x, y)) (one_times p.lon) (one_times p.lat)))
+    path_read (length (encoded 6 points)) 6 (pos 0) (pos 0) (encoded 6 points) (map (λ p. (p.lon, p.lat)) points) (omega arith)
+    (decoded-encoded 6 points six refl
+    ∙ ap Ok (map-same (back 6) (λ p. (p.lon, p.lat)) points (λ p. ap₂ (λ (x y : ℤ). (x, y)) (one_times p.lon) (one_times p.lat))))
 
 pub gives_back_rounded : (points : List Point) → GivesBackRounded points
-gives_back_rounded points = decoded-encoded 5 points five refl
+gives_back_rounded points = path_read (length (encoded 5 points)) 5 (pos 0) (pos 0) (encoded 5 points) (map (λ p. (to_tens p.lon, to_tens p.lat)) points) (omega arith) (decoded-encoded 5 points five refl)

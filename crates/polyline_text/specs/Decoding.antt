@@ -1,6 +1,6 @@
--- What an encoded polyline stands for, or the offset of its first fault. The same format read from
--- the left; which bytes are refused, and where, is this project's rule.
-use Rattle.std.specs.Prelude.{ℕ, suc, zero, ℤ, pos, negsuc, ◌+◌, ◌-◌, ◌*◌, ◌/◌, ◌%◌, ◌^◌, ◌+ℤ◌, ◌*ℤ◌, Bool, true, false, ◌&&◌, List, [], ◌∷◌, ◌++◌, length, drop, nat_lt, nat_le, ◌==◌, if◌then◌else◌, Result, Ok, Err}
+-- Private to `src/decoding.rt`: the grammar read from the left. Public contracts speak of `Grammar`.
+use Rattle.std.specs.Prelude.{ℕ, suc, zero, ℤ, pos, ◌+◌, ◌-◌, ◌*◌, Bool, ◌&&◌, List, [], ◌∷◌, ◌++◌, length, drop, nat_lt, nat_le, if◌then◌else◌, Result, Ok, Err}
+use Rattle.polyline_text.specs.Grammar.{Path, moved, fits_32}
 
 -- the last group of a value
 abbrev pub is_last_group : ℕ → Bool
@@ -23,23 +23,6 @@ value_in zero (b ∷ bytes) = Err 0
 value_in (suc groups) (b ∷ bytes) =
     if is_last_group b then Ok (b - 63, 1)
     else (if is_group_with_more b then behind_group (b - 95) (value_in groups bytes) else Err 0)
-
--- 0, 1, 2, 3, .. stand for 0, -1, 1, -2, ..
-abbrev pub unfolded : ℕ → ℤ
-unfolded n = if n % 2 == 0 then pos (n / 2) else negsuc (n / 2)
-
--- how many microdegrees the last digit stands for
-abbrev pub unit_of : ℕ → ℕ
-unit_of digits = if digits == 5 then 10 else 1
-
--- the number is one of 32 bits with a sign
-abbrev pub fits_32 : ℤ → Bool
-fits_32 (pos n) = nat_lt n (2 ^ 31)
-fits_32 (negsuc n) = nat_lt n (2 ^ 31)
-
--- a coordinate, in microdegrees, behind the one before it
-abbrev pub moved : ℕ → ℤ → ℕ → ℤ
-moved digits sum n = sum +ℤ pos (unit_of digits) *ℤ unfolded n
 
 -- it has to fit; the fault is at the value's last byte
 abbrev pub checked : ℤ → ℕ → Result (ℤ × ℕ) ℕ
@@ -65,10 +48,6 @@ longitude_behind digits lon bytes (Err offset) = Err offset
 -- the point at the front of the bytes, behind the one before it
 abbrev pub point_in : ℕ → ℤ → ℤ → List ℕ → Result (ℤ × ℤ × ℕ) ℕ
 point_in digits lon lat bytes = longitude_behind digits lon bytes (coordinate_in digits lat bytes)
-
--- a list of points
-abbrev pub Path : Type 0
-Path = List (ℤ × ℤ)
 
 -- these points and then others, which stand so many bytes further on
 abbrev pub behind_points : Path → ℕ → Result Path ℕ → Result Path ℕ

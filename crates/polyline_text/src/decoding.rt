@@ -1,7 +1,9 @@
 //! From text to points.
 ghost use Rattle.std.specs.Prelude.{◌≡◌, ◌+◌, ◌*◌, ◌<◌, ◌≤◌, ◌^◌, length, pos, negsuc, ◌≤ℤ◌, ◌<ℤ◌, IfOk, IfErr, IsTrue};
-ghost use Rattle.polyline_text.specs.Answers.{is_digits, AnswersPath};
-ghost use Rattle.polyline_text.specs.Decoding.{is_last_group, is_group_with_more, value_in, unfolded, unit_of, moved, checked, coordinate_in, point_in};
+ghost use Rattle.polyline_text.specs.Answers.{is_digits, Answers, AnswersPath};
+ghost use Rattle.polyline_text.specs.Grammar.{Path, IsPath, unfolded, unit_of, moved};
+ghost use Rattle.polyline_text.specs.Decoding.{is_last_group, is_group_with_more, value_in, checked, coordinate_in, point_in};
+ghost use Rattle.polyline_text.specs.Readings.{Reads};
 
 use std::alloc::Global;
 
@@ -19,10 +21,18 @@ pub enum DecodeError {
 
 /// The points of an encoded polyline with coordinates to 5 or 6 digits, each as its longitude and
 /// its latitude in microdegrees. They may lie anywhere in 32 bits. Groups of zero at a value's end
-/// are taken.
+/// are taken. A text with points has them alone, and is answered by them unless memory is wanting.
 pub fn decode(alloc: Global, bytes: &[u8], digits: u32) -> Result<Vec<(i32, i32)>, DecodeError>
     requires { IsTrue (is_digits digits) }
-    ensures { AnswersPath digits bytes.now result }
+    ensures answers { Answers digits bytes.now result }
+    ensures complete { (path : Path) → IsPath digits bytes.now path → AnswersPath path result }
+{
+    points_of(alloc, bytes, digits)
+}
+
+/// The points, from the left.
+fn points_of(alloc: Global, bytes: &[u8], digits: u32) -> Result<Vec<(i32, i32)>, DecodeError>
+    ensures { Reads digits bytes.now result }
 {
     let mut points = Vec::new(alloc);
     let (mut lon, mut lat) = (0, 0);

@@ -1,7 +1,7 @@
 use Rattle.std.proofs.Common.{rules, arith}
 use Rattle.std.proofs.lemmas.List.{take_rest}
 use Rattle.polyline_text.proofs.Reading.{point_taken, fault_found, all_taken}
-use Rattle.polyline_text.proofs.decoding.decode.Goals as goal
+use Rattle.polyline_text.proofs.decoding.points_of.Goals as goal
 
 pub returns-in-Err : goal.returns-in-Err
 returns-in-Err c =

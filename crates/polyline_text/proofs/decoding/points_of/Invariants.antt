@@ -1,6 +1,6 @@
 use Rattle.std.proofs.Common.{◌≡◌, ℕ, ◌-◌, ◌≤◌, length, drop}
 use Rattle.polyline_text.specs.Decoding.{decoded, behind_points, points_in}
-use Rattle.polyline_text.proofs.decoding.decode.Given as goal
+use Rattle.polyline_text.proofs.decoding.points_of.Given as goal
 
 abbrev pub invariant-loop-at : goal.invariant-loop-at
 invariant-loop-at l =
