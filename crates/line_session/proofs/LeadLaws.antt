@@ -1,5 +1,5 @@
 -- How what is told of an input goes on, byte by byte and piece by piece.
-use Rattle.std.proofs.Common.{Bool, true, nat_le, Option, None, ◌≡◌, ℕ, ◌+◌, ◌-◌, ◌^◌, ◌<◌, ◌≤◌, min, false, ◌==◌, Result, Ok, Err, OnErr, get_or, drop, add-one, take-suc, take-append-drop, List, [], ◌∷◌, ◌++◌, length, take, refl, sym, ap, ◌∙◌, subst, inl, inr, append_assoc, append-nil, arith, length-append, length-take}
+use Rattle.std.proofs.Common.{◌⊎◌, Bool, true, nat_le, Option, None, ◌≡◌, ℕ, ◌+◌, ◌-◌, ◌^◌, ◌<◌, ◌≤◌, min, false, ◌==◌, Result, Ok, Err, OnErr, get_or, drop, add-one, take-suc, take-append-drop, List, [], ◌∷◌, ◌++◌, length, take, refl, sym, ap, ◌∙◌, subst, inl, inr, append_assoc, append-nil, arith, length-append, length-take}
 use Rattle.std.proofs.lemmas.Bool.Decides.{nat_tests}
 use Rattle.std.specs.Io.KnownBytes.{Consumes, IsAtEnd}
 use Rattle.std.specs.Str.Lines.{lines, strip_carriage_return}
@@ -9,13 +9,11 @@ use Rattle.reply_core.specs.RoadMetric.{RoadMetric}
 use Rattle.reply_core.specs.Texts.{busy_text}
 use Rattle.reply_core.specs.declared.answers.Answer.{Answer}
 use Rattle.road_io.specs.Told.{appends_none, appends_then, front_none, front_of_first, front_of_second}
-use Rattle.line_session.specs.Leading.{AddsAll, AddsFront, Goes, GoesStopped, Leads, NoNewline, TakenSoFar, TellsAll, TellsFront}
-use Rattle.line_session.specs.Outside.{InputView, OutputView, Took}
+use Rattle.road_io.specs.Views.{OutputView}
+use Rattle.line_session.specs.Leading.{AddsAll, AddsFront, Goes, GoesStopped, IsWholeFront, Leads, NoNewline, TellsAll, TellsFront}
 use Rattle.line_session.specs.Publication.{IsReplyLine, Publication, newline}
-use Rattle.line_session.specs.Stopping.{ToldAll, ToldPart}
-use Rattle.line_session.specs.Told.{Adds, IsToldFront, Told}
-use Rattle.line_session.proofs.LineLaws.{lines_at, lines_last, long_lines}
-use Rattle.line_session.proofs.TakingLaws.{content_all, content_rest, content_some, took_all, took_end, took_none, took_piece}
+use Rattle.line_session.specs.Told.{Adds, Told, whole_lines}
+use Rattle.line_session.proofs.LineLaws.{LongLines, lines_at, lines_last, long_lines, whole_at, whole_long}
 
 -- a line that is too long asks for nothing
 target_of-long : (line : List ℕ) → 8192 < length line → target_of line ≡ None
@@ -56,29 +54,39 @@ told_total last ((b ∷ line) ∷ more) =
     ((busy_text ++ newline) ++ rest.0, told_first last (b ∷ line) more (busy_text ++ newline) rest.0 (inr (refl, refl)) rest.1)
 
 lead_start : (last : Publication) (all : List ℕ) → Leads last all [] all
-lead_start last all = record { leads = λ out told. told }
+lead_start last all = record { leads = λ out told. told; whole = λ out told. told }
 
 lead_then : (last : Publication) (all first mid second rest : List ℕ) → Leads last all first mid → Leads last mid second rest → Leads last all (first ++ second) rest
 lead_then last all first mid second rest one two = record {
   leads = λ out told. subst (λ (xs : List ℕ). Told last (lines all) xs) (sym (append_assoc first second out)) (one.leads (second ++ out) (two.leads out told));
+  whole = λ out told. subst (λ (xs : List ℕ). Told last (whole_lines all) xs) (sym (append_assoc first second out)) (one.whole (second ++ out) (two.whole out told));
 }
 
 -- a newline ends the line that is held
 lead_line : (last : Publication) (held more text : List ℕ) → NoNewline held → Adds last (strip_carriage_return held) text last → Leads last (held ++ (10 ∷ more)) text more
 lead_line last held more text none adds = record {
   leads = λ out told. subst (λ (all : List (List ℕ)). Told last all (text ++ out)) (sym (lines_at held more none)) (told_first last (strip_carriage_return held) (lines more) text out adds told);
+  whole = λ out told. subst (λ (all : List (List ℕ)). Told last all (text ++ out)) (sym (whole_at held more none)) (told_first last (strip_carriage_return held) (whole_lines more) text out adds told);
 }
+
+-- two texts whose lines differ only in a first one that is too long in both add the same
+told_other : (last : Publication) (of : List ℕ → List (List ℕ)) (held : List ℕ) (b : ℕ) (more out : List ℕ) → 8194 ≤ length held → LongLines of held b more → Told last (of (held ++ more)) out → Told last (of (held ++ (b ∷ more))) out
+told_other last of held b more out long split told =
+    let first : 8192 < length split.without = omega (arith, split.long_without) in
+    let second : 8192 < length split.within = omega (arith, split.long_within) in
+    subst (λ (all : List (List ℕ)). Told last all out) (sym split.lines_within)
+    (told_long last split.without split.within split.rest out first second
+    (subst (λ (all : List (List ℕ)). Told last all out) split.lines_without told))
+
+told_whole : (last : Publication) (held : List ℕ) (b : ℕ) (more out : List ℕ) → 8194 ≤ length held → ((whole_lines (held ++ more) ≡ []) × (whole_lines (held ++ (b ∷ more)) ≡ [])) ⊎ LongLines whole_lines held b more → Told last (whole_lines (held ++ more)) out → Told last (whole_lines (held ++ (b ∷ more))) out
+told_whole last held b more out long (inl none) told = subst (λ (all : List (List ℕ)). Told last all out) (none.0 ∙ sym none.1) told
+told_whole last held b more out long (inr split) told = told_other last whole_lines held b more out long split told
 
 -- a byte more is dropped where many are held
 lead_long : (last : Publication) (held : List ℕ) (b : ℕ) (more : List ℕ) → NoNewline held → (b == 10) ≡ false → 8194 ≤ length held → Leads last (held ++ (b ∷ more)) [] (held ++ more)
 lead_long last held b more none other long = record {
-  leads = λ out told.
-      let split = long_lines held b more none other (omega arith) in
-      let first : 8192 < length split.without = omega (arith, split.long_without) in
-      let second : 8192 < length split.within = omega (arith, split.long_within) in
-      subst (λ (all : List (List ℕ)). Told last all out) (sym split.lines_within)
-      (told_long last split.without split.within split.rest out first second
-      (subst (λ (all : List (List ℕ)). Told last all out) split.lines_without told));
+  leads = λ out told. told_other last lines held b more out long (long_lines held b more none other (omega arith)) told;
+  whole = λ out told. told_whole last held b more out long (whole_long held b more none other) told;
 }
 
 -- a byte was a newline, was held, or was dropped
@@ -107,8 +115,8 @@ stopped_line last held line b before after none newline_is line_is adds =
       part = adds.2.0;
       put = adds.2.2;
       front = λ more.
-          let out = told_total last (lines more) in
-          (adds.0 ++ out.0, (lead_line last held more adds.0 none adds_line).leads out.0 out.1, front_of_first adds.2.0 adds.0 out.0 adds.2.1);
+          let out = told_total last (whole_lines more) in
+          (adds.0 ++ out.0, (lead_line last held more adds.0 none adds_line).whole out.0 out.1, front_of_first adds.2.0 adds.0 out.0 adds.2.1);
     } in
     subst (λ (byte : ℕ). GoesStopped last held (byte ∷ []) before after) (sym newline_is) stopped
 
@@ -130,15 +138,15 @@ goes_stopped last held first mid second before middle after one two = record {
   put = appends_then before.written middle.written after.written one.text two.part one.put two.put;
   front = λ more.
       let told = two.front more in
-      subst (λ (xs : List ℕ). IsToldFront last (held ++ xs) (one.text ++ two.part)) (sym (append_assoc first second more))
-      (one.text ++ told.0, (one.leads (second ++ more)).leads told.0 told.1, front_of_second two.part one.text told.0 told.2);
+      subst (λ (xs : List ℕ). IsWholeFront last (held ++ xs) (one.text ++ two.part)) (sym (append_assoc first second more))
+      (one.text ++ told.0, (one.leads (second ++ more)).whole told.0 told.1, front_of_second two.part one.text told.0 told.2);
 }
 
 pub stopped_longer : (last : Publication) (held piece more : List ℕ) (before after : OutputView) → GoesStopped last held piece before after → GoesStopped last held (piece ++ more) before after
 stopped_longer last held piece more before after stopped = record {
   part = stopped.part;
   put = stopped.put;
-  front = λ rest. subst (λ (xs : List ℕ). IsToldFront last (held ++ xs) stopped.part) (sym (append_assoc piece more rest)) (stopped.front (more ++ rest));
+  front = λ rest. subst (λ (xs : List ℕ). IsWholeFront last (held ++ xs) stopped.part) (sym (append_assoc piece more rest)) (stopped.front (more ++ rest));
 }
 
 -- one byte of a piece more
@@ -178,88 +186,6 @@ tells_all last held line before after none line_is adds =
 pub tells_front : (last : Publication) (held line : List ℕ) (before after : OutputView) → NoNewline held → line ≡ held → AddsFront last line before after → TellsFront last held before after
 tells_front last held line before after none line_is adds =
     (adds.0, tells_last last held adds.0 none (subst (λ (xs : List ℕ). Adds last xs adds.0 last) line_is adds.1), adds.2)
-
--- before the first piece, and after one more
-pub so_far_none : (last : Publication) (input : InputView) (output : OutputView) → TakenSoFar last input input output output [] 0
-so_far_none last input output = record { taken = []; length_is = refl; took = took_none input; goes = goes_start last [] output }
-
-pub so_far_piece : (last : Publication) (first mid now : InputView) (before middle after : OutputView) (held rest piece : List ℕ) (taken count : ℕ) → TakenSoFar last first mid before middle held taken → Consumes mid.left now.left (take count piece) → count ≤ length piece → now.taken ≡ min (mid.taken + count) (2 ^ 64 - 1) → Goes last held (take count piece) middle after rest → TakenSoFar last first now before after rest (taken + count)
-so_far_piece last first mid now before middle after held rest piece taken count so_far given bound counted goes = record {
-  taken = so_far.taken ++ take count piece;
-  length_is = omega (arith, length-append so_far.taken (take count piece), length-take count piece, so_far.length_is);
-  took = took_piece first mid now so_far.taken piece count so_far.took given bound counted;
-  goes = goes_then last [] so_far.taken held (take count piece) rest before middle after so_far.goes goes;
-}
-
--- where nothing comes after, what is told of the rest ends what is told of all
-ended : (last : Publication) (held taken text out : List ℕ) → Leads last (taken ++ []) text (held ++ []) → Told last (lines held) out → Told last (lines taken) (text ++ out)
-ended last held taken text out leads told =
-    subst (λ (xs : List ℕ). Told last (lines xs) (text ++ out)) (append-nil taken)
-    (leads.leads out (subst (λ (xs : List ℕ). Told last (lines xs) out) (sym (append-nil held)) told))
-
--- at the end of the input
-pub told_all : (last : Publication) (first mid now : InputView) (before middle after : OutputView) (held piece : List ℕ) (taken count : ℕ) → TakenSoFar last first mid before middle held taken → taken < 2 ^ 63 → count ≡ 0 → Consumes mid.left now.left (take count piece) → now.taken ≡ min (mid.taken + count) (2 ^ 64 - 1) → IsAtEnd now.left → TellsAll last held middle after → ToldAll last first now before after
-told_all last first mid now before middle after held piece taken count so_far short none given counted at_end tells = record {
-  input = so_far.taken;
-  took = took_end first mid now so_far.taken piece count so_far.took none given counted;
-  at_end = at_end;
-  short = omega (arith, so_far.length_is);
-  text = so_far.goes.text ++ tells.0;
-  told = ended last held so_far.taken so_far.goes.text tells.0 (so_far.goes.leads []) tells.1;
-  put = appends_then before.written middle.written after.written so_far.goes.text tells.0 so_far.goes.put tells.2;
-}
-
--- at the end of the input the last reply was cut off
-pub part_last : (last : Publication) (first mid now : InputView) (before middle after : OutputView) (held piece : List ℕ) (taken count : ℕ) → TakenSoFar last first mid before middle held taken → count ≡ 0 → Consumes mid.left now.left (take count piece) → now.taken ≡ min (mid.taken + count) (2 ^ 64 - 1) → IsAtEnd now.left → TellsFront last held middle after → ToldPart last first before after
-part_last last first mid now before middle after held piece taken count so_far none given counted at_end tells =
-    let took = took_end first mid now so_far.taken piece count so_far.took none given counted in
-    record {
-      input = so_far.taken;
-      is_input = content_all first.left now.left so_far.taken took.given at_end;
-      part = so_far.goes.text ++ tells.2.0;
-      front = (so_far.goes.text ++ tells.0, ended last held so_far.taken so_far.goes.text tells.0 (so_far.goes.leads []) tells.1, front_of_second tells.2.0 so_far.goes.text tells.0 tells.2.1);
-      put = appends_then before.written middle.written after.written so_far.goes.text tells.2.0 so_far.goes.put tells.2.2;
-    }
-
--- between two pieces
-pub part_between : (last : Publication) (first mid : InputView) (before middle : OutputView) (held : List ℕ) (taken : ℕ) → TakenSoFar last first mid before middle held taken → ToldPart last first before middle
-part_between last first mid before middle held taken so_far =
-    let rest = content_rest first.left mid.left so_far.taken so_far.took.given in
-    let out = told_total last (lines (held ++ rest.0)) in
-    record {
-      input = so_far.taken ++ rest.0;
-      is_input = rest.1;
-      part = so_far.goes.text;
-      front = (so_far.goes.text ++ out.0, (so_far.goes.leads rest.0).leads out.0 out.1, (out.0, refl));
-      put = so_far.goes.put;
-    }
-
--- in a piece
-pub part_within : (last : Publication) (first mid now : InputView) (before middle after : OutputView) (held piece : List ℕ) (taken count : ℕ) → TakenSoFar last first mid before middle held taken → Consumes mid.left now.left (take count piece) → count ≤ length piece → now.taken ≡ min (mid.taken + count) (2 ^ 64 - 1) → GoesStopped last held (take count piece) middle after → ToldPart last first before after
-part_within last first mid now before middle after held piece taken count so_far given bound counted stopped =
-    let took = took_piece first mid now so_far.taken piece count so_far.took given bound counted in
-    let rest = content_rest first.left now.left (so_far.taken ++ take count piece) took.given in
-    let all = goes_stopped last [] so_far.taken held (take count piece) before middle after so_far.goes stopped in
-    record {
-      input = (so_far.taken ++ take count piece) ++ rest.0;
-      is_input = rest.1;
-      part = all.part;
-      front = all.front rest.0;
-      put = all.put;
-    }
-
--- before the first piece
-pub part_none : (last : Publication) (input : InputView) (output : OutputView) → ToldPart last input output output
-part_none last input output =
-    let all = content_some input.left in
-    let out = told_total last (lines all.0) in
-    record { input = all.0; is_input = all.1; part = []; front = (out.0, out.1, front_none out.0); put = appends_none output.written }
-
--- where 2^63 bytes were taken, they were taken in a call
-pub took_long : (last : Publication) (first now : InputView) (before after : OutputView) (held : List ℕ) (taken : ℕ) → TakenSoFar last first now before after held taken → 2 ^ 63 ≤ taken → (bytes : List ℕ) × Took first now bytes × (2 ^ 63 ≤ length bytes)
-took_long last first now before after held taken so_far long =
-    let many : 2 ^ 63 ≤ length so_far.taken = omega (arith, so_far.length_is) in
-    (so_far.taken, took_all first now so_far.taken so_far.took (omega arith), many)
 
 -- what holds at a failure
 pub on_err_given : {T E P : Type 0} (r : Result T E) → P → OnErr r P

@@ -1,3 +1,3 @@
+pub mod EndLaws
 pub mod LeadLaws
 pub mod LineLaws
-pub mod TakingLaws

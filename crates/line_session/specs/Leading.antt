@@ -1,11 +1,13 @@
--- How what was told of the input so far goes on, whatever comes after: a way to speak of half a line.
-use Rattle.std.specs.Prelude.{◌≡◌, ℕ, ◌+◌, ◌-◌, ◌^◌, ◌<◌, ◌≤◌, min, List, [], ◌++◌, All, length, false, ◌==◌}
-use Rattle.std.specs.Io.KnownBytes.{Appends, Consumes}
+-- What serves this crate's own functions, and no clause of a public call: how what was told of the input so
+-- far goes on, whatever comes after. So half a line can be spoken of.
+use Rattle.std.specs.Prelude.{◌≡◌, ℕ, List, [], ◌++◌, All, length, false, ◌==◌}
+use Rattle.std.specs.Io.KnownBytes.{Appends}
 use Rattle.std.specs.Str.Lines.{lines}
-use Rattle.road_io.specs.Told.{AppendsFront}
-use Rattle.line_session.specs.Outside.{InputView, OutputView}
+use Rattle.road_io.specs.Taking.{TookSoFar}
+use Rattle.road_io.specs.Told.{AppendsFront, IsFront}
+use Rattle.road_io.specs.Views.{InputView, OutputView}
 use Rattle.line_session.specs.Publication.{Publication}
-use Rattle.line_session.specs.Told.{Told, Adds, IsToldFront}
+use Rattle.line_session.specs.Told.{Told, Adds, whole_lines}
 
 abbrev pub NoNewline : List ℕ → Type 0
 NoNewline bytes = All (λ b. (b == 10) ≡ false) bytes
@@ -24,9 +26,10 @@ TellsAll last rest before after = (text : List ℕ) × Told last (lines rest) te
 abbrev pub TellsFront : Publication → List ℕ → OutputView → OutputView → Type 0
 TellsFront last rest before after = (text : List ℕ) × Told last (lines rest) text × AppendsFront before.written after.written text
 
--- whatever is told of the rest, with what was told in front, is told of all
+-- whatever is told of the rest, with what was told in front, is told of all; and so of the whole lines
 pub record Leads (last : Publication) (all told rest : List ℕ) : Type 0 where
   pub leads : (out : List ℕ) → Told last (lines rest) out → Told last (lines all) (told ++ out)
+  pub whole : (out : List ℕ) → Told last (whole_lines rest) out → Told last (whole_lines all) (told ++ out)
 
 -- after a piece the output has grown by what leads on, whatever comes after the piece
 pub record Goes (last : Publication) (held piece : List ℕ) (before after : OutputView) (rest : List ℕ) : Type 0 where
@@ -34,17 +37,16 @@ pub record Goes (last : Publication) (held piece : List ℕ) (before after : Out
   pub put : Appends before.written after.written text
   pub leads : (more : List ℕ) → Leads last (held ++ (piece ++ more)) text (rest ++ more)
 
--- in a piece it stopped: the output has grown by a front of what is told, whatever comes after
+-- this is a front of what is told of the whole lines among these bytes
+abbrev pub IsWholeFront : Publication → List ℕ → List ℕ → Type 0
+IsWholeFront last bytes part = (out : List ℕ) × Told last (whole_lines bytes) out × IsFront part out
+
+-- in a piece it stopped: the output has grown by a front of what is told of the whole lines, whatever
+-- comes after
 pub record GoesStopped (last : Publication) (held piece : List ℕ) (before after : OutputView) : Type 0 where
   pub part : List ℕ
   pub put : Appends before.written after.written part
-  pub front : (more : List ℕ) → IsToldFront last (held ++ (piece ++ more)) part
-
--- the input gave these bytes, perhaps in no call at all
-pub record TookSoFar (before after : InputView) (bytes : List ℕ) : Type 0 where
-  pub given : Consumes before.left after.left bytes
-  pub counted : min after.taken (2 ^ 64 - 1) ≡ min (before.taken + length bytes) (2 ^ 64 - 1)
-  pub within : 0 < length bytes → after.taken ≤ 2 ^ 64 - 1
+  pub front : (more : List ℕ) → IsWholeFront last (held ++ (piece ++ more)) part
 
 -- so many bytes were taken of the input, and the output has grown by what leads on
 pub record TakenSoFar (last : Publication) (input_before input_after : InputView) (before after : OutputView) (held : List ℕ) (count : ℕ) : Type 0 where

@@ -1,8 +1,8 @@
 -- What is told of the lines of an input (this project's rule): one reply a line, each with a newline,
 -- under the last publication before it.
-use Rattle.std.specs.Prelude.{◌≡◌, ℕ, List, [], ◌∷◌, ◌++◌, ◌⊎◌}
-use Rattle.std.specs.Str.Lines.{lines}
-use Rattle.road_io.specs.Told.{IsFront}
+use Rattle.std.specs.Prelude.{◌≡◌, ℕ, List, [], ◌∷◌, ◌++◌, ◌⊎◌, ◌==◌}
+use Rattle.std.specs.List.{slice_split}
+use Rattle.std.specs.Str.Lines.{strip_carriage_return}
 use Rattle.reply_core.specs.Texts.{busy_text}
 use Rattle.line_session.specs.Publication.{Publication, IsReplyLine, newline}
 
@@ -24,6 +24,12 @@ abbrev pub Told : Publication → List (List ℕ) → List ℕ → Type 0
 Told last [] out = out ≡ []
 Told last (line ∷ more) out = (text : List ℕ) × (next : Publication) × (rest : List ℕ) × Adds last line text next × (out ≡ text ++ rest) × Told next more rest
 
--- this is a front of what is told of an input
-abbrev pub IsToldFront : Publication → List ℕ → List ℕ → Type 0
-IsToldFront first input part = (out : List ℕ) × Told first (lines input) out × IsFront part out
+-- of the parts between newlines all but the last, each without the carriage return at its end
+abbrev pub ended_parts : List (List ℕ) → List (List ℕ)
+ended_parts [] = []
+ended_parts (part ∷ []) = []
+ended_parts (part ∷ next ∷ parts) = strip_carriage_return part ∷ ended_parts (next ∷ parts)
+
+-- the whole lines among these bytes: those whose newline is there
+abbrev pub whole_lines : List ℕ → List (List ℕ)
+whole_lines bytes = ended_parts (slice_split (λ b. b == 10) bytes)

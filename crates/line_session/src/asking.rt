@@ -4,8 +4,7 @@ ghost use Rattle.std.specs.Prelude.{◌≡◌, ◌≤◌, ◌<◌, ◌∷◌, []
 ghost use Rattle.std.specs.Str.Lines.{strip_carriage_return};
 ghost use Rattle.road_io.specs.Faults.{HasCause};
 ghost use Rattle.line_session.specs.Leading.{AddsAll, AddsFront, Goes, GoesStopped, NoNewline, TellsAll, TellsFront};
-ghost use Rattle.line_session.specs.Outside.{input_view, output_view};
-ghost use Rattle.line_session.specs.Stopping.{StopCause, ToldAll, ToldPart};
+ghost use Rattle.line_session.specs.Stopping.{Stopped, ToldAll};
 
 use crate::published::Published;
 use road_io::{Failed, Sink, Source, put_all};
@@ -20,7 +19,7 @@ pub enum Stop {
     Output,
     /// 2^63 bytes of input or more were taken.
     TooLong,
-    /// There was no memory to begin with; nothing was taken, and nothing was put.
+    /// There was no memory to begin with. Nothing was taken, and nothing was put.
     Memory,
 }
 
@@ -52,9 +51,9 @@ fn put_reply<O: Sink>(
     line: &[u8],
     output: &mut O,
 ) -> Result<(), Failed>
-    ensures all { OnOk result (AddsAll published.now line.now (output_view (O.written output.old) (O.faults output.old)) (output_view (O.written output.new) (O.faults output.new))) }
-    ensures part { OnErr result (AddsFront published.now line.now (output_view (O.written output.old) (O.faults output.old)) (output_view (O.written output.new) (O.faults output.new))) }
-    ensures cause { HasCause (O.faults output.old) (O.faults output.new) result }
+    ensures all { OnOk result (AddsAll published.now line.now (O.view output.old) (O.view output.new)) }
+    ensures part { OnErr result (AddsFront published.now line.now (O.view output.old) (O.view output.new)) }
+    ensures cause { HasCause (O.view output.old).faults (O.view output.new).faults result }
 {
     if line.is_empty() {
         return Ok(());
@@ -82,9 +81,9 @@ fn answer_last<O: Sink>(
     buffer: &mut LineBuffer,
     output: &mut O,
 ) -> Result<(), Failed>
-    ensures all { OnOk result (TellsAll published.now buffer.old.held.items (output_view (O.written output.old) (O.faults output.old)) (output_view (O.written output.new) (O.faults output.new))) }
-    ensures part { OnErr result (TellsFront published.now buffer.old.held.items (output_view (O.written output.old) (O.faults output.old)) (output_view (O.written output.new) (O.faults output.new))) }
-    ensures cause { HasCause (O.faults output.old) (O.faults output.new) result }
+    ensures all { OnOk result (TellsAll published.now buffer.old.held.items (O.view output.old) (O.view output.new)) }
+    ensures part { OnErr result (TellsFront published.now buffer.old.held.items (O.view output.old) (O.view output.new)) }
+    ensures cause { HasCause (O.view output.old).faults (O.view output.new).faults result }
 {
     put_reply(alloc, published, &buffer.held, output)
 }
@@ -97,9 +96,9 @@ fn take_byte<O: Sink>(
     buffer: &mut LineBuffer,
     output: &mut O,
 ) -> Result<(), Failed>
-    ensures all { OnOk result (Goes published.now buffer.old.held.items (byte ∷ []) (output_view (O.written output.old) (O.faults output.old)) (output_view (O.written output.new) (O.faults output.new)) buffer.new.held.items) }
-    ensures part { OnErr result (GoesStopped published.now buffer.old.held.items (byte ∷ []) (output_view (O.written output.old) (O.faults output.old)) (output_view (O.written output.new) (O.faults output.new))) }
-    ensures cause { HasCause (O.faults output.old) (O.faults output.new) result }
+    ensures all { OnOk result (Goes published.now buffer.old.held.items (byte ∷ []) (O.view output.old) (O.view output.new) buffer.new.held.items) }
+    ensures part { OnErr result (GoesStopped published.now buffer.old.held.items (byte ∷ []) (O.view output.old) (O.view output.new)) }
+    ensures cause { HasCause (O.view output.old).faults (O.view output.new).faults result }
 {
     if byte == b'\n' {
         put_reply(alloc, published, without_return(&buffer.held), output)?;
@@ -123,9 +122,9 @@ fn take_piece<O: Sink>(
     buffer: &mut LineBuffer,
     output: &mut O,
 ) -> Result<(), Failed>
-    ensures all { OnOk result (Goes published.now buffer.old.held.items piece.now (output_view (O.written output.old) (O.faults output.old)) (output_view (O.written output.new) (O.faults output.new)) buffer.new.held.items) }
-    ensures part { OnErr result (GoesStopped published.now buffer.old.held.items piece.now (output_view (O.written output.old) (O.faults output.old)) (output_view (O.written output.new) (O.faults output.new))) }
-    ensures cause { HasCause (O.faults output.old) (O.faults output.new) result }
+    ensures all { OnOk result (Goes published.now buffer.old.held.items piece.now (O.view output.old) (O.view output.new) buffer.new.held.items) }
+    ensures part { OnErr result (GoesStopped published.now buffer.old.held.items piece.now (O.view output.old) (O.view output.new)) }
+    ensures cause { HasCause (O.view output.old).faults (O.view output.new).faults result }
 {
     for byte in piece {
         take_byte(alloc, published, *byte, buffer, output)?;
@@ -136,22 +135,20 @@ fn take_piece<O: Sink>(
 /// Answers the lines of the input, to its end. The last line may lack its newline.
 ///
 /// It stops at the first fault of the input or the output, where 2^63 bytes of input or more were taken,
-/// and where there is no memory to begin with; then a front of what is told of the input was put. Want of
-/// memory for one reply is told in its place, and the next line is answered.
+/// and where there is no memory to begin with, before anything was taken. Each line is answered once its
+/// newline was taken: where the input failed or was too long, the replies to the whole lines among the
+/// bytes taken were put, and nothing else; where the output failed, a front of them. Want of memory for
+/// one reply is told in its place, and the next line is answered.
 pub fn answer_lines<I: Source, O: Sink>(
     alloc: Global,
     published: &Published,
     input: &mut I,
     output: &mut O,
 ) -> Result<(), Stop>
-    ensures told { OnOk result (ToldAll published.now (input_view (I.left input.old) (I.taken input.old) (I.faults input.old)) (input_view (I.left input.new) (I.taken input.new) (I.faults input.new))
-        (output_view (O.written output.old) (O.faults output.old)) (output_view (O.written output.new) (O.faults output.new))) }
-    ensures steady { OnOk result ((I.faults input.new ≡ I.faults input.old) × (O.faults output.new ≡ O.faults output.old)) }
-    ensures part { OnErr result (ToldPart published.now (input_view (I.left input.old) (I.taken input.old) (I.faults input.old))
-        (output_view (O.written output.old) (O.faults output.old)) (output_view (O.written output.new) (O.faults output.new))) }
-    ensures cause { IfErr result (λ stop. StopCause stop (input_view (I.left input.old) (I.taken input.old) (I.faults input.old)) (input_view (I.left input.new) (I.taken input.new) (I.faults input.new))
-        (output_view (O.written output.old) (O.faults output.old)) (output_view (O.written output.new) (O.faults output.new))) }
-    ensures later { (I.faults input.old ≤ I.faults input.new) × (O.faults output.old ≤ O.faults output.new) }
+    ensures told { OnOk result (ToldAll published.now (I.view input.old) (I.view input.new) (O.view output.old) (O.view output.new)) }
+    ensures steady { OnOk result (((I.view input.new).faults ≡ (I.view input.old).faults) × ((O.view output.new).faults ≡ (O.view output.old).faults)) }
+    ensures stopped { IfErr result (λ stop. Stopped stop published.now (I.view input.old) (I.view input.new) (O.view output.old) (O.view output.new)) }
+    ensures later { ((I.view input.old).faults ≤ (I.view input.new).faults) × ((O.view output.old).faults ≤ (O.view output.new).faults) }
 {
     let Ok(held) = Vec::with_capacity(alloc, MOST_HELD) else {
         return Err(Stop::Memory);

@@ -1,8 +1,14 @@
 -- What one more `put` makes of what was put so far.
-use Rattle.std.proofs.Common.{ℕ, List, ◌++◌, Option, take, drop, ◌∙◌, ap, sym, append_assoc}
+use Rattle.std.proofs.Common.{◌≡◌, ℕ, List, ◌++◌, Option, take, drop, ◌∙◌, ap, sym, append_assoc}
 use Rattle.std.proofs.lemmas.List.{take-append-drop}
 use Rattle.std.specs.Io.KnownBytes.{Appends}
-use Rattle.road_io.specs.Told.{PutSoFar, appends_then}
+use Rattle.road_io.specs.Told.{appends_then}
+
+-- so much of a text was put, and the rest was not
+pub record PutSoFar (old now : Option (List ℕ)) (bytes rest : List ℕ) : Type 0 where
+  pub part : List ℕ
+  pub whole : bytes ≡ part ++ rest
+  pub put : Appends old now part
 
 -- so many bytes of the rest were put as well
 pub put_more : (old mid new : Option (List ℕ)) (bytes rest : List ℕ) (count : ℕ) → PutSoFar old mid bytes rest → Appends mid new (take count rest) → PutSoFar old new bytes (drop count rest)

@@ -21,12 +21,6 @@ AppendsFront old new bytes = (part : List ℕ) × IsFront part bytes × Appends 
 abbrev pub CountsTaken : {E : Type 0} → ℕ → ℕ → Result ℕ E → Type 0
 CountsTaken before now result = MatchResult result (λ n. now ≡ min (before + n) (2 ^ 64 - 1)) (λ _. now ≡ before)
 
--- what is told of all bytes that were put, told by a run in which this much of a text was put so far
-pub record PutSoFar (old now : Option (List ℕ)) (bytes rest : List ℕ) : Type 0 where
-  pub part : List ℕ
-  pub whole : bytes ≡ part ++ rest
-  pub put : Appends old now part
-
 -- nothing was put
 pub appends_none : (old : Option (List ℕ)) → Appends old old []
 appends_none None = tt

@@ -5,9 +5,9 @@ ghost use Rattle.std.specs.Prelude.{All, IfOk};
 ghost use Rattle.road_io.specs.MemoryStates.{IsUnused};
 
 use crate::{
-    Closer, Conn, Door, Doors, DoorsFault, Failed, FileFault, Files, Gate, MemConn, MemDoor,
-    MemFiles, MemSink, MemSource, NoDoors, OpenGate, Opened, Sink, Source, SteadyFiles, SteadySink,
-    SteadySource, put_all,
+    Closer, Conn, Door, Doors, DoorsFault, Failed, FileFault, Files, Gate, MemCloser, MemConn,
+    MemDoor, MemFiles, MemSink, MemSource, NoDoors, OpenGate, Opened, Sink, Source, SteadyFiles,
+    SteadySink, SteadySource, put_all, put_whole, take_into,
 };
 use road_base::Text;
 use std::alloc::{AllocError, Global};
@@ -32,8 +32,8 @@ fn sink(alloc: Global, room: usize, failing: &[u64]) -> Result<MemSink, AllocErr
 // Takes once and puts what was taken, over any connection.
 fn echo_once<C: Conn>(conn: &mut C, room: usize) -> Result<usize, Failed> {
     let mut piece = [0_u8; 8];
-    let count = conn.take(&mut piece[..room.min(8)])?;
-    put_all(conn, &piece[..count.min(8)])?;
+    let count = take_into(conn, &mut piece[..room.min(8)])?;
+    put_whole(conn, &piece[..count.min(8)])?;
     Ok(count)
 }
 
@@ -159,6 +159,7 @@ fn a_door_ends_once_its_connections_are_used_up(rt: HostRuntime) -> Result<(), A
     }
     assert!(rt; matches!(&door.next(), Ok(None)));
     assert!(rt; !door.has_fault());
+    MemCloser.close();
     let mut failing = MemDoor::of(alloc, Vec::new(alloc), vec![in alloc; 1_u64]?)?;
     assert!(rt; failing.next().is_err());
     assert!(rt; failing.has_fault());

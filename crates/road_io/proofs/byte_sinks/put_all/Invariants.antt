@@ -1,5 +1,5 @@
 use Rattle.std.proofs.Common.{◌≡◌, length}
-use Rattle.road_io.specs.Told.{PutSoFar}
+use Rattle.road_io.proofs.PutLaws.{PutSoFar}
 use Rattle.road_io.proofs.byte_sinks.put_all.Given as goal
 
 -- so much was put, with no fault so far
