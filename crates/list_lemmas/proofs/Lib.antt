@@ -1,1 +1,4 @@
+pub mod Between
+pub mod Fronts
 pub mod Gets
+pub mod Parts

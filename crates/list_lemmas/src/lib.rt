@@ -1,5 +1,5 @@
-//! Lemmas about lists in general, which std doesn't have and several crates cite.
+//! Lemmas about lists and numbers in general, which std doesn't have and several crates cite.
 //!
-//! There is no code here: what stands in `proofs/` is the crate. A lemma belongs here where it speaks of lists alone,
-//! and of no type of this project.
+//! There is no code here: what stands in `proofs/` is the crate. A lemma belongs here where it speaks of lists or
+//! numbers alone, and of no type of this project.
 #![tactic(auto)]
