@@ -2,12 +2,12 @@
 
 use crate::answering::{answer, line_answer};
 use crate::answers::{Answer, Code, ReplyFault};
-use crate::grids::Grid;
 use crate::metrics::Metric;
 use edge_graph::Network;
 use metric_make::base;
 use metric_publish::held::Held;
 use road_base::{Ids, Node, Object, Point, Tags, Text, Way};
+use snap_index::Grid;
 use std::alloc::Global;
 use std::sync::Arc;
 use way_profile::Profile;
@@ -109,8 +109,8 @@ fn ask(rt: &HostRuntime, town: Town, asked: Asked<'_>) -> Result<Answer, ReplyFa
         value: Arc::new(alloc, Metric::make(Arc::new(alloc, network)?, base))?,
     };
     match asked {
-        Asked::Target(target) => answer(rt, alloc, &held, &grid, target.as_bytes()),
-        Asked::Line(line) => line_answer(rt, alloc, &held, &grid, line),
+        Asked::Target(target) => answer(alloc, &held, &grid, target.as_bytes()),
+        Asked::Line(line) => line_answer(alloc, &held, &grid, line),
     }
 }
 
