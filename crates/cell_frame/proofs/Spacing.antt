@@ -7,8 +7,8 @@ use Rattle.list_lemmas.proofs.Gets.{Contains_get, get_Contains, get_some}
 use Rattle.search_graph.specs.Costs.{CostOps, CostLaws}
 use Rattle.search_graph.specs.Digraph.{Weighting, IsOpen}
 use Rattle.search_graph.specs.Walks.{IsMove}
-use Rattle.search_graph.proofs.Order.{same_from_le}
-use Rattle.search_graph.proofs.Chains.{Chain-valid}
+use Rattle.search_graph.specs.OrderLaws.{same_from_le}
+use Rattle.search_graph.specs.ChainLaws.{Chain-valid}
 use Rattle.step_search.specs.Spaces.{HasHop}
 use Rattle.cut_walks.specs.Cut.{IsCut, IsSmall, OverHop, MayBegin}
 use Rattle.cut_walks.specs.Bounds.{IsSpace-over}

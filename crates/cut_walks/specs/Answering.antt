@@ -4,8 +4,8 @@ use Rattle.list_lemmas.proofs.Singles.{Contains_one, only_one}
 use Rattle.search_graph.specs.Costs.{CostOps, CostLaws, NoDearer}
 use Rattle.search_graph.specs.declared.ends.Start.{Start}
 use Rattle.search_graph.specs.Walks.{Chain, Paying}
-use Rattle.search_graph.proofs.Order.{le_trans, plus_le_left}
-use Rattle.search_graph.proofs.Chains.{Chain-push, Chain-map, Chain-valid, Chain-from_zero, Chain-to_more}
+use Rattle.search_graph.specs.OrderLaws.{le_trans, plus_le_left}
+use Rattle.search_graph.specs.ChainLaws.{Chain-push, Chain-map, Chain-valid, Chain-from_zero, Chain-to_more}
 use Rattle.step_search.specs.Spaces.{Space, StepBy, Path}
 use Rattle.step_search.specs.Paths.{IsPathTo, IsLeastPath, NoPathTo}
 use Rattle.cut_walks.specs.Cut.{Cut, IsCut, OverHop, Goes, Passes, MayEnd, IsWhole, IsOver, AreAlone, AreAcross}

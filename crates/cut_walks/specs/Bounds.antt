@@ -9,9 +9,9 @@ use Rattle.std.proofs.lemmas.Map.Keys.{IsDistinct-tail}
 use Rattle.std.proofs.lemmas.Map.Steps.{length-le_from_distinct_below}
 use Rattle.search_graph.specs.Costs.{CostOps, CostLaws, NoDearer}
 use Rattle.search_graph.specs.Walks.{Chain, Paying}
-use Rattle.search_graph.proofs.Order.{le_trans, same_from_le, plus_le_back}
-use Rattle.search_graph.proofs.Chains.{Chain-valid, Chain-push, Chain-map}
-use Rattle.search_graph.proofs.ShortChains.{Chain-simple, Chain-units}
+use Rattle.search_graph.specs.OrderLaws.{le_trans, same_from_le, plus_le_back}
+use Rattle.search_graph.specs.ChainLaws.{Chain-valid, Chain-push, Chain-map}
+use Rattle.search_graph.specs.ChainLaws.{Chain-simple, Chain-units}
 use Rattle.step_search.specs.Spaces.{Space, StepBy, Path, IsSpace}
 use Rattle.cut_walks.specs.Cut.{Cut, IsCut, IsSmall, RunHop, OverHop, Passes, MayBegin, MayEnd, IsOver}
 use Rattle.cut_walks.specs.Cutting.{over_valid, goes_from_pass, pass_from_goes}

@@ -2,8 +2,8 @@
 use Rattle.std.proofs.Common.{◌≡◌, ℕ, ◌⊎◌, inl, inr, List, [], ◌∷◌, ◌++◌, refl, sym, subst}
 use Rattle.search_graph.specs.Costs.{CostOps, CostLaws, NoDearer}
 use Rattle.search_graph.specs.Walks.{Chain, Paying}
-use Rattle.search_graph.proofs.Order.{le_trans, le_from_same, plus_le, plus_le_left, zero_plus}
-use Rattle.search_graph.proofs.Chains.{Chain-append, Chain-push, Chain-map, Chain-valid, Chain-from_zero, Chain-to_more}
+use Rattle.search_graph.specs.OrderLaws.{le_trans, le_from_same, plus_le, plus_le_left, zero_plus}
+use Rattle.search_graph.specs.ChainLaws.{Chain-append, Chain-push, Chain-map, Chain-valid, Chain-from_zero, Chain-to_more}
 use Rattle.cut_walks.specs.Cut.{Cut, IsCut, RunHop, OverHop, Goes, Runs, Passes, MayBegin, MayEnd}
 
 module _ {C : Type 0} {ops : CostOps C} (laws : CostLaws ops) (K : Cut C) (cut : IsCut ops K) where

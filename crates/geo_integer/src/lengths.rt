@@ -90,8 +90,9 @@ fn scaled(difference: i64, cosine: u32) -> i64
     difference * i64::from(cosine)
 }
 
-// The square of the distance of two points, in the plane half-way between them.
-pub(crate) fn plane_distance(a: Point, b: Point) -> u128
+/// The square of the distance of two points in 65536ths of a microdegree of latitude, in the plane half-way
+/// between them. It serves to compare distances.
+pub fn plane_distance(a: Point, b: Point) -> u128
     ensures value { result ≡ plane_between (position_of a) (position_of b) }
     ensures bound { result < 700000000000000000000000000 }
 {

@@ -10,5 +10,5 @@ mod nearest_place;
 mod roots;
 
 pub use bearings::{bearing, modifier};
-pub use lengths::{cosine, distance, length, plane};
+pub use lengths::{cosine, distance, length, plane, plane_distance};
 pub use nearest_place::{point_at, project};

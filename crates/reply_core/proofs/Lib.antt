@@ -1,10 +1,3 @@
 pub mod AnswerLemmas
-pub mod CheapestLemmas
-pub mod EndLemmas
-pub mod LegLemmas
-pub mod LineLemmas
 pub mod ListLemmas
-pub mod PairLemmas
 pub mod RequestLemmas
-pub mod SnapLemmas
-pub mod TurnLemmas

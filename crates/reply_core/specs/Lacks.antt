@@ -1,9 +1,53 @@
--- What is told where not each element of a list got what was asked for it.
-use Rattle.std.specs.Prelude.{ℕ}
-use Rattle.reply_core.specs.declared.missing.Missing.{Missing}
-use Rattle.reply_core.specs.declared.missing.Missing.TheVariants.{Number, Memory}
+-- What a request for a route lacks under a metric.
+use Rattle.std.specs.Prelude.{ℕ, List}
+use Rattle.std.specs.List.{AllZip}
+use Rattle.road_base.specs.declared.coordinates.Point.{Point}
+use Rattle.road_base.specs.declared.segments.Place.{Place}
+use Rattle.geo_integer.specs.Position.{position_of}
+use Rattle.road_places.specs.RoadMetric.{RoadMetric}
+use Rattle.road_walks.specs.FirstFailure.{IsFirstFailure}
+use Rattle.road_walks.specs.Legs.{IsBrokenLeg}
+use Rattle.road_walks.specs.declared.leg_faults.LegFault.{LegFault}
+use Rattle.road_walks.specs.declared.leg_faults.LegFault.TheVariants as leg
+use Rattle.snap_index.specs.Snapped.{IsSnapped, HasNoPlace}
+use Rattle.reply_core.specs.declared.lacks.Lack.{Lack}
+use Rattle.reply_core.specs.declared.lacks.Lack.TheVariants as lack
+use Rattle.reply_core.specs.declared.lacks.RouteFault.{RouteFault}
+use Rattle.reply_core.specs.declared.lacks.RouteFault.TheVariants as fault
 
--- the number is one of which P holds; want of memory tells nothing
-abbrev pub IsLack : (ℕ → Type 0) → Missing → Type 0
-IsLack P (Number n) = P n
-IsLack P Memory = Unit {0}
+-- the place stands for the coordinate
+abbrev pub StandsFor : RoadMetric → Point → Place → Type 0
+StandsFor road coordinate place = IsSnapped road.network.segments road.weights (position_of coordinate) place
+
+-- some place does
+abbrev pub HasPlace : RoadMetric → Point → Type 0
+HasPlace road coordinate = (place : Place) × StandsFor road coordinate place
+
+-- none does
+abbrev pub LacksPlace : RoadMetric → Point → Type 0
+LacksPlace road coordinate = HasNoPlace road.network.segments road.weights
+
+-- the coordinate of this number is the first that has no place
+abbrev pub IsStray : RoadMetric → List Point → ℕ → Type 0
+IsStray road coordinates number = IsFirstFailure (HasPlace road) (LacksPlace road) coordinates number
+
+-- each coordinate has a place, and the leg of this number between these is the first without a permitted walk
+pub record IsBroken (road : RoadMetric) (coordinates : List Point) (number : ℕ) : Type 0 where
+  pub places : List Place
+  pub snapped : AllZip (StandsFor road) coordinates places
+  pub first : IsBrokenLeg road places number
+
+-- what a request for a route through these coordinates lacks
+abbrev pub IsLack : RoadMetric → List Point → Lack → Type 0
+IsLack road coordinates (lack.Segment number) = IsStray road coordinates number
+IsLack road coordinates (lack.Route number) = IsBroken road coordinates number
+
+-- what a fault tells; want of memory tells nothing
+abbrev pub IsRouteFault : RoadMetric → List Point → RouteFault → Type 0
+IsRouteFault road coordinates (fault.Lacks what) = IsLack road coordinates what
+IsRouteFault road coordinates fault.Memory = Unit {0}
+
+-- a fault of the legs as one of the request
+abbrev pub fault_of : LegFault → RouteFault
+fault_of (leg.NoWalk number) = fault.Lacks (lack.Route number)
+fault_of leg.Memory = fault.Memory

@@ -1,12 +1,4 @@
 pub mod Answers
-pub mod Candidates
-pub mod Ends
 pub mod Lacks
-pub mod Legs
-pub mod Lines
-pub mod Permitted
-pub mod Places
 pub mod Request
-pub mod RoadMetric
-pub mod Snapped
 pub mod Texts

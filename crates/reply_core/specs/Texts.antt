@@ -7,6 +7,8 @@ use Rattle.search_graph.specs.declared.costs.DurLen.{DurLen}
 use Rattle.json.specs.Print.{quoted}
 use Rattle.reply_core.specs.declared.answers.Code.{Code}
 use Rattle.reply_core.specs.declared.answers.Code.TheVariants as code
+use Rattle.reply_core.specs.declared.lacks.Lack.{Lack}
+use Rattle.reply_core.specs.declared.lacks.Lack.TheVariants as lack
 
 -- a count of tenths as a number with one decimal: metres of decimetres, seconds of deciseconds
 unfoldable pub tenths : ℕ → List ℕ
@@ -80,6 +82,11 @@ no_segment_text number coordinate =
 unfoldable pub no_route_text : ℕ → ℕ → List ℕ
 no_route_text number leg =
     codes "{\"code\":\"NoRoute\",\"data_version\":\"" ++ (decimal number ++ (codes "\",\"message\":\"leg " ++ (decimal leg ++ codes "\"}")))
+
+-- what a request lacks, under a metric of this number
+abbrev pub lack_text : ℕ → Lack → List ℕ
+lack_text number (lack.Segment coordinate) = no_segment_text number coordinate
+lack_text number (lack.Route leg) = no_route_text number leg
 
 -- a code as replies write it
 abbrev pub code_text : Code → List ℕ

@@ -2,12 +2,12 @@
 
 use crate::answering::{answer, line_answer};
 use crate::answers::{Answer, Code, ReplyFault};
-use crate::grids::Grid;
 use crate::metrics::Metric;
 use edge_graph::Network;
 use metric_make::base;
 use metric_publish::held::Held;
 use road_base::{Ids, Node, Object, Point, Tags, Way};
+use snap_index::Grid;
 use std::alloc::Global;
 use std::sync::Arc;
 use way_profile::Profile;
@@ -55,17 +55,23 @@ fn node(alloc: Global, id: i64, x: i32, y: i32) -> Object {
     Object::Node(Node {
         id,
         point: Point::of(i64::from(x) * 1000, i64::from(y) * 1000),
-        tags: Tags::new(alloc),
+        tags: Tags::of(Vec::new(alloc)),
     })
 }
 
 fn way(alloc: Global, nodes: &[i64], oneway: &str) -> Result<Object, ReplyFault> {
-    let tags = Tags::new(alloc)
-        .with("highway", "residential")?
-        .with("oneway", oneway)?;
+    let mut tags = Vec::new(alloc);
+    tags.push((
+        Text::copy_of(alloc, "highway")?,
+        Text::copy_of(alloc, "residential")?,
+    ))?;
+    tags.push((
+        Text::copy_of(alloc, "oneway")?,
+        Text::copy_of(alloc, oneway)?,
+    ))?;
     Ok(Object::Way(Way {
         id: 10,
-        tags,
+        tags: Tags::of(tags),
         nodes: Ids::of(Vec::from_slice(alloc, nodes)?),
     }))
 }
@@ -103,8 +109,8 @@ fn ask(rt: &HostRuntime, town: Town, asked: Asked<'_>) -> Result<Answer, ReplyFa
         value: Arc::new(alloc, Metric::make(Arc::new(alloc, network)?, base))?,
     };
     match asked {
-        Asked::Target(target) => answer(rt, alloc, &held, &grid, target.as_bytes()),
-        Asked::Line(line) => line_answer(rt, alloc, &held, &grid, line),
+        Asked::Target(target) => answer(alloc, &held, &grid, target.as_bytes()),
+        Asked::Line(line) => line_answer(alloc, &held, &grid, line),
     }
 }
 

@@ -2,18 +2,18 @@
 
 ghost use Rattle.std.specs.Prelude.{◌≡◌, IfOk, option_map};
 ghost use Rattle.std.specs.Arc.{arc_value};
-ghost use Rattle.reply_core.specs.Answers.{IsAnswer, IsLineAnswer, Refuses, code_of};
-ghost use Rattle.reply_core.specs.Lines.{lines_of};
+ghost use Rattle.snap_index.specs.Ends.{all_ends};
+ghost use Rattle.reply_core.specs.Answers.{IsAnswer, IsLineAnswer, Refuses, code_of, status_of};
 ghost use Rattle.reply_core.specs.Request.{target_of};
 ghost use Rattle.reply_core.specs.Texts.{bad_request_text, refusal_text};
 ghost use Rattle.reply_core.specs.declared.answers.Code.TheVariants as code;
 
 use crate::answers::{Answer, Code, ReplyFault};
-use crate::grids::Grid;
 use crate::metrics::Metric;
 use crate::reply_texts::{BAD_REQUEST, refusal_text};
 use crate::route_answers::{refusal, route_answer};
 use metric_publish::held::Held;
+use snap_index::Grid;
 use std::alloc::{AllocError, Global};
 use url_read::{Refusal, RefusalCode, RequestFault, request};
 
@@ -22,20 +22,19 @@ const LONGEST_LINE: usize = 8192;
 
 /// The answer to a target under what was published: a refusal with status 400 for a target that is no request,
 /// for the first coordinate that has no place, or for the first leg that has no permitted walk, else a least
-/// route with status 200. The grid is that of the metric's network. `rt` is not used so far.
+/// route with status 200. The grid is that of the metric's network.
 ///
 /// It answers `Memory` only where memory runs out.
-pub fn answer<R>(
-    rt: &R,
+pub fn answer(
     alloc: Global,
     held: &Held<Metric>,
     grid: &Grid,
     target: &[u8],
 ) -> Result<Answer, ReplyFault>
-    requires { grid.now ≡ lines_of (arc_value held.now.value).network.segments }
-    ensures { IfOk result (IsAnswer (arc_value held.now.value) held.now.number target.now) }
+    requires { grid.now ≡ all_ends (arc_value held.now.value).network.segments }
+    ensures says { IfOk result (IsAnswer (arc_value held.now.value) held.now.number target.now) }
+    ensures status { IfOk result (λ answer. answer.status ≡ status_of answer.code) }
 {
-    let _ = rt;
     target_answer(alloc, held.value(), held.number(), grid, target)
 }
 
@@ -44,18 +43,18 @@ pub fn answer<R>(
 /// and status 400.
 ///
 /// It answers `Memory` only where memory runs out.
-pub fn line_answer<R>(
-    rt: &R,
+pub fn line_answer(
     alloc: Global,
     held: &Held<Metric>,
     grid: &Grid,
     line: &[u8],
 ) -> Result<Answer, ReplyFault>
-    requires { grid.now ≡ lines_of (arc_value held.now.value).network.segments }
-    ensures { IfOk result (IsLineAnswer (arc_value held.now.value) held.now.number line.now) }
+    requires { grid.now ≡ all_ends (arc_value held.now.value).network.segments }
+    ensures says { IfOk result (IsLineAnswer (arc_value held.now.value) held.now.number line.now) }
+    ensures status { IfOk result (λ answer. answer.status ≡ status_of answer.code) }
 {
     match target_in(line) {
-        Some(target) => answer(rt, alloc, held, grid, target),
+        Some(target) => answer(alloc, held, grid, target),
         None => Ok(bad_request(alloc)?),
     }
 }
@@ -68,11 +67,19 @@ fn target_answer(
     grid: &Grid,
     target: &[u8],
 ) -> Result<Answer, ReplyFault>
-    requires { grid.now ≡ lines_of metric.now.network.segments }
-    ensures { IfOk result (IsAnswer metric.now number target.now) }
+    requires { grid.now ≡ all_ends metric.now.network.segments }
+    ensures says { IfOk result (IsAnswer metric.now number target.now) }
+    ensures status { IfOk result (λ answer. answer.status ≡ status_of answer.code) }
 {
     match request(alloc, target) {
-        Ok(request) => route_answer(alloc, metric, number, grid, request.points.as_slice()),
+        Ok(request) => route_answer(
+            alloc,
+            metric.network(),
+            metric.base(),
+            number,
+            grid,
+            request.points.as_slice(),
+        ),
         Err(RequestFault::Refused(refusal)) => Ok(refused(alloc, refusal)?),
         Err(RequestFault::Memory) => Err(ReplyFault::Memory),
     }
@@ -90,7 +97,8 @@ fn target_in(line: &[u8]) -> Option<&[u8]>
 
 // The target is refused.
 fn refused(alloc: Global, refused: Refusal) -> Result<Answer, AllocError>
-    ensures { IfOk result (λ answer. Refuses answer (code_of refused.code) (refusal_text (code_of refused.code) refused.message)) }
+    ensures says { IfOk result (λ answer. Refuses answer (code_of refused.code) (refusal_text (code_of refused.code) refused.message)) }
+    ensures status { IfOk result (λ answer. answer.status ≡ status_of answer.code) }
 {
     let code = code_of(refused.code);
     let text = refusal_text(alloc, code, refused.message.as_str())?;
@@ -114,7 +122,8 @@ fn code_of(kind: RefusalCode) -> Code
 
 // The line is of no form.
 fn bad_request(alloc: Global) -> Result<Answer, AllocError>
-    ensures { IfOk result (λ answer. Refuses answer code.BadRequest bad_request_text) }
+    ensures says { IfOk result (λ answer. Refuses answer code.BadRequest bad_request_text) }
+    ensures status { IfOk result (λ answer. answer.status ≡ status_of answer.code) }
 {
     let text = String::from_str(alloc, BAD_REQUEST)?;
     Ok(refusal(alloc, Code::BadRequest, text))

@@ -2,9 +2,8 @@
 
 ghost use Rattle.std.specs.Prelude.{◌≡◌};
 
-use plain_search::SearchFault;
-use search_graph::Numbers;
 use road_base::{Place, Text};
+use road_places::Walk;
 use std::alloc::{AllocError, AllocFailed};
 use std::marker::Model;
 
@@ -23,12 +22,6 @@ impl From<AllocError> for ReplyFault {
 
 impl<T: Drop> From<AllocFailed<T>> for ReplyFault {
     fn from(_error: AllocFailed<T>) -> ReplyFault {
-        ReplyFault::Memory
-    }
-}
-
-impl From<SearchFault> for ReplyFault {
-    fn from(_error: SearchFault) -> ReplyFault {
         ReplyFault::Memory
     }
 }
@@ -94,7 +87,7 @@ impl Places {
 /// A list of walks.
 #[derive(Drop)]
 pub struct Walks {
-    inner: Vec<Numbers>,
+    inner: Vec<Walk>,
 }
 
 impl Model for Walks {
@@ -107,14 +100,14 @@ impl Model for Walks {
 
 impl Walks {
     /// The list of these walks.
-    pub fn of(inner: Vec<Numbers>) -> Walks
+    pub fn of(inner: Vec<Walk>) -> Walks
         ensures { result ≡ inner.items }
     {
         Walks { inner }
     }
 
     /// The walks, in their order.
-    pub fn as_slice(&self) -> &[Numbers]
+    pub fn as_slice(&self) -> &[Walk]
         ensures { result.now ≡ self.now }
     {
         self.inner.as_slice()
@@ -126,7 +119,7 @@ impl Walks {
 pub struct Answer {
     /// what became of the request, as the text says it
     pub code: Code,
-    /// 200 where there is a route, else 400
+    /// 200 exactly where the code is `Ok`, else 400
     pub status: u32,
     /// where the request's coordinates are snapped to, in their order; empty where there is no route
     pub places: Places,

@@ -20,7 +20,7 @@ pub struct Metric {
 }
 
 impl Model for Metric {
-    ghost use Rattle.reply_core.specs.RoadMetric.{RoadMetric};
+    ghost use Rattle.road_places.specs.RoadMetric.{RoadMetric};
 
     ghost Value = { RoadMetric };
 

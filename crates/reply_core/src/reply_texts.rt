@@ -4,15 +4,16 @@
 ghost use Rattle.std.specs.Prelude.{◌≡◌, ℕ, ◌*◌, ◌^◌, ◌<◌, ◌≤◌, ◌++◌, Some, IfOk, OnOk, length, map, string_bytes, sum_by};
 ghost use Rattle.std.specs.List.{slice_get};
 ghost use Rattle.reply_core.specs.Answers.{waypoint_of, waypoints_of};
-ghost use Rattle.reply_core.specs.Places.{IsPlaceOf};
-ghost use Rattle.reply_core.specs.Texts.{code_text, comma_before, found_text, json_text, leg_text, listed, location_text, no_route_text, no_segment_text, refusal_text, route_text, totals_text, waypoint_text};
+ghost use Rattle.road_places.specs.Places.{IsPlaceOn};
+ghost use Rattle.reply_core.specs.Texts.{code_text, comma_before, found_text, json_text, lack_text, leg_text, listed, location_text, no_route_text, no_segment_text, refusal_text, route_text, totals_text, waypoint_text};
 
 use crate::answers::Code;
+use crate::lacks::Lack;
 use crate::number_texts::{push_degrees, push_tenths};
 use edge_graph::Network;
 use geo_integer::distance;
-use plain_search::Found;
 use road_base::{Place, Point};
+use road_places::Route;
 use search_graph::DurLen;
 use serde_json::Value;
 use std::alloc::{AllocError, Global};
@@ -80,7 +81,7 @@ fn push_waypoint(
     coordinate: Point,
     place: Place,
 ) -> Result<(), AllocError>
-    requires few { length network.now.segments ≤ 2 ^ 22 }
+    requires few { length network.now.segments < 2 ^ 30 }
     requires segment { place.segment < length network.now.segments }
     requires within { place.at ≤ 1024 }
     ensures { OnOk result (string_bytes out.new ≡ string_bytes out.old ++ waypoint_of network.now.segments (coordinate, place)) }
@@ -121,7 +122,7 @@ fn push_leg(out: &mut String, cost: DurLen) -> Result<(), AllocError>
 }
 
 // The legs of a route.
-fn push_legs(out: &mut String, routes: &[Found<DurLen>]) -> Result<(), AllocError>
+fn push_legs(out: &mut String, routes: &[Route]) -> Result<(), AllocError>
     ensures { OnOk result (string_bytes out.new ≡ string_bytes out.old ++ listed (map (λ route. leg_text route.cost) routes.now)) }
 {
     for (leg, route) in routes.iter().enumerate() {
@@ -132,7 +133,7 @@ fn push_legs(out: &mut String, routes: &[Found<DurLen>]) -> Result<(), AllocErro
 }
 
 // How long the routes are together, in decimetres.
-fn decimetres_of(routes: &[Found<DurLen>]) -> u128
+fn decimetres_of(routes: &[Route]) -> u128
     requires { length routes.now < 2 ^ 32 }
     ensures { result ≡ sum_by (λ route. route.cost.length) routes.now }
 {
@@ -143,7 +144,7 @@ fn decimetres_of(routes: &[Found<DurLen>]) -> u128
 }
 
 // How many deciseconds they take together.
-fn deciseconds_of(routes: &[Found<DurLen>]) -> u128
+fn deciseconds_of(routes: &[Route]) -> u128
     requires { length routes.now < 2 ^ 32 }
     ensures { result ≡ sum_by (λ route. route.cost.duration) routes.now }
 {
@@ -154,7 +155,7 @@ fn deciseconds_of(routes: &[Found<DurLen>]) -> u128
 }
 
 // A route of these legs.
-fn push_route(out: &mut String, routes: &[Found<DurLen>]) -> Result<(), AllocError>
+fn push_route(out: &mut String, routes: &[Route]) -> Result<(), AllocError>
     requires { length routes.now < 2 ^ 32 }
     ensures { OnOk result (string_bytes out.new ≡ string_bytes out.old ++ route_text (map (λ route. route.cost) routes.now)) }
 {
@@ -174,9 +175,9 @@ fn push_waypoints(
     coordinates: &[Point],
     places: &[Place],
 ) -> Result<(), AllocError>
-    requires few { length network.now.segments ≤ 2 ^ 22 }
+    requires few { length network.now.segments < 2 ^ 30 }
     requires as_many { length places.now ≡ length coordinates.now }
-    requires placed { (k : ℕ) (place : Place) → slice_get places.now k ≡ Some place → IsPlaceOf (2 * length network.now.segments) place }
+    requires placed { (k : ℕ) (place : Place) → slice_get places.now k ≡ Some place → IsPlaceOn network.now place }
     ensures { OnOk result (string_bytes out.new ≡ string_bytes out.old ++ listed (waypoints_of network.now.segments coordinates.now places.now)) }
 {
     for number in 0..coordinates.len() {
@@ -194,11 +195,11 @@ pub fn found_text(
     number: u32,
     coordinates: &[Point],
     places: &[Place],
-    routes: &[Found<DurLen>],
+    routes: &[Route],
 ) -> Result<String, AllocError>
-    requires few { length network.now.segments ≤ 2 ^ 22 }
+    requires few { length network.now.segments < 2 ^ 30 }
     requires as_many { length places.now ≡ length coordinates.now }
-    requires placed { (k : ℕ) (place : Place) → slice_get places.now k ≡ Some place → IsPlaceOf (2 * length network.now.segments) place }
+    requires placed { (k : ℕ) (place : Place) → slice_get places.now k ≡ Some place → IsPlaceOn network.now place }
     requires legs { length routes.now < 2 ^ 32 }
     ensures { IfOk result (λ text. string_bytes text ≡ found_text number (map (λ route. route.cost) routes.now) (waypoints_of network.now.segments coordinates.now places.now)) }
 {
@@ -214,9 +215,19 @@ pub fn found_text(
     Ok(out)
 }
 
-/// The coordinate of this number, from 0, has no place.
+/// What a request lacks under a metric of this number.
+pub fn lack_text(alloc: Global, number: u32, lack: Lack) -> Result<String, AllocError>
+    ensures { IfOk result (λ text. string_bytes text ≡ lack_text number lack) }
+{
+    match lack {
+        Lack::Segment(coordinate) => no_segment_text(alloc, number, coordinate),
+        Lack::Route(leg) => no_route_text(alloc, number, leg),
+    }
+}
+
+// The coordinate of this number, from 0, has no place.
 #[tactic(auto, unfolding(crate::specs::Texts::no_segment_text))]
-pub fn no_segment_text(alloc: Global, number: u32, coordinate: u32) -> Result<String, AllocError>
+fn no_segment_text(alloc: Global, number: u32, coordinate: u32) -> Result<String, AllocError>
     ensures { IfOk result (λ text. string_bytes text ≡ no_segment_text number coordinate) }
 {
     format!(in alloc;
@@ -224,9 +235,9 @@ pub fn no_segment_text(alloc: Global, number: u32, coordinate: u32) -> Result<St
     )
 }
 
-/// The leg of this number, from 0, has no walk.
+// The leg of this number, from 0, has no walk.
 #[tactic(auto, unfolding(crate::specs::Texts::no_route_text))]
-pub fn no_route_text(alloc: Global, number: u32, leg: u32) -> Result<String, AllocError>
+fn no_route_text(alloc: Global, number: u32, leg: u32) -> Result<String, AllocError>
     ensures { IfOk result (λ text. string_bytes text ≡ no_route_text number leg) }
 {
     format!(in alloc;

@@ -3,7 +3,8 @@ use Rattle.std.specs.Int.{w32, w64}
 use Rattle.std.specs.Int.RustNames.{FitsSigned}
 use Rattle.std.proofs.lemmas.Int.{ints, to_z-of_z}
 use Rattle.geo_integer.specs.Project.{IsBetween, part_of}
-use Rattle.geo_integer.proofs.Halves.{between-add, fits-between, between-part_of}
+use Rattle.geo_integer.proofs.Halves.{fits-between}
+use Rattle.list_lemmas.proofs.Between.{between-add, between-part}
 use Rattle.geo_integer.proofs.nearest_place.coordinate.Goals as goal
 
 -- a sum that fits 32 bits is the same when it is computed in 64
@@ -17,7 +18,7 @@ returns-clause-value c =
     let b = c.args.b in
     let difference : FitsSigned w64 (b -ℤ a) = omega (arith, ints) in
     let part : c.part.result ≡ part_of (b -ℤ a) c.args.at = grind (arith, to_z-of_z) in
-    let between = between-add a b (part_of (b -ℤ a) c.args.at) (between-part_of (b -ℤ a) c.args.at c.requires) in
+    let between = between-add a b (part_of (b -ℤ a) c.args.at) (between-part (b -ℤ a) c.args.at c.requires) in
     let fits : FitsSigned w32 (a +ℤ part_of (b -ℤ a) c.args.at) = fits-between a b _ c.ranges.a c.ranges.b between in
     narrowed a c.from.result c.part.result _ c.ranges.a c.from.ensures part fits
 
@@ -25,4 +26,4 @@ pub returns-clause-between : goal.returns-clause-between
 returns-clause-between c =
     let a = c.args.a in
     let b = c.args.b in
-    subst (λ (z : ℤ). IsBetween a b z) (sym (returns-clause-value c)) (between-add a b (part_of (b -ℤ a) c.args.at) (between-part_of (b -ℤ a) c.args.at c.requires))
+    subst (λ (z : ℤ). IsBetween a b z) (sym (returns-clause-value c)) (between-add a b (part_of (b -ℤ a) c.args.at) (between-part (b -ℤ a) c.args.at c.requires))

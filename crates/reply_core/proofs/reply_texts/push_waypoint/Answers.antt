@@ -8,5 +8,5 @@ returns c =
     let segments = c.args.network.now.segments in
     let place = c.args.place in
     on_ok c.push_snapped.result
-    (λ e. e ∙ ap (λ t. string_bytes c.args.out.now ++ t) (waypoint-is segments c.args.coordinate place c.point-point.result c.name-name.result.now c.distance.result (slice_get segments place.segment) refl c.point-point.ensures c.name-name.ensures.value c.distance.ensures.value))
+    (λ e. e ∙ ap (λ t. string_bytes c.args.out.now ++ t) (waypoint-is segments c.args.coordinate place c.point-point.result c.name-name.result.now c.distance.result (slice_get segments place.segment) refl c.point-point.ensures c.name-name.ensures.by_segment c.distance.ensures.value))
     c.push_snapped.ensures

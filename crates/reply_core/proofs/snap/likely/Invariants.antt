@@ -1,6 +1,0 @@
-use Rattle.std.proofs.Common.{length}
-use Rattle.reply_core.proofs.SnapLemmas.{IsLikely}
-use Rattle.reply_core.proofs.snap.likely.Given as goal
-
-abbrev pub invariant-loop-segment : goal.invariant-loop-segment
-invariant-loop-segment l = IsLikely l.base.weights (length l.network.segments) l.segment l.likely l.least

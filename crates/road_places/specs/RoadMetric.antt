@@ -1,0 +1,18 @@
+-- A road network with what its vertices and turns cost.
+use Rattle.std.specs.Prelude.{◌*◌, length}
+use Rattle.search_graph.specs.declared.costs.DurLen.{DurLen}
+use Rattle.search_graph.specs.Digraph.{Digraph, Weighting}
+use Rattle.edge_graph.specs.NetworkView.{NetworkView}
+use Rattle.metric_make.specs.MetricOf.{MetricView}
+
+pub record RoadMetric : Type 0 where
+  pub network : NetworkView
+  pub weights : Weighting DurLen
+
+-- a network under these weights
+abbrev pub road_of : NetworkView → MetricView → RoadMetric
+road_of network base = record { network = network; weights = base.weights }
+
+-- the graph of the turns: its vertices are the segments in both directions, arc i is turn i
+abbrev pub turn_graph : NetworkView → Digraph
+turn_graph network = record { vertices = 2 * length network.segments; arcs = network.turns }

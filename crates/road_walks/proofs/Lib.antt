@@ -1,0 +1,4 @@
+pub mod CheapestLemmas
+pub mod LeastLemmas
+pub mod LegLemmas
+pub mod TurnLemmas

@@ -1,0 +1,24 @@
+use Rattle.std.proofs.Common.{ℕ, ◌+◌, ◌*◌, inl, inr, List, subst}
+use Rattle.road_base.specs.declared.segments.Place.{Place}
+use Rattle.search_graph.specs.declared.costs.DurLen.{DurLen}
+use Rattle.search_graph.specs.Digraph.{Weighting}
+use Rattle.road_places.specs.Permitted.{IsAlong, IsAlongOne}
+use Rattle.road_walks.specs.Least.{Either}
+use Rattle.road_walks.proofs.LeastLemmas.{least-cheaper, least-same}
+use Rattle.road_walks.proofs.along_one.along_one.Goals as goal
+
+module _ (w : Weighting DurLen) (p q : Place) where
+  some-vertex : (walk : List ℕ) (d : DurLen) → Either (IsAlong w p q (2 * p.segment)) (IsAlong w p q (2 * p.segment + 1)) walk d → IsAlongOne w p q walk d
+  some-vertex walk d h = elim h [ inl a ↦ (2 * p.segment, a) | inr a ↦ (2 * p.segment + 1, a) ]
+
+  which-vertex : (walk : List ℕ) (d : DurLen) → IsAlongOne w p q walk d → Either (IsAlong w p q (2 * p.segment)) (IsAlong w p q (2 * p.segment + 1)) walk d
+  which-vertex walk d (v, a) = elim a.begins [
+    | inl e ↦ inl (subst (λ x. IsAlong w p q x walk d) e a)
+    | inr e ↦ inr (subst (λ x. IsAlong w p q x walk d) e a)
+  ]
+
+-- the lesser of the two directions is the least of both
+pub returns : goal.returns
+returns c =
+    least-same _ _ (some-vertex c.args.base.now.weights c.args.from c.args.to) (which-vertex c.args.base.now.weights c.args.from c.args.to) c.cheaper.result
+    (least-cheaper _ _ c.in_ok-forward.forward c.in_ok-backward.backward c.cheaper.result c.cheaper.ensures c.in_ok-forward.ensures c.in_ok-backward.ensures)

@@ -1,0 +1,4 @@
+pub mod FirstFailure
+pub mod Least
+pub mod Legs
+pub mod WalkLaws

@@ -1,0 +1,17 @@
+-- What lets a search over a network's graph stand for walks on its roads.
+use Rattle.std.specs.Prelude.{List, Option}
+use Rattle.search_graph.specs.declared.costs.DurLen.{DurLen}
+use Rattle.search_graph.specs.declared.ends.Start.{Start}
+use Rattle.search_graph.specs.declared.ends.Target.{Target}
+use Rattle.search_graph.specs.Digraph.{Weighting}
+use Rattle.search_graph.specs.Durations.{durlen_ops}
+use Rattle.plain_search.specs.Answers.{IsFound}
+use Rattle.plain_search.specs.declared.found.Found.{Found}
+use Rattle.edge_graph.specs.NetworkView.{NetworkView, graph_of}
+use Rattle.road_places.specs.RoadMetric.{turn_graph}
+
+-- what a search finds over the network's graph is a least walk over the turns, or there is none: today the
+-- two graphs are one
+pub stands_for_walks : (network : NetworkView) (w : Weighting DurLen) (starts : List (Start DurLen)) (t : Target DurLen) (answer : Option (Found DurLen))
+    → IsFound durlen_ops (graph_of network) w starts t answer → IsFound durlen_ops (turn_graph network) w starts t answer
+stands_for_walks network w starts t answer h = h

@@ -1,0 +1,73 @@
+//! Walks of one vertex, which lead from a place to one farther on along the same segment.
+
+ghost use Rattle.std.specs.Prelude.{◌≡◌, ◌+◌, ◌*◌, ◌^◌, ◌<◌, ◌≤◌, IfOk, length};
+ghost use Rattle.search_graph.specs.Durations.{durlen_ops};
+ghost use Rattle.road_places.specs.Permitted.{IsAlong, IsAlongOne};
+ghost use Rattle.road_places.specs.Places.{IsDirection, before};
+ghost use Rattle.road_walks.specs.Least.{IsLeastOf};
+
+use crate::cheapest::cheaper;
+use metric_make::BaseMetric;
+use road_base::Place;
+use road_places::{Route, Walk, before, parts_along};
+use search_graph::{Cost, DurLen};
+use std::alloc::{AllocError, Global};
+
+/// The least walk of one vertex from a place to another, or None where there is none.
+pub(crate) fn along_one(
+    alloc: Global,
+    base: &BaseMetric,
+    from: Place,
+    to: Place,
+) -> Result<Option<Route>, AllocError>
+    requires few { from.segment < 2 ^ 30 }
+    requires in_range { 2 * from.segment + 1 < length base.now.weights.vertex }
+    requires from { from.at ≤ 1024 }
+    requires to { to.at ≤ 1024 }
+    ensures { IfOk result (IsLeastOf (IsAlongOne base.now.weights from to)) }
+{
+    if from.segment != to.segment {
+        return Ok(None);
+    }
+    let forward = along(alloc, base, from, to, 2 * from.segment)?;
+    let backward = along(alloc, base, from, to, 2 * from.segment + 1)?;
+    Ok(cheaper(forward, backward))
+}
+
+// The walk of this vertex alone, where there is one.
+fn along(
+    alloc: Global,
+    base: &BaseMetric,
+    from: Place,
+    to: Place,
+    vertex: u32,
+) -> Result<Option<Route>, AllocError>
+    requires in_range { vertex < length base.now.weights.vertex }
+    requires begins { IsDirection from.segment vertex }
+    requires ends { IsDirection to.segment vertex }
+    requires from { from.at ≤ 1024 }
+    requires to { to.at ≤ 1024 }
+    ensures { IfOk result (IsLeastOf (IsAlong base.now.weights from to vertex)) }
+{
+    let first = parts_along(from, vertex);
+    let last = parts_along(to, vertex);
+    let Some(cost) = base.vertex(vertex) else {
+        return Ok(None);
+    };
+    if last < first {
+        return Ok(None);
+    }
+    let walk = Walk::of(Vec::from_slice(alloc, &[vertex])?);
+    let cost = between(cost, first, last);
+    Ok(Some(Route { cost, walk }))
+}
+
+// What a vertex costs from the first to the last of these 1024ths.
+fn between(cost: DurLen, first: u32, last: u32) -> DurLen
+    requires small { durlen_ops.units cost 1 }
+    requires order { first ≤ last }
+    requires within { last ≤ 1024 }
+    ensures { before cost last ≡ durlen_ops.plus (before cost first) result }
+{
+    before(cost, last).minus(before(cost, first))
+}

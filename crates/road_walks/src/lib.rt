@@ -1,0 +1,20 @@
+//! Least walks between places on roads, and along the legs of a list of places.
+//!
+//! [`least_route`] answers for two places, [`least_routes`] for each place and the next of a list. `specs/` is
+//! to be read in this order: `Least` (a least route), `Legs` (legs, routes along them, and the first leg
+//! that has none) and `WalkLaws` (what lets a search stand for walks on roads). What a permitted walk is and
+//! costs is told by `road_places`.
+//!
+//! A call searches once for each leg, with work and memory that follow what the search touches.
+#![tactic(auto)]
+
+mod along_one;
+mod by_turns;
+mod cheapest;
+mod leg_faults;
+mod legs;
+mod routes;
+
+pub use leg_faults::LegFault;
+pub use legs::least_routes;
+pub use routes::least_route;
