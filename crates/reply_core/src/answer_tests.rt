@@ -55,23 +55,17 @@ fn node(alloc: Global, id: i64, x: i32, y: i32) -> Object {
     Object::Node(Node {
         id,
         point: Point::of(i64::from(x) * 1000, i64::from(y) * 1000),
-        tags: Tags::of(Vec::new(alloc)),
+        tags: Tags::new(alloc),
     })
 }
 
 fn way(alloc: Global, nodes: &[i64], oneway: &str) -> Result<Object, ReplyFault> {
-    let mut tags = Vec::new(alloc);
-    tags.push((
-        Text::copy_of(alloc, "highway")?,
-        Text::copy_of(alloc, "residential")?,
-    ))?;
-    tags.push((
-        Text::copy_of(alloc, "oneway")?,
-        Text::copy_of(alloc, oneway)?,
-    ))?;
+    let tags = Tags::new(alloc)
+        .with("highway", "residential")?
+        .with("oneway", oneway)?;
     Ok(Object::Way(Way {
         id: 10,
-        tags: Tags::of(tags),
+        tags,
         nodes: Ids::of(Vec::from_slice(alloc, nodes)?),
     }))
 }
