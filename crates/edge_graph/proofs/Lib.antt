@@ -7,3 +7,6 @@ pub mod SegmentLemmas
 pub mod VertexLemmas
 pub mod WayLemmas
 pub mod TurnLemmas
+pub mod DecisionLemmas
+pub mod LeavingLemmas
+pub mod RangeLemmas

@@ -1,11 +1,16 @@
 -- What holds of all segments of a map.
-use Rattle.std.proofs.Common.{◌≡◌, ℕ, ℤ, suc, List, [], ◌∷◌, All, Option, Some, None, true, false, cond, arith}
+use Rattle.std.proofs.Common.{◌≡◌, ◌∙◌, ap, length, ℕ, ℤ, suc, List, [], ◌∷◌, All, Option, Some, None, true, false, cond, arith}
 use Rattle.std.specs.List.{flat_map}
 use Rattle.std.specs.Ordering.{int_eq}
 use Rattle.std.proofs.lemmas.List.Elements.{All-nil, All-cons, All-append}
 use Rattle.road_base.specs.declared.osm_objects.Object.{Object}
 use Rattle.road_base.specs.declared.osm_objects.Way.{Way}
 use Rattle.way_profile.specs.Vehicle.{ProfileView, IsSpeed}
+use Rattle.turn_rules.specs.Rules.{RulesView, rules_of}
+use Rattle.edge_graph.specs.NetworkView.{NetworkView, network_of, network_with}
+use Rattle.edge_graph.specs.Restrictions.{applied_rules}
+use Rattle.edge_graph.specs.Turn.{turns}
+use Rattle.edge_graph.specs.Vertex.{vertices}
 use Rattle.edge_graph.specs.Located.{nodes_at, segments_on}
 use Rattle.edge_graph.specs.Segment.{Segment, joined, segment_between, segments, segments_along, segments_of_way, segments_through, ways_by_id}
 use Rattle.edge_graph.specs.Spots.{spot_at}
@@ -49,3 +54,12 @@ on-speeds spot objects (street ∷ streets) (place ∷ places) h =
 pub segments-spotted : (spot : ℤ → Option Spot) (objects : List Object) (profile : ProfileView) → ((id : ℤ) → spot id ≡ spot_at profile objects id)
     → flat_map (λ way. segments_of_way spot profile way.1) (ways_by_id objects) ≡ segments objects profile
 segments-spotted spot objects profile h = λ i. flat_map (λ (way : ℤ × Way). segments_of_way (λ id. h id i) profile way.1) (ways_by_id objects)
+
+-- a network of these parts
+pub network-is : (objects : List Object) (profile profile' : ProfileView) (roads : List Segment) (rules : RulesView) (arcs : List (ℕ × ℕ)) (applied ignored : ℕ) → roads ≡ segments objects profile
+    → rules ≡ applied_rules roads (rules_of objects profile.vehicle) → arcs ≡ turns (vertices roads) rules.kept → profile' ≡ profile → applied ≡ length rules.kept → ignored ≡ rules.ignored
+    → (let network : NetworkView = record { segments = roads; turns = arcs; profile = profile'; applied = applied; ignored = ignored } in network) ≡ network_of objects profile
+network-is objects profile profile' roads rules arcs applied ignored is under listed same counted left_out =
+    (λ i. record { segments = roads; turns = listed i; profile = same i; applied = counted i; ignored = left_out i })
+    ∙ ap (λ (r : RulesView). network_with roads r profile) under
+    ∙ ap (λ (s : List Segment). network_with s (applied_rules s (rules_of objects profile.vehicle)) profile) is

@@ -1,22 +1,18 @@
 -- Which rules apply, and the chains of those at a node.
-use Rattle.std.proofs.Common.{◌≡◌, ℕ, ℤ, zero, suc, ◌+◌, ◌<◌, ◌≤◌, List, [], ◌∷◌, ◌++◌, length, drop, take, set, map, filter, Option, Some, None, Bool, true, false, not, cond, arith, refl, sym, ap, subst, ◌∙◌, ◌&&◌, ◌||◌, add-one}
-use Rattle.std.specs.Prelude.{option_map, unwrap_or, nat_lt, count_by}
-use Rattle.std.specs.HashMap.{get, Updates}
+use Rattle.std.proofs.Common.{◌≡◌, ℕ, ℤ, zero, suc, ◌+◌, List, [], ◌∷◌, ◌++◌, length, drop, take, map, filter, Option, Some, None, Bool, true, false, not, cond, arith, refl, sym, ap, ◌∙◌, ◌&&◌, ◌||◌, add-one}
+use Rattle.std.specs.Prelude.{option_map, count_by}
 use Rattle.std.specs.HashSet.{contains}
-use Rattle.std.specs.List.{enumerate_from, items_where_true, list_all, list_any, slice_get, zip}
-use Rattle.std.specs.Map.{lookup}
+use Rattle.std.specs.List.{items_where_true, list_all, list_any, slice_get}
 use Rattle.std.specs.Ordering.{int_eq}
-use Rattle.std.proofs.lemmas.Bool.Decides.{Decides-int_eq, Decides-ltb, nat_tests}
+use Rattle.std.proofs.lemmas.Bool.Decides.{Decides-int_eq}
 use Rattle.std.proofs.lemmas.Grind.{common_steps}
 use Rattle.std.proofs.lemmas.List.{map-append}
-use Rattle.std.proofs.lemmas.Option.{same_Some, slice_get_within}
+use Rattle.std.proofs.lemmas.Option.{same_Some}
 use Rattle.turn_rules.specs.Rules.{Rule}
-use Rattle.edge_graph.specs.Chains.{IsChain}
 use Rattle.edge_graph.specs.Restrictions.{applies, meets}
-use Rattle.edge_graph.specs.RuleChains.{AreMet, FirstMap, NodeSet, PairSet, first_in, has_via, pair_eq, rules_at}
+use Rattle.edge_graph.specs.RestrictionParts.{AreMet, NodeSet, PairSet, has_via, pair_eq}
 use Rattle.edge_graph.specs.Segment.{Segment}
 use Rattle.edge_graph.specs.Vertex.{Vertex, vertices}
-use Rattle.edge_graph.proofs.ChainLemmas.{IsChain-lower, belonging-end, chain-add, chain-skip}
 use Rattle.edge_graph.proofs.RouteLemmas.{take-get}
 use Rattle.edge_graph.proofs.WayLemmas.{drop-get}
 
@@ -35,7 +31,7 @@ pub list_any-cong : {X : Type 0} (p q : X → Bool) → ((x : X) → p x ≡ q x
 list_any-cong p q h [] = refl
 list_any-cong p q h (x ∷ xs) = ap (λ (b : Bool). b || list_any p xs) (h x) ∙ ap (λ (b : Bool). q x || b) (list_any-cong p q h xs)
 
-either : (b was : Bool) → cond b true was ≡ (b || was)
+pub either : (b was : Bool) → cond b true was ≡ (b || was)
 either true was = refl
 either false was = refl
 
@@ -155,148 +151,23 @@ length-items_where_true (b ∷ flags) [] h = absurd (omega arith)
 length-items_where_true (true ∷ flags) (x ∷ xs) h = omega (arith, length-items_where_true flags xs (omega (arith, h)))
 length-items_where_true (false ∷ flags) (x ∷ xs) h = omega (arith, length-items_where_true flags xs (omega (arith, h)))
 
--- the element of a number in two lists
-pub get-zip : {X Y : Type 0} (xs : List X) (ys : List Y) (k : ℕ) (x : X) (y : Y) → slice_get xs k ≡ Some x → slice_get ys k ≡ Some y → slice_get (zip xs ys) k ≡ Some (x, y)
-get-zip [] ys k x y e f = cc
-get-zip (a ∷ xs) [] k x y e f = cc
-get-zip (a ∷ xs) (b ∷ ys) zero x y e f = cc
-get-zip (a ∷ xs) (b ∷ ys) (suc k) x y e f = get-zip xs ys k x y e f
-
-pub length-zip : {X Y : Type 0} (xs : List X) (ys : List Y) → length xs ≡ length ys → length (zip xs ys) ≡ length xs
-length-zip [] ys h = refl
-length-zip (x ∷ xs) [] h = absurd (omega arith)
-length-zip (x ∷ xs) (y ∷ ys) h = omega (arith, length-zip xs ys (omega (arith, h)))
-
--- the rules at a node are those that apply and have it
-any-chosen : (p : Rule → Bool) (rules : List Rule) (flags : List Bool) (node : ℤ) (b : ℕ)
-    → list_any (λ e. p e.1.0) (filter (λ e. e.1.1 && int_eq e.1.0.via node) (enumerate_from b (zip rules flags))) ≡ list_any (λ rule. int_eq rule.via node && p rule) (items_where_true flags rules)
-any-chosen p [] [] node b = refl
-any-chosen p [] (f ∷ flags) node b = refl
-any-chosen p (r ∷ rules) [] node b = refl
-any-chosen p (r ∷ rules) (true ∷ flags) node b =
-    let rest = filter (λ (e : ℕ × (Rule × Bool)). e.1.1 && int_eq e.1.0.via node) (enumerate_from (b + 1) (zip rules flags)) in
-    elim (int_eq r.via node) as (λ c. list_any (λ e. p e.1.0) (cond c ((b, (r, true)) ∷ rest) rest) ≡ ((c && p r) || list_any (λ rule. int_eq rule.via node && p rule) (items_where_true flags rules))) [
-      | true ↦ ap (λ (c : Bool). p r || c) (any-chosen p rules flags node (b + 1))
-      | false ↦ any-chosen p rules flags node (b + 1)
-    ]
-any-chosen p (r ∷ rules) (false ∷ flags) node b = any-chosen p rules flags node (b + 1)
-
-pub any-rules_at : (p : Rule → Bool) (rules : List Rule) (flags : List Bool) (node : ℤ)
-    → list_any (λ e. p e.1.0) (rules_at rules flags node 0) ≡ list_any (λ rule. int_eq rule.via node && p rule) (items_where_true flags rules)
-any-rules_at p rules flags node = any-chosen p rules flags node 0
-
--- each of these is the rule of its number
-abbrev pub AreOf : List Rule → List (ℕ × (Rule × Bool)) → Type 0
-AreOf rules [] = Unit {0}
-AreOf rules (e ∷ es) = (slice_get rules e.0 ≡ Some e.1.0) × AreOf rules es
-
-are-chosen : (all rules : List Rule) (flags : List Bool) (node : ℤ) (b : ℕ) → ((k : ℕ) (r : Rule) → slice_get rules k ≡ Some r → slice_get all (b + k) ≡ Some r)
-    → AreOf all (filter (λ e. e.1.1 && int_eq e.1.0.via node) (enumerate_from b (zip rules flags)))
-are-chosen all [] flags node b h = tt
-are-chosen all (r ∷ rules) [] node b h = tt
-are-chosen all (r ∷ rules) (f ∷ flags) node b h =
-    let rest = filter (λ (e : ℕ × (Rule × Bool)). e.1.1 && int_eq e.1.0.via node) (enumerate_from (b + 1) (zip rules flags)) in
-    let here : slice_get all b ≡ Some r = subst (λ (n : ℕ). slice_get all n ≡ Some r) (omega arith) (h 0 r refl) in
-    let more : AreOf all rest =
-    are-chosen all rules flags node (b + 1) (λ k s e. subst (λ (n : ℕ). slice_get all n ≡ Some s) (omega arith) (h (suc k) s e)) in
-    elim (f && int_eq r.via node) as (λ c. AreOf all (cond c ((b, (r, f)) ∷ rest) rest)) [
-      | true ↦ (here, more)
-      | false ↦ more
-    ]
-
-pub are-rules_at : (rules : List Rule) (flags : List Bool) (node : ℤ) → AreOf rules (rules_at rules flags node 0)
-are-rules_at rules flags node = are-chosen rules rules flags node 0 (λ k r e. subst (λ (n : ℕ). slice_get rules n ≡ Some r) (omega arith) e)
-
--- a chain that is not empty begins below the end
-pub chain-some : {X : Type 0} (next : List ℕ) (none c : ℕ) (es : List (ℕ × X)) → length next ≡ none → IsChain next none 0 c es → nat_lt c none ≡ list_any (λ e. true) es
-chain-some next none c [] all h = grind (arith, nat_tests, h)
-chain-some next none c (e ∷ es) all h = (Decides-ltb c none).1 (omega (arith, all, slice_get_within next c h.2 h.3))
-
--- what a walk along a chain of rules has still to look at
-pub record IsAhead (rules : List Rule) (next : List ℕ) (none c : ℕ) (p : Rule → Bool) (total : Bool) : Type 0 where
-  pub es : List (ℕ × (Rule × Bool))
-  pub chain : IsChain next none 0 c es
-  pub are : AreOf rules es
-  pub rest : list_any (λ e. p e.1.0) es ≡ total
-
-module _ (rules : List Rule) (next : List ℕ) (none c : ℕ) (p : Rule → Bool) (total : Bool) where
-  -- the rule of this number says so
-  found-by : (es : List (ℕ × (Rule × Bool))) → IsChain next none 0 c es → AreOf rules es → list_any (λ e. p e.1.0) es ≡ total → c < none → option_map p (slice_get rules c) ≡ Some true → total ≡ true
-  found-by [] h are r lt at = absurd (omega (arith, h))
-  found-by (e ∷ es) h are r lt at =
-      let its : p e.1.0 ≡ true = same_Some (p e.1.0) true (sym (ap (option_map p) are.0) ∙ ap (λ (n : ℕ). option_map p (slice_get rules n)) (sym h.0) ∙ at) in
-      sym r ∙ ap (λ (b : Bool). b || list_any (λ f. p f.1.0) es) its
-
-  pub IsAhead-found : IsAhead rules next none c p total → c < none → option_map p (slice_get rules c) ≡ Some true → total ≡ true
-  IsAhead-found h lt at = found-by h.es h.chain h.are h.rest lt at
-
-  -- it does not
-  next-by : (es : List (ℕ × (Rule × Bool))) (n : ℕ) → IsChain next none 0 c es → AreOf rules es → list_any (λ e. p e.1.0) es ≡ total → c < none → slice_get next c ≡ Some n
-      → option_map p (slice_get rules c) ≡ Some false → IsAhead rules next none n p total
-  next-by [] n h are r lt to at = absurd (omega (arith, h))
-  next-by (e ∷ es) n h are r lt to at =
-      let its : p e.1.0 ≡ false = same_Some (p e.1.0) false (sym (ap (option_map p) are.0) ∙ ap (λ (k : ℕ). option_map p (slice_get rules k)) (sym h.0) ∙ at) in
-      record {
-        es = es;
-        chain = subst (λ (m : ℕ). IsChain next none 0 m es) (same_Some h.2 n (sym h.3 ∙ to)) (IsChain-lower next none (c + 1) 0 h.2 es (omega arith) h.4);
-        are = are.1;
-        rest = ap (λ (b : Bool). b || list_any (λ f. p f.1.0) es) (sym its) ∙ r;
-      }
-
-  pub IsAhead-next : (n : ℕ) → IsAhead rules next none c p total → c < none → slice_get next c ≡ Some n → option_map p (slice_get rules c) ≡ Some false → IsAhead rules next none n p total
-  IsAhead-next n h lt to at = next-by h.es n h.chain h.are h.rest lt to at
-
-  done-by : (es : List (ℕ × (Rule × Bool))) → IsChain next none 0 c es → list_any (λ e. p e.1.0) es ≡ total → none ≤ c → length next ≡ none → total ≡ false
-  done-by [] h r le all = sym r
-  done-by (e ∷ es) h r le all = absurd (omega (arith, slice_get_within next c h.2 h.3))
-
-  pub IsAhead-done : IsAhead rules next none c p total → none ≤ c → length next ≡ none → total ≡ false
-  IsAhead-done h le all = done-by h.es h.chain h.rest le all
-
-  ahead-of : (es : List (ℕ × (Rule × Bool))) (n : ℕ) → IsChain next none (c + 1) n es → c < none → c < n
-  ahead-of [] n h lt = omega (arith, h)
-  ahead-of (e ∷ es) n h lt = omega (arith, h.1)
-
-  smaller-by : (es : List (ℕ × (Rule × Bool))) (n : ℕ) → IsChain next none 0 c es → c < none → slice_get next c ≡ Some n → c < n
-  smaller-by [] n h lt to = absurd (omega (arith, h))
-  smaller-by (e ∷ es) n h lt to = subst (λ (m : ℕ). c < m) (same_Some h.2 n (sym h.3 ∙ to)) (ahead-of es h.2 h.4 lt)
-
-  pub IsAhead-smaller : (n : ℕ) → IsAhead rules next none c p total → c < none → slice_get next c ≡ Some n → c < n
-  IsAhead-smaller n h lt to = smaller-by h.es n h.chain lt to
-
 -- to map and to count is to count by the map
 pub count_by-map : {X : Type 0} (p : X → Bool) (xs : List X) → count_by (λ flag. not flag) (map p xs) ≡ count_by (λ x. not (p x)) xs
 count_by-map p [] = refl
 count_by-map p (x ∷ xs) = grind (arith, common_steps, count_by-map p xs)
 
--- the chains of rules, made from the last rule to the first
-module _ (rules : List Rule) (flags : List Bool) (as_many : length flags ≡ length rules) where
-  -- before the first step no rule is in a chain
-  pub rules-start : (next : List ℕ) (first : FirstMap) (n : ℕ) → n ≡ length rules → first.entries ≡ []
-      → (node : ℤ) → IsChain next (length rules) n (first_in first (length rules) node) (rules_at rules flags node n)
-  rules-start next first n all empty node =
-      let nothing : rules_at rules flags node n ≡ [] =
-      belonging-end (λ (e : Rule × Bool). e.1) (λ e. e.0.via) (zip rules flags) n node (omega (arith, all, length-zip rules flags (sym as_many))) in
-      subst (λ (es : List (ℕ × (Rule × Bool))). IsChain next (length rules) n (first_in first (length rules) node) es) (sym nothing)
-      (ap (λ (es : List (ℤ × ℕ)). unwrap_or (lookup (int_eq node) es) (length rules)) empty)
+-- the rules from number i on that apply: rule i does
+pub chosen-on : (rules : List Rule) (flags : List Bool) (i : ℕ) (r : Rule) → slice_get rules i ≡ Some r → slice_get flags i ≡ Some true
+    → items_where_true (drop i flags) (drop i rules) ≡ r ∷ items_where_true (drop (i + 1) flags) (drop (i + 1) rules)
+chosen-on rules flags i r at on =
+    ap (λ (l : List Bool). items_where_true l (drop i rules)) (drop-get flags i true on)
+    ∙ ap (items_where_true (true ∷ drop (suc i) flags)) (drop-get rules i r at)
+    ∙ ap (λ (k : ℕ). r ∷ items_where_true (drop k flags) (drop k rules)) (sym (add-one i))
 
-  module _ (next : List ℕ) (first : FirstMap) (i : ℕ) (r : Rule) (at : slice_get rules i ≡ Some r)
-      (h : (node : ℤ) → IsChain next (length rules) (i + 1) (first_in first (length rules) node) (rules_at rules flags node (i + 1))) where
-    -- rule i does not apply
-    pub rules-skip : slice_get flags i ≡ Some false → (node : ℤ) → IsChain next (length rules) i (first_in first (length rules) node) (rules_at rules flags node i)
-    rules-skip off node =
-        chain-skip (λ (e : Rule × Bool). e.1) (λ e. e.0.via) (zip rules flags) i (r, false) (get-zip rules flags i r false at off) next (length rules) (first_in first (length rules)) refl h node
-
-    first-by : (first' : FirstMap) → Updates int_eq first first' r.via (Some i) → (node : ℤ) → first_in first' (length rules) node ≡ cond (int_eq r.via node) i (first_in first (length rules) node)
-    first-by first' updates node = ap (λ (o : Option ℕ). unwrap_or o (length rules)) (updates.0 node) ∙ of-cond (int_eq r.via node)
-      where
-        of-cond : (b : Bool) → unwrap_or (cond b (Some i) (get int_eq first node)) (length rules) ≡ cond b i (first_in first (length rules) node)
-        of-cond true = refl
-        of-cond false = refl
-
-    -- it applies
-    pub rules-add : (first' : FirstMap) (old : ℕ) → slice_get flags i ≡ Some true → i < length next → old ≡ first_in first (length rules) r.via → Updates int_eq first first' r.via (Some i)
-        → (node : ℤ) → IsChain (set next i old) (length rules) i (first_in first' (length rules) node) (rules_at rules flags node i)
-    rules-add first' old on within was updates node =
-        chain-add (λ (e : Rule × Bool). e.1) (λ e. e.0.via) (zip rules flags) i (r, true) (get-zip rules flags i r true at on) next (length rules)
-        (first_in first (length rules)) (first_in first' (length rules)) refl within old was (first-by first' updates) h node
+-- it does not
+pub chosen-off : (rules : List Rule) (flags : List Bool) (i : ℕ) (r : Rule) → slice_get rules i ≡ Some r → slice_get flags i ≡ Some false
+    → items_where_true (drop i flags) (drop i rules) ≡ items_where_true (drop (i + 1) flags) (drop (i + 1) rules)
+chosen-off rules flags i r at off =
+    ap (λ (l : List Bool). items_where_true l (drop i rules)) (drop-get flags i false off)
+    ∙ ap (items_where_true (false ∷ drop (suc i) flags)) (drop-get rules i r at)
+    ∙ ap (λ (k : ℕ). items_where_true (drop k flags) (drop k rules)) (sym (add-one i))

@@ -1,12 +1,15 @@
 -- The turns from a vertex and its exits, by the vertices that leave its head.
-use Rattle.std.proofs.Common.{◌≡◌, ℕ, ℤ, zero, suc, ◌+◌, ◌-◌, ◌*◌, ◌/◌, ◌<◌, ◌≤◌, ◌%◌, inl, inr, List, [], ◌∷◌, ◌++◌, length, drop, map, filter, Option, Some, Bool, true, false, cond, not, arith, refl, sym, ap, subst, ◌∙◌, ◌&&◌, ◌||◌, append_assoc}
+use Rattle.std.proofs.Common.{◌≡◌, ℕ, ℤ, zero, suc, ◌+◌, ◌-◌, ◌*◌, ◌/◌, ◌<◌, ◌≤◌, ◌%◌, inl, inr, List, [], ◌∷◌, ◌++◌, length, drop, map, filter, Option, Some, None, Vec, Bool, true, false, cond, not, arith, refl, sym, ap, subst, ◌∙◌, ◌&&◌, ◌||◌, append_assoc}
 use Rattle.std.specs.Prelude.{◌==◌}
 use Rattle.std.specs.List.{enumerate_from, slice_get, flat_map, list_any}
+use Rattle.std.specs.Global.{Global}
+use Rattle.std.specs.HashMap.{get}
+use Rattle.std.specs.Map.{lookup}
 use Rattle.std.specs.Option.{option_map_or}
 use Rattle.std.specs.Ordering.{int_eq}
 use Rattle.std.proofs.lemmas.Bool.{cases_eq}
 use Rattle.std.proofs.lemmas.Bool.Decides.{nat_tests, Decides-int_eq}
-use Rattle.std.proofs.lemmas.List.{append-nil, length-map}
+use Rattle.std.proofs.lemmas.List.{append-nil}
 use Rattle.std.proofs.Math.ListN.{drop_of_length-le}
 use Rattle.std.proofs.lemmas.List.Sums.{length-filter}
 use Rattle.std.proofs.lemmas.Option.{same_Some, slice_get_within}
@@ -17,7 +20,10 @@ use Rattle.edge_graph.specs.Fans.{leavers, turns_at}
 use Rattle.edge_graph.specs.Restrictions.{is_forbidden, is_forbidden_at}
 use Rattle.edge_graph.specs.Segment.{Segment}
 use Rattle.edge_graph.specs.Turn.{exits, exits_at, is_turn, is_way_on, leaves, numbered, turns, turns_from}
-use Rattle.edge_graph.specs.TurnParts.{is_ruled, may_turn_back, may_turn_on, must_turn_back, turns_on}
+use Rattle.edge_graph.specs.TurnParts.{AreOpenRows, RowMap, may_turn_back, may_turn_on, must_turn_back, turns_on, turns_onto, turns_onto_all}
+use Rattle.edge_graph.specs.Leaving.{RunMap, leaving_at, exits_onto, open_exits}
+use Rattle.edge_graph.specs.RestrictionParts.{has_via, pair_eq}
+use Rattle.edge_graph.proofs.DecisionLemmas.{pair-same}
 use Rattle.edge_graph.specs.Vertex.{Vertex, against, along, opposite, vertices}
 use Rattle.edge_graph.proofs.ChainLemmas.{IsChain-lower}
 use Rattle.edge_graph.proofs.WayLemmas.{drop-get}
@@ -193,6 +199,30 @@ opposite-get segments v x at =
           (along s.0, vertices-even segments (v / 2) s.0 (opposite v) s.1 back, ap (λ (z : Vertex). z.head) same, ap (λ (z : Vertex). z.way) same)
     ]
 
+-- the turns onto what passes a test of its way, and is not the other direction
+onto-both : (r : ℤ → Bool) (v : ℕ) (es : List (ℕ × Vertex))
+    → turns_onto v (exits_onto r (map (λ e. (e.0, e.1.way)) es)) ≡ map {A = ℕ × Vertex} {B = ℕ × ℕ} (λ e. (v, e.0)) (filter (λ e. not (e.0 == opposite v) && r e.1.way) es)
+onto-both r v [] = refl
+onto-both r v (e ∷ es) =
+    let passed : List ℕ = exits_onto r (map (λ e. (e.0, e.1.way)) es) in
+    let left : List ℕ = filter (λ k. not (k == opposite v)) passed in
+    let kept_in : List (ℕ × Vertex) = filter (λ e. not (e.0 == opposite v) && r e.1.way) es in
+    let same : map {A = ℕ} {B = ℕ × ℕ} (λ k. (v, k)) left ≡ map {A = ℕ × Vertex} {B = ℕ × ℕ} (λ f. (v, f.0)) kept_in = onto-both r v es in
+    elim (r e.1.way) as (λ c. turns_onto v (map {A = ℕ × ℤ} {B = ℕ} (λ f. f.0) (cond c ((e.0, e.1.way) ∷ filter (λ f. r f.1) (map (λ e. (e.0, e.1.way)) es)) (filter (λ f. r f.1) (map (λ e. (e.0, e.1.way)) es))))
+    ≡ map {A = ℕ × Vertex} {B = ℕ × ℕ} (λ f. (v, f.0)) (cond (not (e.0 == opposite v) && c) (e ∷ kept_in) kept_in)) [
+      | true ↦ elim (not (e.0 == opposite v)) as (λ d. map {A = ℕ} {B = ℕ × ℕ} (λ k. (v, k)) (cond d (e.0 ∷ left) left) ≡ map {A = ℕ × Vertex} {B = ℕ × ℕ} (λ f. (v, f.0)) (cond (d && true) (e ∷ kept_in) kept_in)) [
+        | true ↦ ap (λ (l : List (ℕ × ℕ)). (v, e.0) ∷ l) same
+        | false ↦ same
+      ]
+      | false ↦ elim (not (e.0 == opposite v)) as (λ d. map {A = ℕ} {B = ℕ × ℕ} (λ k. (v, k)) left ≡ map {A = ℕ × Vertex} {B = ℕ × ℕ} (λ f. (v, f.0)) (cond (d && false) (e ∷ kept_in) kept_in)) [
+        | true ↦ same
+        | false ↦ same
+      ]
+    ]
+
+pub turns_onto_all-at : (vs : List Vertex) (v : ℕ) (x : Vertex) → slice_get vs v ≡ Some x → turns_onto_all vs v ≡ map (λ e. (v, e.0)) (filter (λ e. not (e.0 == opposite v)) (leavers vs x.head 0))
+turns_onto_all-at vs v x at = ap (λ (o : Option Vertex). option_map_or (λ z. map (λ e. (v, e.0)) (filter (λ e. not (e.0 == opposite v)) (leavers vs z.head 0))) o []) at
+
 module _ (vs : List Vertex) (v : ℕ) (x y : Vertex) (at : slice_get vs v ≡ Some x) (back : slice_get vs (opposite v) ≡ Some y) (joins : y.tail ≡ x.head) where
   exits-at : exits vs v ≡ exits_at vs x.head v
   exits-at = ap (λ (o : Option Vertex). option_map_or (λ z. exits_at vs z.head v) o 0) at
@@ -261,6 +291,39 @@ module _ (vs : List Vertex) (v : ℕ) (x y : Vertex) (at : slice_get vs v ≡ So
         ∙ ap (λ (b : Bool). leaves x.head (n, z) && b) (sym (on-is n z has)))
         ∙ filter-both (leaves x.head) (λ e. may_turn_on vs rules v e.0) (numbered vs))
         ∙ sym turns_on-is
+
+    -- onto what is open from the way at the head, and is not the way back
+    by-other : (b : Bool) (f : Bool → Bool) → (not b && not (f b)) ≡ (not b && not (f false))
+    by-other true f = refl
+    by-other false f = refl
+
+    open-test : (n : ℕ) (z : Vertex) → slice_get vs n ≡ Some z
+        → (leaves x.head (n, z) && may_turn_on vs rules v n) ≡ (leaves x.head (n, z) && (not (n == opposite v) && not (is_forbidden_at rules x.head x.way z.way false)))
+    open-test n z has = ap (λ (b : Bool). leaves x.head (n, z) && b) (on-is n z has ∙ by-other (n == opposite v) (is_forbidden_at rules x.head x.way z.way))
+
+    pub turns_on-open : turns_on vs rules v ≡ turns_onto v (open_exits rules x.head x.way (map (λ e. (e.0, e.1.way)) (leavers vs x.head 0)))
+    turns_on-open =
+        let open_test : ℕ × Vertex → Bool = λ e. not (e.0 == opposite v) && not (is_forbidden_at rules x.head x.way e.1.way false) in
+        turns_on-is
+        ∙ ap (map {A = ℕ × Vertex} {B = ℕ × ℕ} (λ e. (v, e.0)))
+        (sym (filter-both (leaves x.head) (λ e. may_turn_on vs rules v e.0) (numbered vs))
+        ∙ filter-cong-numbered vs (λ e. leaves x.head e && may_turn_on vs rules v e.0) (λ e. leaves x.head e && open_test e) open-test
+        ∙ filter-both (leaves x.head) open_test (numbered vs))
+        ∙ sym (onto-both (λ to. not (is_forbidden_at rules x.head x.way to false)) v (leavers vs x.head 0))
+
+    -- where no rule stands, onto all that leave there
+    pub turns_on-all : has_via rules x.head ≡ false → turns_on vs rules v ≡ turns_onto_all vs v
+    turns_on-all none =
+        turns_on-is
+        ∙ ap (map {A = ℕ × Vertex} {B = ℕ × ℕ} (λ e. (v, e.0)))
+        (sym (filter-both (leaves x.head) (λ e. may_turn_on vs rules v e.0) (numbered vs))
+        ∙ filter-cong-numbered vs (λ e. leaves x.head e && may_turn_on vs rules v e.0) (λ e. leaves x.head e && not (e.0 == opposite v))
+        (λ n z has. ap (λ (b : Bool). leaves x.head (n, z) && b)
+        (on-is n z has
+        ∙ ap (λ (b : Bool). not (n == opposite v) && not b) (free rules x.head x.way z.way (n == opposite v) none)
+        ∙ and-true (not (n == opposite v))))
+        ∙ filter-both (leaves x.head) (λ e. not (e.0 == opposite v)) (numbered vs))
+        ∙ sym (turns_onto_all-at vs v x at)
 
     leaves-back : leaves x.head (opposite v, y) ≡ y.permitted
     leaves-back = ap (λ (b : Bool). y.permitted && b) ((Decides-int_eq y.tail x.head).1 joins) ∙ and-true y.permitted
@@ -335,26 +398,6 @@ module _ (vs : List Vertex) (v : ℕ) (x y : Vertex) (at : slice_get vs v ≡ So
     -- where it can only turn back, it does so if it may
     pub turns-back : x.permitted ≡ true → must_turn_back vs v ≡ true → turns_at vs rules v ≡ cond (may_turn_back vs rules v) ((v, opposite v) ∷ []) []
     turns-back opened must = turns-back-by (exits_at vs x.head v == 0) x.closed refl refl (sym must-is ∙ must) opened must
-
-    -- where no rule stands, each exit has its turn
-    pub length-turns_on : is_ruled vs rules v ≡ false → length (turns_on vs rules v) ≡ exits vs v
-    length-turns_on unruled =
-        let none : list_any (λ rule. int_eq rule.via x.head) rules ≡ false =
-        sym (ap (λ (o : Option Vertex). option_map_or (λ z. list_any (λ rule. int_eq rule.via z.head) rules) o false) at) ∙ unruled in
-        let chosen : filter (λ e. leaves x.head e && may_turn_on vs rules v e.0) (numbered vs) ≡ filter (λ e. leaves x.head e && not (e.0 == opposite v)) (numbered vs) =
-        filter-cong-numbered vs (λ e. leaves x.head e && may_turn_on vs rules v e.0) (λ e. leaves x.head e && not (e.0 == opposite v))
-        (λ n z has. ap (λ (b : Bool). leaves x.head (n, z) && b)
-        (on-is n z has
-        ∙ ap (λ (b : Bool). not (n == opposite v) && not b) (free rules x.head x.way z.way (n == opposite v) none)
-        ∙ and-true (not (n == opposite v)))) in
-        omega (
-          arith,
-          ap length turns_on-is,
-          length-map {B = ℕ × ℕ} (filter (λ e. may_turn_on vs rules v e.0) (leavers vs x.head 0)) (λ e. (v, e.0)),
-          ap length (sym (filter-both (leaves x.head) (λ e. may_turn_on vs rules v e.0) (numbered vs)) ∙ chosen),
-          length-filter (λ e. leaves x.head e && not (e.0 == opposite v)) (numbered vs),
-          exits-at,
-        )
 
 -- what a walk along a chain has still to add: the turns into the vertices es whose numbers pass the test
 pub record IsLeft (next : List ℕ) (none v c : ℕ) (test : ℕ → Bool) (items total : List (ℕ × ℕ)) : Type 0 where
@@ -441,9 +484,6 @@ not-false true e = refl
 not-false false e = cc
 
 module _ (vs : List Vertex) (v : ℕ) (x : Vertex) (at : slice_get vs v ≡ Some x) where
-  pub is_ruled-at : (rules : List Rule) → is_ruled vs rules v ≡ list_any (λ rule. int_eq rule.via x.head) rules
-  is_ruled-at rules = ap (λ (o : Option Vertex). option_map_or (λ z. list_any (λ rule. int_eq rule.via z.head) rules) o false) at
-
   pub must_turn_back-at : must_turn_back vs v ≡ ((exits vs v == 0) || x.closed)
   must_turn_back-at = ap (λ (o : Option Vertex). (exits vs v == 0) || option_map_or (λ z. z.closed) o false) at
 
@@ -455,11 +495,22 @@ module _ (vs : List Vertex) (v : ℕ) (x : Vertex) (at : slice_get vs v ≡ Some
       ∙ ap (λ (o : Option Vertex). option_map_or (λ w. w.permitted && not (is_forbidden rules (v, x) (opposite v, w))) o false) back
       ∙ ap (λ (b : Bool). y.permitted && not (is_forbidden_at rules x.head x.way y.way b)) found
 
-  pub may_turn_on-at : (e : ℕ) (z : Vertex) → slice_get vs e ≡ Some z → (rules : List Rule)
-      → may_turn_on vs rules v e ≡ (not (e == opposite v) && not (is_forbidden_at rules x.head x.way z.way (e == opposite v)))
-  may_turn_on-at e z has rules =
-      ap (λ (o : Option Vertex). not (e == opposite v) && option_map_or (λ u. option_map_or (λ w. not (is_forbidden rules (v, u) (e, w))) (slice_get vs e) false) o false) at
-      ∙ ap (λ (o : Option Vertex). not (e == opposite v) && option_map_or (λ w. not (is_forbidden rules (v, x) (e, w))) o false) has
+-- no row yet
+pub no-rows : (rules : List Rule) (runs : RunMap) (rows : RowMap) → rows.entries ≡ [] → AreOpenRows rules runs rows
+no-rows rules runs rows empty node way row at =
+    let none : get pair_eq rows (node, way) ≡ None = ap (λ (es : List ((ℤ × ℤ) × Vec ℕ Global)). lookup (pair_eq (node, way)) es) empty in
+    let clash : None ≡ Some row = sym none ∙ at in
+    cc
 
-  pub turns_on-at : (rules : List Rule) → turns_on vs rules v ≡ map (λ e. (v, e.0)) (filter (λ e. may_turn_on vs rules v e.0) (leavers vs x.head 0))
-  turns_on-at rules = ap (λ (o : Option Vertex). option_map_or (λ z. map (λ e. (v, e.0)) (filter (λ e. may_turn_on vs rules v e.0) (leavers vs z.head 0))) o []) at
+-- one row more
+pub rows-put : (rules : List Rule) (runs : RunMap) (rows rows' : RowMap) (key : ℤ × ℤ) (row : Vec ℕ Global) → AreOpenRows rules runs rows
+    → row.items ≡ open_exits rules key.0 key.1 (leaving_at runs key.0) → ((q : ℤ × ℤ) → get pair_eq rows' q ≡ cond (pair_eq key q) (Some row) (get pair_eq rows q))
+    → AreOpenRows rules runs rows'
+rows-put rules runs rows rows' key row h its put node way found at = by (pair_eq key (node, way)) refl
+  where
+    by : (b : Bool) → pair_eq key (node, way) ≡ b → found.items ≡ open_exits rules node way (leaving_at runs node)
+    by true e =
+        let same : row ≡ found = same_Some row found (sym (put (node, way) ∙ ap (λ (b : Bool). cond b (Some row) (get pair_eq rows (node, way))) e) ∙ at) in
+        let keys : key ≡ (node, way) = pair-same key (node, way) e in
+        ap (λ (r : Vec ℕ Global). r.items) (sym same) ∙ its ∙ ap (λ (k : ℤ × ℤ). open_exits rules k.0 k.1 (leaving_at runs k.0)) keys
+    by false e = h node way found (sym (put (node, way) ∙ ap (λ (b : Bool). cond b (Some row) (get pair_eq rows (node, way))) e) ∙ at)

@@ -9,6 +9,8 @@ pub mod Located
 pub mod Fans
 pub mod Chains
 pub mod Restrictions
-pub mod RuleChains
+pub mod Decisions
+pub mod Leaving
+pub mod RestrictionParts
 pub mod Spots
 pub mod TurnParts

@@ -4,7 +4,9 @@
 #![tactic(auto)]
 
 mod build_faults;
+mod decisions;
 mod fans;
+mod leaving;
 mod networks;
 mod restrictions;
 mod roads;

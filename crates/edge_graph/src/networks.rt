@@ -2,7 +2,8 @@
 
 ghost use Rattle.std.specs.Prelude.{◌≡◌, ◌*◌, ◌/◌, ◌^◌, ◌<◌, ◌≤◌, IfOk, IfErr, OnOk, Some, All, length, option_map};
 ghost use Rattle.std.specs.List.{slice_get};
-ghost use Rattle.edge_graph.specs.BuildCause.{IsBuildFault, IsTurnsFault, IsWithinLimits};
+ghost use Rattle.edge_graph.specs.BuildCause.{IsBuildFault, IsWithinLimits};
+ghost use Rattle.edge_graph.specs.Leaving.{AreLeaving};
 ghost use Rattle.edge_graph.specs.NetworkView.{graph_of, network_of, vertices_of};
 ghost use Rattle.edge_graph.specs.Restrictions.{applied_rules};
 ghost use Rattle.edge_graph.specs.Turn.{exits, turns};
@@ -12,18 +13,20 @@ ghost use Rattle.edge_graph.specs.Segment.{segments};
 ghost use Rattle.edge_graph.specs.Fans.{AreExits, AreFans};
 ghost use Rattle.geo_integer.specs.Position.{position_of};
 ghost use Rattle.geo_integer.specs.Project.{position_at};
+ghost use Rattle.search_graph.specs.Faults.{AllInRange};
 ghost use Rattle.way_profile.specs.Vehicle.{IsSpeed};
 
 use crate::build_faults::BuildFault;
-use crate::fans::{Fans, fans_of};
+use crate::fans::fans_of;
+use crate::leaving::Leaving;
 use crate::restrictions::Restrictions;
 use crate::roads::Roads;
 use crate::routes::{routes_of, segment_count};
 use crate::spots::spots_of;
-use crate::turn_lists::{exit_counts, turn_list, turn_total};
+use crate::turn_lists::{Exits, exit_counts, turn_list};
 use geo_integer::point_at;
 use road_base::{Object, Place, Point};
-use search_graph::Graph;
+use search_graph::{Graph, GraphFault};
 use std::alloc::{AllocError, Global};
 use std::marker::Model;
 use turn_rules::{Rules, rules};
@@ -42,6 +45,7 @@ pub struct Network {
 }
 
 impl Model for Network {
+    ghost use Rattle.edge_graph.specs.Leaving.{AreLeaving};
     ghost use Rattle.edge_graph.specs.NetworkView.{NetworkView};
 
     ghost Value = { NetworkView };
@@ -82,43 +86,31 @@ fn restrictions_of(
     Restrictions::of(alloc, stated, roads)
 }
 
-/// The exits of the vertices, and the turns.
-#[derive(Drop)]
-struct TurnTable {
-    exits: Vec<u32>,
-    list: Vec<(u32, u32)>,
-}
-
-// The exits and the turns of these roads.
-fn turns_of(
-    alloc: Global,
-    roads: &Roads,
-    restrictions: Restrictions,
-) -> Result<TurnTable, BuildFault>
-    ensures exits { IfOk result (λ t. AreExits (vertices roads.now) t.exits.items) }
-    ensures list { IfOk result (λ t. t.list.items ≡ turns (vertices roads.now) restrictions.kept) }
-    ensures few { OnOk result (length (turns (vertices roads.now) restrictions.kept) ≤ 2 ^ 26) }
-    ensures err { IfErr result (IsTurnsFault (length (turns (vertices roads.now) restrictions.kept))) }
+// What leaves the nodes of these roads.
+fn exits_of(alloc: Global, roads: &Roads, restrictions: &Restrictions) -> Result<Exits, AllocError>
+    ensures fans { IfOk result (λ e. AreFans (vertices roads.now) 0 e.fans.next.items e.fans.by_node) }
+    ensures counts { IfOk result (λ e. AreExits (vertices roads.now) e.counts.items) }
+    ensures leaving { IfOk result (λ e. AreLeaving (vertices roads.now) restrictions.now.kept e.leaving.runs e.leaving.groups) }
 {
     let fans = fans_of(alloc, roads)?;
-    let exits = exit_counts(alloc, roads, &fans)?;
-    let Some(total) = turn_total(roads, &fans, &restrictions, &exits) else {
-        return Err(BuildFault::TooManyTurns);
-    };
-    let list = turn_list(alloc, roads, &fans, &restrictions, &exits, total)?;
-    Ok(TurnTable { exits, list })
+    let counts = exit_counts(alloc, roads, &fans)?;
+    let leaving = Leaving::of(alloc, roads, restrictions)?;
+    Ok(Exits {
+        counts,
+        fans,
+        leaving,
+    })
 }
 
-// The graph of the turns. Each turn is from a vertex to a vertex, so nothing but memory can be wanting.
-fn turn_graph(alloc: Global, roads: &Roads, list: &[(u32, u32)]) -> Result<Graph, AllocError>
+// The graph of the turns. Each is from a vertex to a vertex, so nothing but memory can be wanting.
+fn turn_graph(alloc: Global, roads: &Roads, list: &[(u32, u32)]) -> Result<Graph, GraphFault>
     requires few { length list.now ≤ 2 ^ 26 }
+    requires in_range { AllInRange (2 * length roads.now) list.now }
     ensures vertices { IfOk result (λ graph. graph.vertices ≡ 2 * length roads.now) }
     ensures arcs { IfOk result (λ graph. graph.arcs ≡ list.now) }
+    ensures err { IfErr result (λ fault. fault ≡ GraphFault.Memory) }
 {
-    match Graph::of(alloc, 2 * roads.len(), list) {
-        Ok(graph) => Ok(graph),
-        Err(_) => Err(AllocError),
-    }
+    Graph::of(alloc, 2 * roads.len(), list)
 }
 
 impl Network {
@@ -138,12 +130,15 @@ impl Network {
         let roads = roads_of(alloc, objects, profile)?;
         let restrictions = restrictions_of(alloc, objects, profile, &roads)?;
         let (applied, ignored) = (restrictions.applied(), restrictions.ignored());
-        let turns = turns_of(alloc, &roads, restrictions)?;
-        let graph = turn_graph(alloc, &roads, &turns.list)?;
+        let exits = exits_of(alloc, &roads, &restrictions)?;
+        let turns = turn_list(alloc, &roads, &exits, &restrictions)?;
+        let Ok(graph) = turn_graph(alloc, &roads, &turns) else {
+            return Err(BuildFault::Memory);
+        };
         let profile = profile.try_clone(alloc)?;
         Ok(Network {
             roads,
-            exits: turns.exits,
+            exits: exits.counts,
             graph,
             profile,
             applied,

@@ -1,34 +1,29 @@
 //! The turn restrictions that apply in a network, by the nodes at which they forbid turns.
 
-ghost use Rattle.std.specs.Prelude.{◌≡◌, ℤ, not, ◌&&◌, ◌+◌, ◌*◌, ◌^◌, ◌<◌, ◌≤◌, ◌↔◌, IfOk, IsTrue, length, map, count_by};
+ghost use Rattle.std.specs.Prelude.{◌≡◌, ℤ, false, not, ◌&&◌, ◌+◌, ◌*◌, ◌^◌, ◌<◌, ◌≤◌, ◌↔◌, IfOk, IsTrue, length, map, count_by};
 ghost use Rattle.std.specs.HashSet.{contains};
-ghost use Rattle.std.specs.List.{list_all, list_any};
+ghost use Rattle.std.specs.List.{items_where_true, list_all};
 ghost use Rattle.std.specs.Ordering.{int_eq};
 ghost use Rattle.turn_rules.specs.Rules.{forbids};
 ghost use Rattle.edge_graph.specs.Restrictions.{applies, applied_rules, is_forbidden_at};
-ghost use Rattle.edge_graph.specs.RuleChains.{AreMet, AreRuleChains, first_in, has_via, pair_eq};
+ghost use Rattle.edge_graph.specs.RestrictionParts.{AreMet, has_via, pair_eq};
+ghost use Rattle.edge_graph.specs.Decisions.{MatchOnto};
 
+use crate::decisions::{Decisions, Onto};
 use crate::roads::Roads;
 use std::alloc::{AllocError, Global};
-use std::collections::{HashMap, HashSet};
+use std::collections::HashSet;
 use std::marker::Model;
 use turn_rules::Rules;
 
-/// For each node the first rule that applies there, and for each such rule the next one at the same node,
-/// in ascending order, or the number of all rules behind the last.
-#[derive(Drop)]
-pub struct RuleChains {
-    pub next: Vec<u64>,
-    pub first: HashMap<i64, u64>,
-}
-
-/// The turn restrictions that apply in a network: a byte and 8 bytes for each restriction of the map
-/// beside the restriction itself. Contracts see the rules that apply, and how many others are ignored.
+/// The turn restrictions that apply in a network: an entry or two for each of their ways beside the
+/// restrictions of the map. Contracts see the rules that apply, and how many others are ignored.
 #[derive(Drop)]
 pub struct Restrictions {
     rules: Rules,
     applies: Vec<bool>,
-    chains: RuleChains,
+    nodes: HashSet<i64>,
+    decisions: Decisions,
     ignored: u64,
 }
 
@@ -38,11 +33,11 @@ impl Model for Restrictions {
     ghost Value = { RulesView };
 
     ghost use Rattle.std.specs.List.{items_where_true};
-    ghost use Rattle.edge_graph.specs.RuleChains.{AreRuleChains};
+    ghost use Rattle.edge_graph.specs.Decisions.{AreRestrictionParts};
 
     ghost view = { λ r. record { kept = items_where_true r.applies.items r.rules.kept; ignored = r.ignored } };
 
-    ghost invariant = { λ r. AreRuleChains r.rules.kept r.applies.items r.chains.next.items r.chains.first };
+    ghost invariant = { λ r. AreRestrictionParts r.rules.kept r.applies.items r.nodes r.decisions.forbidden r.decisions.no_u_turn r.decisions.only };
 }
 
 // The nodes at which the rules forbid turns.
@@ -116,32 +111,18 @@ fn count_unmet(flags: &[bool]) -> u64
     count
 }
 
-// The first rule at a node, or `none` where there is none.
-fn first_at(first: &HashMap<i64, u64>, node: i64, none: u64) -> u64
-    ensures { result ≡ first_in first.now none node }
+// The nodes at which the restrictions that apply forbid turns.
+fn nodes_of(alloc: Global, rules: &Rules, applies: &[bool]) -> Result<HashSet<i64>, AllocError>
+    requires { length applies.now ≡ length rules.now.kept }
+    ensures { IfOk result (λ nodes. (node : ℤ) → contains int_eq nodes node ≡ has_via (items_where_true applies.now rules.now.kept) node) }
 {
-    match first.get(&node) {
-        Some(rule) => *rule,
-        None => none,
-    }
-}
-
-// The chains of the rules that apply.
-fn chains_of(alloc: Global, rules: &Rules, flags: &[bool]) -> Result<RuleChains, AllocError>
-    requires { length flags.now ≡ length rules.now.kept }
-    ensures { IfOk result (λ chains. AreRuleChains rules.now.kept flags.now chains.next.items chains.first) }
-{
-    let none = rules.count();
-    let mut next = vec![in alloc; none; none as usize]?;
-    let mut first = HashMap::new(alloc);
-    for i in (0..none).rev() {
-        if flags[i as usize] {
-            let node = rules.via(i);
-            next[i as usize] = first_at(&first, node, none);
-            first.insert(node, i)?;
+    let mut nodes = HashSet::new(alloc);
+    for i in (0..rules.count()).rev() {
+        if applies[i as usize] {
+            nodes.insert(rules.via(i))?;
         }
     }
-    Ok(RuleChains { next, first })
+    Ok(nodes)
 }
 
 impl Restrictions {
@@ -151,12 +132,14 @@ impl Restrictions {
         ensures { IfOk result (λ r. r ≡ applied_rules roads.now rules) }
     {
         let applies = flags_of(alloc, &rules, roads)?;
-        let chains = chains_of(alloc, &rules, &applies)?;
+        let nodes = nodes_of(alloc, &rules, &applies)?;
+        let decisions = Decisions::of(alloc, &rules, &applies)?;
         let ignored = rules.ignored() + count_unmet(&applies);
         Ok(Restrictions {
             rules,
             applies,
-            chains,
+            nodes,
+            decisions,
             ignored,
         })
     }
@@ -176,26 +159,24 @@ impl Restrictions {
     }
 
     /// Whether a restriction applies at a node.
-    pub fn are_at(&self, node: i64) -> bool
-        ensures { result ≡ list_any (λ rule. int_eq rule.via node) self.now.kept }
+    pub fn any_at(&self, node: i64) -> bool
+        ensures { result ≡ has_via self.now.kept node }
     {
-        let none = self.rules.count();
-        first_at(&self.chains.first, node, none) < none
+        self.nodes.contains(&node)
     }
 
     /// Whether a restriction forbids the turn at a node from a way onto a way; `back` says that the turn
     /// goes back onto its own segment.
-    pub fn forbid(&self, node: i64, from: i64, to: i64, back: bool) -> bool
+    pub fn forbid_turn(&self, node: i64, from: i64, to: i64, back: bool) -> bool
         ensures { result ≡ is_forbidden_at self.now.kept node from to back }
     {
-        let none = self.rules.count();
-        let mut i = first_at(&self.chains.first, node, none);
-        while i < none {
-            if self.rules.forbids(i, from, to, back) {
-                return true;
-            }
-            i = self.chains.next[i as usize];
-        }
-        false
+        self.decisions.forbid(node, from, to, back)
+    }
+
+    /// Onto which ways a restriction allows to turn at a node from a way.
+    pub fn onto(&self, node: i64, from: i64) -> Onto
+        ensures { MatchOnto (λ to. is_forbidden_at self.now.kept node from to false) result }
+    {
+        self.decisions.onto(node, from)
     }
 }

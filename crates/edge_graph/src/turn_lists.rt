@@ -1,19 +1,32 @@
 //! The exits of each vertex, and the list of all turns.
 
-ghost use Rattle.std.specs.Prelude.{◌≡◌, ◌*◌, ◌^◌, ◌<◌, ◌++◌, IfOk, OnOk, length};
-ghost use Rattle.edge_graph.specs.BuildCause.{CountsUpTo};
+ghost use Rattle.std.specs.Prelude.{◌≡◌, ◌==◌, not, ◌*◌, ◌^◌, ◌<◌, ◌≤◌, ◌++◌, IfErr, IfOk, OnOk, length};
+ghost use Rattle.edge_graph.specs.BuildCause.{IsTurnsFault};
 ghost use Rattle.edge_graph.specs.Fans.{AreExits, AreFans, turns_at};
+ghost use Rattle.edge_graph.specs.Leaving.{AreGroups, AreLeaving, leaving_at, open_exits};
 ghost use Rattle.edge_graph.specs.Turn.{exits, turns};
-ghost use Rattle.edge_graph.specs.TurnParts.{is_ruled, may_turn_back, may_turn_on, must_turn_back, turns_on};
+ghost use Rattle.edge_graph.specs.TurnParts.{AreOpenRows, may_turn_back, must_turn_back, turns_on, turns_onto, turns_onto_all};
 ghost use Rattle.edge_graph.specs.Vertex.{opposite, vertices};
 
+use crate::build_faults::BuildFault;
 use crate::fans::{Fans, fan_at};
+use crate::leaving::Leaving;
 use crate::restrictions::Restrictions;
 use crate::roads::Roads;
 use std::alloc::{AllocError, Global};
+use std::collections::HashMap;
 
 /// The most turns that a network may have.
-pub const MOST_TURNS: u64 = 67_108_864;
+pub const MOST_TURNS: usize = 67_108_864;
+
+/// What leaves the nodes of a network: how many exits each vertex has, the vertices at each node, and those
+/// at the nodes where restrictions apply by their ways.
+#[derive(Drop)]
+pub struct Exits {
+    pub counts: Vec<u32>,
+    pub fans: Fans,
+    pub leaving: Leaving,
+}
 
 // The other direction of a vertex's segment.
 fn other_way(v: u32) -> u32
@@ -65,117 +78,34 @@ fn may_turn_back(roads: &Roads, restrictions: &Restrictions, v: u32) -> bool
 {
     if roads.permitted(other_way(v)) {
         let way = roads.way(v);
-        !restrictions.forbid(roads.head(v), way, way, true)
+        !restrictions.forbid_turn(roads.head(v), way, way, true)
     } else {
         false
     }
 }
 
-// Whether restrictions apply at the end of a vertex.
-fn is_ruled(roads: &Roads, restrictions: &Restrictions, v: u32) -> bool
-    requires { v < 2 * length roads.now }
-    ensures { result ≡ is_ruled (vertices roads.now) restrictions.now.kept v }
+// Whether a vertex is not the other direction of another's segment.
+fn is_other(e: u32, v: u32) -> bool
+    ensures { result ≡ not (e == opposite v) }
 {
-    restrictions.are_at(roads.head(v))
+    e != other_way(v)
 }
 
-// Whether a vertex that leaves the end of another may follow it where the vehicle can go on.
-fn may_turn_on(roads: &Roads, restrictions: &Restrictions, ruled: bool, v: u32, e: u32) -> bool
-    requires vertex { v < 2 * length roads.now }
-    requires next { e < 2 * length roads.now }
-    requires ruled { ruled ≡ is_ruled (vertices roads.now) restrictions.now.kept v }
-    ensures { result ≡ may_turn_on (vertices roads.now) restrictions.now.kept v e }
-{
-    if e == other_way(v) {
-        return false;
-    }
-    if !ruled {
-        return true;
-    }
-    !restrictions.forbid(roads.head(v), roads.way(v), roads.way(e), false)
-}
-
-// How many turns go on from a vertex.
-fn count_on(roads: &Roads, fans: &Fans, restrictions: &Restrictions, v: u32) -> u32
-    requires vertex { v < 2 * length roads.now }
-    requires fans { AreFans (vertices roads.now) 0 fans.now.next.items fans.now.by_node }
-    ensures { result ≡ length (turns_on (vertices roads.now) restrictions.now.kept v) }
-{
-    let none = 2 * roads.len();
-    let ruled = is_ruled(roads, restrictions, v);
-    let mut count = 0;
-    let mut e = fan_at(&fans.by_node, roads.head(v), none).first;
-    while e < none {
-        if may_turn_on(roads, restrictions, ruled, v, e) {
-            count += 1;
-        }
-        e = fans.next[e as usize];
-    }
-    count
-}
-
-// How many turns leave a vertex of so many exits.
-fn turn_count(
-    roads: &Roads,
-    fans: &Fans,
-    restrictions: &Restrictions,
-    v: u32,
-    exit_count: u32,
-) -> u32
-    requires vertex { v < 2 * length roads.now }
-    requires fans { AreFans (vertices roads.now) 0 fans.now.next.items fans.now.by_node }
-    requires exits { exit_count ≡ exits (vertices roads.now) v }
-    ensures { result ≡ length (turns_at (vertices roads.now) restrictions.now.kept v) }
-{
-    if !roads.permitted(v) {
-        0
-    } else if must_turn_back(roads, v, exit_count) {
-        u32::from(may_turn_back(roads, restrictions, v))
-    } else if is_ruled(roads, restrictions, v) {
-        count_on(roads, fans, restrictions, v)
-    } else {
-        exit_count
-    }
-}
-
-/// How many turns there are, or None where they are more than a network may have.
-pub fn turn_total(
-    roads: &Roads,
-    fans: &Fans,
-    restrictions: &Restrictions,
-    counts: &[u32],
-) -> Option<u64>
-    requires fans { AreFans (vertices roads.now) 0 fans.now.next.items fans.now.by_node }
-    requires counts { AreExits (vertices roads.now) counts.now }
-    ensures { CountsUpTo (length (turns (vertices roads.now) restrictions.now.kept)) (2 ^ 26) result }
-{
-    let mut total = 0u64;
-    for v in 0..2 * roads.len() {
-        total += u64::from(turn_count(roads, fans, restrictions, v, counts[v as usize]));
-        if total > MOST_TURNS {
-            return None;
-        }
-    }
-    Some(total)
-}
-
-// Adds the turns that go on from a vertex.
-fn push_on(
+// Adds the turns from a vertex onto all others that leave its end.
+fn push_all(
     turns: &mut Vec<(u32, u32)>,
     roads: &Roads,
     fans: &Fans,
-    restrictions: &Restrictions,
     v: u32,
 ) -> Result<(), AllocError>
     requires vertex { v < 2 * length roads.now }
     requires fans { AreFans (vertices roads.now) 0 fans.now.next.items fans.now.by_node }
-    ensures { OnOk result (turns.new.items ≡ turns.old.items ++ turns_on (vertices roads.now) restrictions.now.kept v) }
+    ensures { OnOk result (turns.new.items ≡ turns.old.items ++ turns_onto_all (vertices roads.now) v) }
 {
     let none = 2 * roads.len();
-    let ruled = is_ruled(roads, restrictions, v);
     let mut e = fan_at(&fans.by_node, roads.head(v), none).first;
     while e < none {
-        if may_turn_on(roads, restrictions, ruled, v, e) {
+        if is_other(e, v) {
             turns.push((v, e))?;
         }
         e = fans.next[e as usize];
@@ -183,25 +113,92 @@ fn push_on(
     Ok(())
 }
 
-// Adds the turns from a vertex of so many exits.
-fn push_turns(
+// Adds the turns from a vertex onto others among these.
+fn push_row(turns: &mut Vec<(u32, u32)>, row: &[u32], v: u32) -> Result<(), AllocError>
+    ensures { OnOk result (turns.new.items ≡ turns.old.items ++ turns_onto v row.now) }
+{
+    for e in row {
+        if is_other(*e, v) {
+            turns.push((v, *e))?;
+        }
+    }
+    Ok(())
+}
+
+// Adds the turns from a vertex that ends at this node, of this way, onto others, where restrictions apply.
+// What is open there from the way is found once.
+fn push_open(
     turns: &mut Vec<(u32, u32)>,
+    rows: &mut HashMap<(i64, i64), Vec<u32>>,
+    alloc: Global,
+    leaving: &Leaving,
+    restrictions: &Restrictions,
+    end: (i64, i64),
+    v: u32,
+) -> Result<(), AllocError>
+    requires groups { AreGroups leaving.now.runs leaving.now.groups }
+    requires rows { AreOpenRows restrictions.now.kept leaving.now.runs rows.old }
+    ensures turns { OnOk result (turns.new.items ≡ turns.old.items ++ turns_onto v (open_exits restrictions.now.kept end.0 end.1 (leaving_at leaving.now.runs end.0))) }
+    ensures rows { OnOk result (AreOpenRows restrictions.now.kept leaving.now.runs rows.new) }
+{
+    if let Some(row) = rows.get(&end) {
+        return push_row(turns, row, v);
+    }
+    let row = leaving.open(alloc, restrictions, end.0, end.1)?;
+    push_row(turns, &row, v)?;
+    rows.insert(end, row)?;
+    Ok(())
+}
+
+// Adds the turns that go on from a vertex.
+fn push_on(
+    turns: &mut Vec<(u32, u32)>,
+    rows: &mut HashMap<(i64, i64), Vec<u32>>,
+    alloc: Global,
     roads: &Roads,
-    fans: &Fans,
+    exits: &Exits,
     restrictions: &Restrictions,
     v: u32,
-    exit_count: u32,
 ) -> Result<(), AllocError>
     requires vertex { v < 2 * length roads.now }
-    requires fans { AreFans (vertices roads.now) 0 fans.now.next.items fans.now.by_node }
-    requires exits { exit_count ≡ exits (vertices roads.now) v }
-    ensures { OnOk result (turns.new.items ≡ turns.old.items ++ turns_at (vertices roads.now) restrictions.now.kept v) }
+    requires fans { AreFans (vertices roads.now) 0 exits.now.fans.next.items exits.now.fans.by_node }
+    requires leaving { AreLeaving (vertices roads.now) restrictions.now.kept exits.now.leaving.runs exits.now.leaving.groups }
+    requires rows { AreOpenRows restrictions.now.kept exits.now.leaving.runs rows.old }
+    ensures turns { OnOk result (turns.new.items ≡ turns.old.items ++ turns_on (vertices roads.now) restrictions.now.kept v) }
+    ensures rows { OnOk result (AreOpenRows restrictions.now.kept exits.now.leaving.runs rows.new) }
+{
+    let node = roads.head(v);
+    if restrictions.any_at(node) {
+        let end = (node, roads.way(v));
+        push_open(turns, rows, alloc, &exits.leaving, restrictions, end, v)
+    } else {
+        push_all(turns, roads, &exits.fans, v)
+    }
+}
+
+// Adds the turns from a vertex.
+fn push_turns(
+    turns: &mut Vec<(u32, u32)>,
+    rows: &mut HashMap<(i64, i64), Vec<u32>>,
+    alloc: Global,
+    roads: &Roads,
+    exits: &Exits,
+    restrictions: &Restrictions,
+    v: u32,
+) -> Result<(), AllocError>
+    requires vertex { v < 2 * length roads.now }
+    requires fans { AreFans (vertices roads.now) 0 exits.now.fans.next.items exits.now.fans.by_node }
+    requires counts { AreExits (vertices roads.now) exits.now.counts.items }
+    requires leaving { AreLeaving (vertices roads.now) restrictions.now.kept exits.now.leaving.runs exits.now.leaving.groups }
+    requires rows { AreOpenRows restrictions.now.kept exits.now.leaving.runs rows.old }
+    ensures turns { OnOk result (turns.new.items ≡ turns.old.items ++ turns_at (vertices roads.now) restrictions.now.kept v) }
+    ensures rows { OnOk result (AreOpenRows restrictions.now.kept exits.now.leaving.runs rows.new) }
 {
     if !roads.permitted(v) {
         return Ok(());
     }
-    if !must_turn_back(roads, v, exit_count) {
-        return push_on(turns, roads, fans, restrictions, v);
+    if !must_turn_back(roads, v, exits.counts[v as usize]) {
+        return push_on(turns, rows, alloc, roads, exits, restrictions, v);
     }
     if may_turn_back(roads, restrictions, v) {
         turns.push((v, other_way(v)))?;
@@ -209,22 +206,43 @@ fn push_turns(
     Ok(())
 }
 
-/// All turns, of which there are so many, by the vertex that they leave and then by the one that they enter.
+// How many turns there are if no restriction applies, or the most that a network may have.
+fn room_for(roads: &Roads, counts: &[u32]) -> usize
+    requires { length counts.now ≡ 2 * length roads.now }
+{
+    let mut room = 0;
+    for v in 0..2 * roads.len() {
+        if roads.permitted(v) {
+            room += (counts[v as usize] as usize).max(1);
+        }
+        room = room.min(MOST_TURNS);
+    }
+    room
+}
+
+/// All turns, by the vertex that they leave and then by the one that they enter. They are refused where
+/// they are more than a network may have. Looking for them takes time by the segments, the members of the
+/// restrictions and the turns that are found.
 pub fn turn_list(
     alloc: Global,
     roads: &Roads,
-    fans: &Fans,
+    exits: &Exits,
     restrictions: &Restrictions,
-    counts: &[u32],
-    total: u64,
-) -> Result<Vec<(u32, u32)>, AllocError>
-    requires fans { AreFans (vertices roads.now) 0 fans.now.next.items fans.now.by_node }
-    requires counts { AreExits (vertices roads.now) counts.now }
-    ensures { IfOk result (λ list. list.items ≡ turns (vertices roads.now) restrictions.now.kept) }
+) -> Result<Vec<(u32, u32)>, BuildFault>
+    requires fans { AreFans (vertices roads.now) 0 exits.now.fans.next.items exits.now.fans.by_node }
+    requires counts { AreExits (vertices roads.now) exits.now.counts.items }
+    requires leaving { AreLeaving (vertices roads.now) restrictions.now.kept exits.now.leaving.runs exits.now.leaving.groups }
+    ensures list { IfOk result (λ list. list.items ≡ turns (vertices roads.now) restrictions.now.kept) }
+    ensures few { OnOk result (length (turns (vertices roads.now) restrictions.now.kept) ≤ 2 ^ 26) }
+    ensures err { IfErr result (IsTurnsFault (length (turns (vertices roads.now) restrictions.now.kept))) }
 {
-    let mut list = Vec::with_capacity(alloc, total as usize)?;
+    let mut list = Vec::with_capacity(alloc, room_for(roads, &exits.counts))?;
+    let mut rows = HashMap::new(alloc);
     for v in 0..2 * roads.len() {
-        push_turns(&mut list, roads, fans, restrictions, v, counts[v as usize])?;
+        push_turns(&mut list, &mut rows, alloc, roads, exits, restrictions, v)?;
+        if list.len() > MOST_TURNS {
+            return Err(BuildFault::TooManyTurns);
+        }
     }
     Ok(list)
 }

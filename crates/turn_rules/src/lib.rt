@@ -11,6 +11,7 @@ mod senses;
 
 pub use map_rules::rules;
 pub use rule_lists::Rules;
+pub use senses::Sense;
 
 #[cfg(test)]
 mod tests;

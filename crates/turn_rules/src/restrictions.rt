@@ -101,6 +101,27 @@ impl Restriction {
         self.ways.as_slice()
     }
 
+    /// The ids of its `from` ways.
+    pub fn from(&self) -> &[i64]
+        ensures { result.now ≡ self.now.from }
+    {
+        &self.ways.as_slice()[..self.entries]
+    }
+
+    /// The ids of its `to` ways.
+    pub fn to(&self) -> &[i64]
+        ensures { result.now ≡ self.now.to }
+    {
+        &self.ways.as_slice()[self.entries..]
+    }
+
+    /// What it does with the turns from its `from` ways.
+    pub fn sense(&self) -> Sense
+        ensures { result ≡ self.now.sense }
+    {
+        self.sense
+    }
+
     /// Whether it forbids the turn at its `via` node from a way to a way; `back` says that the turn goes
     /// back onto its own segment.
     pub fn forbids(&self, from: i64, to: i64, back: bool) -> bool

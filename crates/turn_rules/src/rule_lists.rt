@@ -5,6 +5,7 @@ ghost use Rattle.std.specs.List.{slice_get};
 ghost use Rattle.turn_rules.specs.Rules.{forbids};
 
 use crate::restrictions::Restriction;
+use crate::senses::Sense;
 use std::marker::Model;
 
 /// The turn restrictions of a map that one vehicle has to obey, and how many others are ignored. Contracts
@@ -52,6 +53,30 @@ impl Rules {
         ensures { option_map (λ rule. rule.from ++ rule.to) (slice_get self.now.kept i) ≡ Some result.now }
     {
         self.kept[i as usize].ways()
+    }
+
+    /// The ids of the ways of restriction `i` in the role `from`.
+    pub fn from(&self, i: u64) -> &[i64]
+        requires { i < length self.now.kept }
+        ensures { option_map (λ rule. rule.from) (slice_get self.now.kept i) ≡ Some result.now }
+    {
+        self.kept[i as usize].from()
+    }
+
+    /// The ids of the ways of restriction `i` in the role `to`.
+    pub fn to(&self, i: u64) -> &[i64]
+        requires { i < length self.now.kept }
+        ensures { option_map (λ rule. rule.to) (slice_get self.now.kept i) ≡ Some result.now }
+    {
+        self.kept[i as usize].to()
+    }
+
+    /// What restriction `i` does with the turns from its `from` ways.
+    pub fn sense(&self, i: u64) -> Sense
+        requires { i < length self.now.kept }
+        ensures { option_map (λ rule. rule.sense) (slice_get self.now.kept i) ≡ Some result }
+    {
+        self.kept[i as usize].sense()
     }
 
     /// Whether restriction `i` forbids the turn at its node from a way to a way; `back` says that the turn

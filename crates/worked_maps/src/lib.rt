@@ -5,6 +5,8 @@
 #[cfg(test)]
 mod geometry;
 #[cfg(test)]
+mod hard_maps;
+#[cfg(test)]
 mod metrics;
 #[cfg(test)]
 mod networks;

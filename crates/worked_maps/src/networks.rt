@@ -7,7 +7,7 @@ use edge_graph::{BuildFault, Network};
 use road_base::Object;
 use std::alloc::{AllocError, Global};
 
-const CAR: &str =
+pub const CAR: &str =
     "name = \"car\"\nvehicle = \"motorcar\"\nbarriers = [\"bollard\"]\nu_turn_penalty = 200\n[speeds]\nresidential = 40\n";
 
 // All turns of the crossing where nothing forbids any.

@@ -1,7 +1,7 @@
 use Rattle.std.proofs.Common.{◌≡◌, drop}
 use Rattle.std.specs.HashSet.{contains}
 use Rattle.std.specs.List.{list_all}
-use Rattle.edge_graph.specs.RuleChains.{pair_eq}
+use Rattle.edge_graph.specs.RestrictionParts.{pair_eq}
 use Rattle.edge_graph.proofs.restrictions.all_meet.Given as goal
 
 -- the ways so far meet the node

@@ -2,7 +2,7 @@ use Rattle.std.proofs.Common.{◌≡◌, ℕ, ◌+◌, ◌-◌, arith, rules, dr
 use Rattle.std.specs.HashSet.{contains}
 use Rattle.std.specs.Ordering.{int_eq}
 use Rattle.std.proofs.lemmas.Int.{to_z-of_z}
-use Rattle.edge_graph.specs.RuleChains.{has_via}
+use Rattle.edge_graph.specs.RestrictionParts.{has_via}
 use Rattle.edge_graph.proofs.RuleLemmas.{via-step}
 use Rattle.edge_graph.proofs.restrictions.via_nodes.Goals as goal
 

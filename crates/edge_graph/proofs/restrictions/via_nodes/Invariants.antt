@@ -1,7 +1,7 @@
 use Rattle.std.proofs.Common.{◌≡◌, ℤ, drop}
 use Rattle.std.specs.HashSet.{contains}
 use Rattle.std.specs.Ordering.{int_eq}
-use Rattle.edge_graph.specs.RuleChains.{has_via}
+use Rattle.edge_graph.specs.RestrictionParts.{has_via}
 use Rattle.edge_graph.proofs.restrictions.via_nodes.Given as goal
 
 -- the nodes of the rules from number i on are in the set

@@ -5,7 +5,7 @@ use Rattle.std.specs.Ordering.{int_eq}
 use Rattle.std.proofs.Math.ListN.{drop_of_length-le}
 use Rattle.std.proofs.lemmas.Int.{to_z-of_z}
 use Rattle.list_lemmas.proofs.Gets.{get_some}
-use Rattle.edge_graph.specs.RuleChains.{pair_eq}
+use Rattle.edge_graph.specs.RestrictionParts.{pair_eq}
 use Rattle.edge_graph.specs.Vertex.{Vertex, vertices}
 use Rattle.edge_graph.proofs.FanLemmas.{field-at}
 use Rattle.edge_graph.proofs.RuleLemmas.{HaveMet, begins, begins-vertices, met-add, met-skip}

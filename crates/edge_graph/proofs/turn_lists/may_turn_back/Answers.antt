@@ -34,8 +34,8 @@ returns-then-permitted c =
     let way = field-at (λ z. z.way) vs c.args.v w.0 c.way-way.result w.2 c.way-way.ensures in
     let fits_head : FitsSigned w64 c.head.result = search rules in
     let fits_way : FitsSigned w64 c.way-way.result = search rules in
-    let says : c.forbid.result ≡ is_forbidden_at kept c.head.result c.way-way.result c.way-way.result true = simp to_z-of_z at c.forbid.ensures in
-    let found : c.forbid.result ≡ is_forbidden_at kept w.0.head w.0.way w.1.way true =
+    let says : c.forbid_turn.result ≡ is_forbidden_at kept c.head.result c.way-way.result c.way-way.result true = simp to_z-of_z at c.forbid_turn.ensures in
+    let found : c.forbid_turn.result ≡ is_forbidden_at kept w.0.head w.0.way w.1.way true =
     says
     ∙ ap (λ (n : ℤ). is_forbidden_at kept n c.way-way.result c.way-way.result true) (sym head)
     ∙ ap (λ (n : ℤ). is_forbidden_at kept w.0.head n n true) (sym way)

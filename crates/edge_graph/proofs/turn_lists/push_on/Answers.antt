@@ -1,64 +1,48 @@
-use Rattle.std.proofs.Common.{◌≡◌, ℕ, ℤ, ◌*◌, ◌<◌, ◌++◌, List, Some, length, arith, rules, refl, sym, ap, subst, ◌∙◌, w64, FitsSigned}
-use Rattle.std.specs.List.{slice_get}
+use Rattle.std.proofs.Common.{◌≡◌, ℕ, ℤ, List, ◌++◌, true, false, map, sym, ap, ◌∙◌, rules, w64, FitsSigned, to_z, of_z}
 use Rattle.std.proofs.lemmas.Int.{to_z-of_z}
-use Rattle.std.proofs.lemmas.List.{append-nil}
-use Rattle.list_lemmas.proofs.Gets.{get_is}
-use Rattle.edge_graph.specs.Chains.{IsChain}
-use Rattle.edge_graph.specs.Fans.{fan_in, leavers}
-use Rattle.edge_graph.specs.Vertex.{vertices}
-use Rattle.edge_graph.specs.declared.fans.Fan.{Fan}
+use Rattle.std.proofs.lemmas.Result.{on_ok_weaker}
+use Rattle.edge_graph.specs.Fans.{leavers}
+use Rattle.edge_graph.specs.Leaving.{leaving_at, open_exits}
+use Rattle.edge_graph.specs.RestrictionParts.{has_via}
+use Rattle.edge_graph.specs.TurnParts.{turns_onto}
+use Rattle.edge_graph.specs.Vertex.{Vertex, vertices}
 use Rattle.edge_graph.proofs.FanLemmas.{field-at}
-use Rattle.edge_graph.proofs.TurnLemmas.{IsLeft-ahead, IsLeft-done, IsLeft-next, both-ways, turns_on-at}
-use Rattle.edge_graph.proofs.VertexLemmas.{length-vertices}
-use Rattle.edge_graph.proofs.turn_lists.push_on.Goals.{then-may_turn_on+in_ok-push, else-may_turn_on}
+use Rattle.edge_graph.proofs.TurnLemmas.{both-ways, turns_on-all, turns_on-open}
 use Rattle.edge_graph.proofs.turn_lists.push_on.Goals as goal
 
-pub loop-e-init : goal.loop-e-init
-loop-e-init c =
+pub returns-then-any_at-clause-turns : goal.returns-then-any_at-clause-turns
+returns-then-any_at-clause-turns c =
     let vs = vertices c.args.roads.now in
+    let v = c.args.v in
     let kept = c.args.restrictions.now.kept in
-    let w = both-ways c.args.roads.now c.args.v c.requires.vertex in
-    let all : 2 * c.len-none.result ≡ length vs = omega (arith, length-vertices c.args.roads.now, c.len-none.ensures.value) in
-    let head = field-at (λ z. z.head) vs c.args.v w.0 c.head.result w.2 c.head.ensures in
-    let fits : FitsSigned w64 c.head.result = search rules in
-    let is : c.fan_at-e.result ≡ fan_in c.args.fans.now.by_node (2 * c.len-none.result) c.head.result = simp to_z-of_z at c.fan_at-e.ensures in
-    let its : c.fan_at-e.result ≡ fan_in c.args.fans.now.by_node (length vs) w.0.head =
-    is ∙ ap (λ (n : ℕ). fan_in c.args.fans.now.by_node n c.head.result) all ∙ ap (λ (t : ℤ). fan_in c.args.fans.now.by_node (length vs) t) (sym head) in
-    let fan = c.requires.fans.each w.0.head in
-    let chain : IsChain c.args.fans.now.next.items (2 * c.len-none.result) 0 c.fan_at-e.result.first (leavers vs w.0.head 0) =
-    subst (λ (n : ℕ). IsChain c.args.fans.now.next.items n 0 c.fan_at-e.result.first (leavers vs w.0.head 0)) (sym all)
-    (subst (λ (f : Fan). IsChain c.args.fans.now.next.items (length vs) 0 f.first (leavers vs w.0.head 0)) (sym its) fan.chain) in
-    record {
-      es = leavers vs w.0.head 0;
-      chain = chain;
-      rest = ap (λ (x : List (ℕ × ℕ)). c.args.turns.now.items ++ x) (sym (turns_on-at vs c.args.v w.0 w.2 kept));
-    }
+    let runs = c.args.exits.now.leaving.runs in
+    let w = both-ways c.args.roads.now v c.requires.vertex in
+    let head = field-at (λ z. z.head) vs v w.0 c.head-node.result w.2 c.head-node.ensures in
+    let way = field-at (λ z. z.way) vs v w.0 c.way.result w.2 c.way.ensures in
+    let fits : FitsSigned w64 c.head-node.result = search rules in
+    let says : c.any_at.result ≡ has_via kept c.head-node.result = simp to_z-of_z at c.any_at.ensures in
+    let ruled : has_via kept w.0.head ≡ true = ap (has_via kept) head ∙ sym says ∙ c.if-any_at.true in
+    let fits_way : FitsSigned w64 c.way.result = search rules in
+    let its : turns_onto v (open_exits kept (to_z w64 (of_z w64 c.head-node.result)) (to_z w64 (of_z w64 c.way.result)) (leaving_at runs (to_z w64 (of_z w64 c.head-node.result)))) ≡ turns_onto v (open_exits kept w.0.head w.0.way (map {A = ℕ × Vertex} {B = ℕ × ℤ} (λ e. (e.0, e.1.way)) (leavers vs w.0.head 0))) =
+    ap (λ (z : ℤ). turns_onto v (open_exits kept z (to_z w64 (of_z w64 c.way.result)) (leaving_at runs z))) (to_z-of_z w64 c.head-node.result fits)
+    ∙ ap (λ (z : ℤ). turns_onto v (open_exits kept c.head-node.result z (leaving_at runs c.head-node.result))) (to_z-of_z w64 c.way.result fits_way)
+    ∙ ap (λ (z : ℤ). turns_onto v (open_exits kept z c.way.result (leaving_at runs z))) (sym head)
+    ∙ ap (λ (z : ℤ). turns_onto v (open_exits kept w.0.head z (leaving_at runs w.0.head))) (sym way)
+    ∙ ap (λ (l : List (ℕ × ℤ)). turns_onto v (open_exits kept w.0.head w.0.way l)) (c.requires.leaving.exits w.0.head ruled) in
+    on_ok_weaker c.push_open.result
+    (λ h. h ∙ ap (λ (l : List (ℕ × ℕ)). c.args.turns.now.items ++ l) (its ∙ sym (turns_on-open vs v w.0 w.1 w.2 w.3 w.4 kept)))
+    c.push_open.ensures.turns
 
-pub index-e-requires : goal.index-e-requires
-index-e-requires c =
-    let long : length c.args.fans.now.next.items ≡ 2 * c.len-none.result = c.requires.fans.nexts ∙ omega (arith, length-vertices c.args.roads.now, c.len-none.ensures.value) in
-    omega (arith, long)
-
-pub loop-e-smaller : goal.loop-e-smaller
-loop-e-smaller c =
-    let long : length c.args.fans.now.next.items ≡ 2 * c.len-none.result = c.requires.fans.nexts ∙ omega (arith, length-vertices c.args.roads.now, c.len-none.ensures.value) in
-    let lt : c.loop-e.e < length c.args.fans.now.next.items = omega (arith, long) in
-    let at : slice_get c.args.fans.now.next.items c.loop-e.e ≡ Some c.index-e.result.now = get_is c.args.fans.now.next.items c.loop-e.e c.index-e.result.now lt (sym c.index-e.ensures) in
-    let ahead : c.loop-e.e < c.index-e.result.now = IsLeft-ahead _ _ _ _ _ _ _ _ c.loop-e.invariant c.loop-e-test.true at in
-    omega arith
-
-pub loop-e-preserved : goal.loop-e-preserved
-loop-e-preserved c =
-    let long : length c.args.fans.now.next.items ≡ 2 * c.len-none.result = c.requires.fans.nexts ∙ omega (arith, length-vertices c.args.roads.now, c.len-none.ensures.value) in
-    let lt : c.loop-e.e < length c.args.fans.now.next.items = omega (arith, long) in
-    let at : slice_get c.args.fans.now.next.items c.loop-e.e ≡ Some c.index-e.result.now = get_is c.args.fans.now.next.items c.loop-e.e c.index-e.result.now lt (sym c.index-e.ensures) in
-    IsLeft-next _ _ _ _ _ _ _ _ _ c.loop-e.invariant c.loop-e-test.true at
-    (elim c.if-may_turn_on.branch [
-      | then-may_turn_on+in_ok-push w ↦ let test = sym c.may_turn_on.ensures ∙ w.if-may_turn_on.true in rw (w.turns-is, w.in_ok-push.ensures.items, test) refl
-      | else-may_turn_on w ↦ let test = sym c.may_turn_on.ensures ∙ w.if-may_turn_on.false in rw (w.turns-is, test) (sym (append-nil c.loop-e.turns.items))
-    ])
-
-pub returns : goal.returns
-returns c =
-    let long : length c.args.fans.now.next.items ≡ 2 * c.len-none.result = c.requires.fans.nexts ∙ omega (arith, length-vertices c.args.roads.now, c.len-none.ensures.value) in
-    IsLeft-done _ _ _ _ _ _ _ c.loop-e.invariant c.loop-e-test.false long
+pub returns-else-any_at-clause-turns : goal.returns-else-any_at-clause-turns
+returns-else-any_at-clause-turns c =
+    let vs = vertices c.args.roads.now in
+    let v = c.args.v in
+    let kept = c.args.restrictions.now.kept in
+    let w = both-ways c.args.roads.now v c.requires.vertex in
+    let head = field-at (λ z. z.head) vs v w.0 c.head-node.result w.2 c.head-node.ensures in
+    let fits : FitsSigned w64 c.head-node.result = search rules in
+    let says : c.any_at.result ≡ has_via kept c.head-node.result = simp to_z-of_z at c.any_at.ensures in
+    let unruled : has_via kept w.0.head ≡ false = ap (has_via kept) head ∙ sym says ∙ c.if-any_at.false in
+    on_ok_weaker c.push_all.result
+    (λ h. h ∙ ap (λ (l : List (ℕ × ℕ)). c.args.turns.now.items ++ l) (sym (turns_on-all vs v w.0 w.1 w.2 w.3 w.4 kept unruled)))
+    c.push_all.ensures

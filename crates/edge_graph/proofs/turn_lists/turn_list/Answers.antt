@@ -1,14 +1,13 @@
-use Rattle.std.proofs.Common.{◌≡◌, ℕ, ◌+◌, ◌*◌, ◌<◌, ◌≤◌, ◌++◌, List, drop, length, get_or, arith, sym, ap, ◌∙◌, append_assoc}
+use Rattle.std.proofs.Common.{◌≡◌, ℕ, ◌+◌, ◌*◌, ◌<◌, ◌≤◌, ◌++◌, List, drop, length, arith, sym, ap, ◌∙◌, append_assoc, length-append}
 use Rattle.std.specs.List.{enumerate_from, flat_map}
 use Rattle.std.proofs.lemmas.List.{append-nil}
-use Rattle.std.proofs.lemmas.Option.{slice_get-get_or}
 use Rattle.list_lemmas.proofs.Gets.{get_some}
 use Rattle.turn_rules.specs.Rules.{Rule}
 use Rattle.edge_graph.specs.Fans.{turns_at}
 use Rattle.edge_graph.specs.Segment.{Segment}
 use Rattle.edge_graph.specs.Turn.{turns, turns_from}
 use Rattle.edge_graph.specs.Vertex.{vertices}
-use Rattle.edge_graph.proofs.TurnLemmas.{turns-all, turns-end, turns-step}
+use Rattle.edge_graph.proofs.TurnLemmas.{no-rows, turns-all, turns-end, turns-step}
 use Rattle.edge_graph.proofs.VertexLemmas.{length-vertices}
 use Rattle.edge_graph.proofs.turn_lists.turn_list.Goals as goal
 
@@ -26,23 +25,40 @@ step segments rules v list new lt added so_far =
     ∙ ap (λ (l : List (ℕ × ℕ)). list ++ l) (sym (turns-step vs rules v x.0 x.1))
     ∙ so_far
 
+pub room_for-requires : goal.room_for-requires
+room_for-requires c = omega (arith, c.requires.counts.as_many, length-vertices c.args.roads.now, c.deref.ensures.value)
+
 pub loop-v-init : goal.loop-v-init
-loop-v-init c = rw c.in_ok-list.ensures.items (turns-all (vertices c.args.roads.now) c.args.restrictions.now.kept)
+loop-v-init c = record {
+  so_far = rw c.in_ok-list.ensures.items (turns-all (vertices c.args.roads.now) c.args.restrictions.now.kept);
+  few = rw c.in_ok-list.ensures.items (omega arith);
+  rows = no-rows c.args.restrictions.now.kept c.args.exits.now.leaving.runs c.new-rows.result c.new-rows.ensures.empty;
+}
 
-pub bounds-counts-v : goal.bounds-counts-v
-bounds-counts-v c = omega (arith, c.requires.counts.as_many, length-vertices c.args.roads.now, c.len-v-end.ensures.value)
-
-pub push_turns-requires-clause-exits : goal.push_turns-requires-clause-exits
-push_turns-requires-clause-exits c =
-    let lt : c.loop-v.v < length c.args.counts.now = omega (arith, c.requires.counts.as_many, length-vertices c.args.roads.now, c.len-v-end.ensures.value) in
-    c.requires.counts.each c.loop-v.v (get_or c.args.counts.now c.loop-v.v 0) (slice_get-get_or c.args.counts.now c.loop-v.v 0 lt)
+pub returns-then-len-gt-MOST_TURNS-clause-err : goal.returns-then-len-gt-MOST_TURNS-clause-err
+returns-then-len-gt-MOST_TURNS-clause-err c =
+    let segments = c.args.roads.now in
+    let kept = c.args.restrictions.now.kept in
+    let more = step segments kept c.loop-v.v c.loop-v.list.items c.push_turns.new.turns.items (omega (arith, c.len-v-end.ensures.value)) c.in_ok-push_turns.ensures.turns c.loop-v.invariant.so_far in
+    omega (arith, ap length more, length-append c.push_turns.new.turns.items (flat_map (turns_from (vertices segments) kept) (enumerate_from (c.loop-v.v + 1) (drop (c.loop-v.v + 1) (vertices segments)))))
 
 pub loop-v-preserved : goal.loop-v-preserved
-loop-v-preserved c = step c.args.roads.now c.args.restrictions.now.kept c.loop-v.v c.loop-v.list.items c.push_turns.new.turns.items (omega (arith, c.len-v-end.ensures.value)) c.in_ok-push_turns.ensures c.loop-v.invariant
+loop-v-preserved c = record {
+  so_far = step c.args.roads.now c.args.restrictions.now.kept c.loop-v.v c.loop-v.list.items c.push_turns.new.turns.items (omega (arith, c.len-v-end.ensures.value)) c.in_ok-push_turns.ensures.turns c.loop-v.invariant.so_far;
+  few = omega arith;
+  rows = c.in_ok-push_turns.ensures.rows;
+}
 
-pub returns : goal.returns
-returns c =
-    let end : length (vertices c.args.roads.now) ≤ c.loop-v.v = omega (arith, length-vertices c.args.roads.now, c.len-v-end.ensures.value) in
-    sym (append-nil c.loop-v.list.items)
-    ∙ ap (λ (l : List (ℕ × ℕ)). c.loop-v.list.items ++ l) (sym (turns-end (vertices c.args.roads.now) c.args.restrictions.now.kept c.loop-v.v end))
-    ∙ c.loop-v.invariant
+all-listed : (segments : List Segment) (rules : List Rule) (v : ℕ) (list : List (ℕ × ℕ)) → 2 * length segments ≤ v
+    → list ++ flat_map (turns_from (vertices segments) rules) (enumerate_from v (drop v (vertices segments))) ≡ turns (vertices segments) rules → list ≡ turns (vertices segments) rules
+all-listed segments rules v list le so_far =
+    let end : length (vertices segments) ≤ v = omega (arith, length-vertices segments) in
+    sym (append-nil list) ∙ ap (λ (l : List (ℕ × ℕ)). list ++ l) (sym (turns-end (vertices segments) rules v end)) ∙ so_far
+
+pub returns-clause-list : goal.returns-clause-list
+returns-clause-list c = all-listed c.args.roads.now c.args.restrictions.now.kept c.loop-v.v c.loop-v.list.items (omega (arith, c.len-v-end.ensures.value)) c.loop-v.invariant.so_far
+
+pub returns-clause-few : goal.returns-clause-few
+returns-clause-few c =
+    let listed = all-listed c.args.roads.now c.args.restrictions.now.kept c.loop-v.v c.loop-v.list.items (omega (arith, c.len-v-end.ensures.value)) c.loop-v.invariant.so_far in
+    omega (arith, c.loop-v.invariant.few, ap length listed)

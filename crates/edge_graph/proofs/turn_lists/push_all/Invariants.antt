@@ -1,0 +1,13 @@
+use Rattle.std.proofs.Common.{◌-◌, ◌++◌, ◌==◌, not}
+use Rattle.edge_graph.specs.TurnParts.{turns_onto_all}
+use Rattle.edge_graph.specs.Vertex.{opposite, vertices}
+use Rattle.edge_graph.proofs.TurnLemmas.{IsLeft}
+use Rattle.edge_graph.proofs.turn_lists.push_all.Given as goal
+
+-- the chain from e on is still to be gone along
+abbrev pub invariant-loop-e : goal.invariant-loop-e
+invariant-loop-e l =
+    IsLeft l.fans.next.items l.none l.v l.e (λ e. not (e == opposite l.v)) l.turns.items (l.fn.turns.items ++ turns_onto_all (vertices l.roads) l.v)
+
+abbrev pub decreases-loop-e : goal.decreases-loop-e
+decreases-loop-e l = l.none - l.e
