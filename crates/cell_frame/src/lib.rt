@@ -11,6 +11,7 @@ mod borders;
 mod cells;
 mod cliques;
 mod frame;
+mod marks;
 mod over;
 mod parts;
 mod side;
