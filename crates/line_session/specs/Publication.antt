@@ -5,7 +5,7 @@ use Rattle.metric_make.specs.MetricOf.{metric_of}
 use Rattle.metric_publish.specs.History.{entry}
 use Rattle.metric_publish.specs.declared.entry.Entry.{Entry}
 use Rattle.reply_core.specs.Answers.{IsLineAnswer}
-use Rattle.reply_core.specs.RoadMetric.{RoadMetric}
+use Rattle.road_places.specs.RoadMetric.{RoadMetric}
 use Rattle.reply_core.specs.declared.answers.Answer.{Answer}
 
 abbrev pub Publication : Type 0

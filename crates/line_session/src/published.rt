@@ -7,8 +7,9 @@ ghost use Rattle.line_session.specs.Publication.{IsReplyLine, opening};
 use edge_graph::Network;
 use metric_make::base;
 use metric_publish::local_board::LocalBoard;
-use reply_core::{Grid, Metric, ReplyFault, line_answer};
+use reply_core::{Metric, ReplyFault, line_answer};
 use road_base::Text;
+use snap_index::Grid;
 use std::alloc::{AllocError, Global};
 use std::marker::Model;
 use std::sync::Arc;
@@ -29,11 +30,11 @@ impl Model for Published {
     ghost use Rattle.std.specs.Prelude.{◌≡◌};
     ghost use Rattle.std.specs.Arc.{arc_value};
     ghost use Rattle.metric_publish.specs.History.{entry_of};
-    ghost use Rattle.reply_core.specs.Lines.{lines_of};
+    ghost use Rattle.snap_index.specs.Ends.{all_ends};
 
     ghost view = { λ p. entry_of p.board.page.put };
 
-    ghost invariant = { λ p. p.grid ≡ lines_of (arc_value p.board.page.put.value).network.segments };
+    ghost invariant = { λ p. p.grid ≡ all_ends (arc_value p.board.page.put.value).network.segments };
 }
 
 impl Published {
@@ -55,7 +56,7 @@ impl Published {
         ensures { IfOk result (λ text. IsReplyLine self.now line.now text) }
     {
         let held = self.board.enter()?;
-        let answer = line_answer(&(), alloc, &held, &self.grid, line)?;
+        let answer = line_answer(alloc, &held, &self.grid, line)?;
         let mut text = answer.text.into_string();
         text.push('\n')?;
         Ok(Text::of(text))

@@ -13,4 +13,4 @@ returns c =
     let answer = c.in_ok-answer.answer in
     let same : c.args.self.now ≡ entry held.number (arc_value held.value) = sym c.self.view_is ∙ same_Some _ _ (sym c.self.inside.board.page.last ∙ c.in_ok-held.ensures.last) in
     let text : c.of.result ≡ answer.text ++ newline = search rules in
-    (answer.text, (answer, subst (λ (p : Publication). IsLineAnswer p.value p.number c.args.line.now answer) (sym same) c.in_ok-answer.ensures, refl), text)
+    (answer.text, (answer, subst (λ (p : Publication). IsLineAnswer p.value p.number c.args.line.now answer) (sym same) c.in_ok-answer.ensures.says, refl), text)
