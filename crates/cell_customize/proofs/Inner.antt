@@ -6,8 +6,8 @@ use Rattle.list_lemmas.proofs.Singles.{only_one}
 use Rattle.search_graph.specs.Costs.{CostOps, CostLaws, NoDearer}
 use Rattle.search_graph.specs.declared.ends.Start.{Start}
 use Rattle.search_graph.specs.Digraph.{Digraph, Weighting, IsOpen}
-use Rattle.search_graph.proofs.Order.{le_trans}
-use Rattle.search_graph.proofs.Chains.{Chain-valid}
+use Rattle.search_graph.specs.OrderLaws.{le_trans}
+use Rattle.search_graph.specs.ChainLaws.{Chain-valid}
 use Rattle.step_search.specs.Paths.{AreStarts, IsPathTo, IsLeastPath, NoPathTo}
 use Rattle.cut_walks.specs.Cut.{Cut, MayEnd, AreAcross}
 use Rattle.cut_walks.specs.Answering.{goes_from_path, path_from_goes}
