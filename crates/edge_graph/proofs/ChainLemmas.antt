@@ -8,7 +8,7 @@ use Rattle.std.proofs.lemmas.Bool.Decides.{Decides-int_eq}
 use Rattle.std.proofs.lemmas.Option.{slice_get_within, get_or_from_slice_get}
 use Rattle.list_lemmas.proofs.Gets.{get_is}
 use Rattle.edge_graph.specs.Chains.{IsChain, belonging}
-use Rattle.edge_graph.proofs.WayLemmas.{drop-get}
+use Rattle.edge_graph.proofs.Drops.{drop-get}
 
 -- an element that is not written stays
 pub get-set_other : (xs : List ℕ) (i k y n : ℕ) → k ≢ i → slice_get xs k ≡ Some n → slice_get (set xs i y) k ≡ Some n

@@ -13,7 +13,8 @@ use Rattle.edge_graph.specs.Decisions.{MatchOnto, OnlyMap, PassageSet, decides, 
 use Rattle.edge_graph.specs.RestrictionParts.{pair_eq}
 use Rattle.edge_graph.specs.declared.decisions.Onto.{Onto}
 use Rattle.edge_graph.specs.declared.decisions.Onto.TheVariants.{Any, One, Nothing}
-use Rattle.edge_graph.proofs.RuleLemmas.{chosen-on, list_any-drop}
+use Rattle.edge_graph.proofs.Drops.{list_any-drop}
+use Rattle.edge_graph.proofs.RuleLemmas.{chosen-on}
 
 -- what is forbidden as well, by where it stands in the decision
 pub more-forbidden : (a b u o k : Bool) → (((a || k) || (b && u)) || o) ≡ (((a || (b && u)) || o) || k)

@@ -10,3 +10,4 @@ pub mod TurnLemmas
 pub mod DecisionLemmas
 pub mod LeavingLemmas
 pub mod RangeLemmas
+mod Drops

@@ -15,7 +15,7 @@ use Rattle.way_profile.specs.Vehicle.{ProfileView, IsSpeed}
 use Rattle.way_profile.specs.WayRule.{way_use}
 use Rattle.way_profile.specs.declared.way_uses.WayUse.{WayUse}
 use Rattle.list_lemmas.proofs.Gets.{get_some}
-use Rattle.edge_graph.proofs.WayLemmas.{drop-get}
+use Rattle.edge_graph.proofs.Drops.{drop-get}
 use Rattle.edge_graph.specs.Located.{AreRoutes, StandAt, nodes_at, nodes_in, segments_on}
 use Rattle.edge_graph.specs.Rows.{no_street, street_at}
 use Rattle.edge_graph.specs.Segment.{Segment, segments_along, segments_of_way, segments_used, street_of}

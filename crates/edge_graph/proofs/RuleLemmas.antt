@@ -14,14 +14,7 @@ use Rattle.edge_graph.specs.RestrictionParts.{AreMet, NodeSet, PairSet, has_via,
 use Rattle.edge_graph.specs.Segment.{Segment}
 use Rattle.edge_graph.specs.Vertex.{Vertex, vertices}
 use Rattle.edge_graph.proofs.RouteLemmas.{take-get}
-use Rattle.edge_graph.proofs.WayLemmas.{drop-get}
-
--- a test of an element, and of those behind it
-pub list_any-drop : {X : Type 0} (p : X → Bool) (xs : List X) (k : ℕ) (x : X) → slice_get xs k ≡ Some x → list_any p (drop k xs) ≡ (p x || list_any p (drop (k + 1) xs))
-list_any-drop {X} p xs k x at = ap (list_any p) (drop-get xs k x at) ∙ ap (λ (n : ℕ). p x || list_any p (drop n xs)) (sym (add-one k))
-
-pub list_all-drop : {X : Type 0} (p : X → Bool) (xs : List X) (k : ℕ) (x : X) → slice_get xs k ≡ Some x → list_all p (drop k xs) ≡ (p x && list_all p (drop (k + 1) xs))
-list_all-drop {X} p xs k x at = ap (list_all p) (drop-get xs k x at) ∙ ap (λ (n : ℕ). p x && list_all p (drop n xs)) (sym (add-one k))
+use Rattle.edge_graph.proofs.Drops.{drop-get, list_any-drop}
 
 pub list_all-cong : {X : Type 0} (p q : X → Bool) → ((x : X) → p x ≡ q x) → (xs : List X) → list_all p xs ≡ list_all q xs
 list_all-cong p q h [] = refl

@@ -26,7 +26,7 @@ use Rattle.edge_graph.specs.RestrictionParts.{has_via, pair_eq}
 use Rattle.edge_graph.proofs.DecisionLemmas.{pair-same}
 use Rattle.edge_graph.specs.Vertex.{Vertex, against, along, opposite, vertices}
 use Rattle.edge_graph.proofs.ChainLemmas.{IsChain-lower}
-use Rattle.edge_graph.proofs.WayLemmas.{drop-get}
+use Rattle.edge_graph.proofs.Drops.{drop-get}
 use Rattle.edge_graph.proofs.VertexLemmas.{length-vertices, vertices-even, vertices-odd}
 
 -- 1 for what is true
@@ -164,12 +164,12 @@ none-but p k (x ∷ xs) h =
     ] h
 
 -- what no rule at the node forbids
-pub free : (rules : List Rule) (node from to : ℤ) (back : Bool) → list_any (λ rule. int_eq rule.via node) rules ≡ false → is_forbidden_at rules node from to back ≡ false
-free [] node from to back h = refl
-free (r ∷ rules) node from to back h =
+pub is_forbidden_at-unruled : (rules : List Rule) (node from to : ℤ) (back : Bool) → list_any (λ rule. int_eq rule.via node) rules ≡ false → is_forbidden_at rules node from to back ≡ false
+is_forbidden_at-unruled [] node from to back h = refl
+is_forbidden_at-unruled (r ∷ rules) node from to back h =
     elim (int_eq r.via node) as (λ c. (c || list_any (λ rule. int_eq rule.via node) rules) ≡ false → ((c && forbids r from to back) || is_forbidden_at rules node from to back) ≡ false) [
       | true ↦ λ g. cc
-      | false ↦ λ g. free rules node from to back g
+      | false ↦ λ g. is_forbidden_at-unruled rules node from to back g
     ] h
 
 and-true : (b : Bool) → (b && true) ≡ b
@@ -320,7 +320,7 @@ module _ (vs : List Vertex) (v : ℕ) (x y : Vertex) (at : slice_get vs v ≡ So
         ∙ filter-cong-numbered vs (λ e. leaves x.head e && may_turn_on vs rules v e.0) (λ e. leaves x.head e && not (e.0 == opposite v))
         (λ n z has. ap (λ (b : Bool). leaves x.head (n, z) && b)
         (on-is n z has
-        ∙ ap (λ (b : Bool). not (n == opposite v) && not b) (free rules x.head x.way z.way (n == opposite v) none)
+        ∙ ap (λ (b : Bool). not (n == opposite v) && not b) (is_forbidden_at-unruled rules x.head x.way z.way (n == opposite v) none)
         ∙ and-true (not (n == opposite v))))
         ∙ filter-both (leaves x.head) (λ e. not (e.0 == opposite v)) (numbered vs))
         ∙ sym (turns_onto_all-at vs v x at)

@@ -5,7 +5,7 @@ use Rattle.std.specs.declared.cmp.Ordering.{Ordering}
 use Rattle.std.specs.declared.cmp.Ordering.TheVariants.{Less, Equal, Greater}
 use Rattle.std.specs.Ordering.{int_cmp, match_ordering}
 use Rattle.std.specs.List.{slice_get}
-use Rattle.std.proofs.lemmas.Option.{same_Some}
+use Rattle.edge_graph.proofs.Drops.{drop-get}
 use Rattle.road_base.specs.declared.osm_objects.Object.{Object}
 use Rattle.road_base.specs.declared.osm_objects.Object.TheVariants as object
 use Rattle.road_base.specs.declared.osm_objects.Way.{Way}
@@ -27,12 +27,6 @@ module _ {K X Y : Type 0} (cmp : K → K → Ordering) (f : X → Y) where
   pub map-insert_entry : (es : List (K × X)) (k : K) (v : X) → map (keyed f) (insert_entry cmp es k v) ≡ insert_entry cmp (map (keyed f) es) k (f v)
   map-insert_entry [] k v = refl
   map-insert_entry (e ∷ es) k v = insert-at (cmp k e.0) k v e es (insert_entry cmp es k v) (insert_entry cmp (map (keyed f) es) k (f v)) (map-insert_entry es k v)
-
--- an element, and what stands behind it
-pub drop-get : {X : Type 0} (xs : List X) (k : ℕ) (x : X) → slice_get xs k ≡ Some x → drop k xs ≡ x ∷ drop (suc k) xs
-drop-get [] k x e = cc
-drop-get {X} (y ∷ xs) zero x e = let same : y ≡ x = same_Some y x e in ap (λ (z : X). z ∷ xs) same
-drop-get (y ∷ xs) (suc k) x e = drop-get xs k x e
 
 abbrev pub as_object : Way → Option Object
 as_object way = Some (object.Way way)

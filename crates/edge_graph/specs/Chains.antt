@@ -1,4 +1,4 @@
--- Lists by node: the elements of a list that belong to a node, linked in ascending order of their numbers.
+-- For private functions: lists by node: the elements of a list that belong to a node, linked in ascending order of their numbers.
 use Rattle.std.specs.Prelude.{◌≡◌, ℕ, ℤ, ◌+◌, ◌≤◌, Bool, ◌&&◌, List, [], ◌∷◌, Some, drop, filter}
 use Rattle.std.specs.List.{enumerate_from, slice_get}
 use Rattle.std.specs.Ordering.{int_eq}

@@ -1,4 +1,4 @@
--- How the turns of a network are found: for each node the permitted vertices that leave it, in a chain.
+-- For private functions: how the turns of a network are found: for each node the permitted vertices that leave it, in a chain.
 use Rattle.std.specs.Prelude.{◌≡◌, ℕ, ℤ, List, [], Some, length, unwrap_or}
 use Rattle.std.specs.HashMap.{HashMap, get}
 use Rattle.std.specs.List.{slice_get}

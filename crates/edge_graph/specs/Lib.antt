@@ -14,3 +14,4 @@ pub mod Leaving
 pub mod RestrictionParts
 pub mod Spots
 pub mod TurnParts
+pub mod Laws

@@ -1,4 +1,4 @@
--- How a network is made: what the nodes are, and which ways make streets.
+-- For private functions: how a network is made: what the nodes are, and which ways make streets.
 use Rattle.std.specs.Prelude.{◌≡◌, ℕ, ℤ, ◌<◌, ◌≤◌, List, [], ◌∷◌, ◌++◌, Option, Some, None, All, length, map, unwrap_or}
 use Rattle.std.specs.HashMap.{HashMap, get}
 use Rattle.std.specs.List.{flat_map, slice_get}

@@ -1,4 +1,4 @@
--- What holds of the parts of a network.
+-- For private functions: what holds of the parts of a network.
 use Rattle.std.specs.Prelude.{◌≡◌, ℕ, ◌*◌, ◌≤◌, ◌^◌, List, All, length}
 use Rattle.search_graph.specs.Digraph.{Digraph}
 use Rattle.way_profile.specs.Vehicle.{IsSpeed}

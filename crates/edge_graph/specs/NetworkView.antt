@@ -37,6 +37,10 @@ network_of objects profile =
 abbrev pub vertices_of : NetworkView → List Vertex
 vertices_of network = vertices network.segments
 
--- the graph whose arc i is turn i
+-- the turns as a graph over the vertices: arc i is turn i
+abbrev pub turn_graph : NetworkView → Digraph
+turn_graph network = record { vertices = 2 * length network.segments; arcs = network.turns }
+
+-- the graph that is searched: today that of the turns
 abbrev pub graph_of : NetworkView → Digraph
-graph_of network = record { vertices = 2 * length network.segments; arcs = network.turns }
+graph_of network = turn_graph network

@@ -1,4 +1,4 @@
--- The list of segments that rows of flat lists stand for.
+-- For private functions: the list of segments that rows of flat lists stand for.
 use Rattle.std.specs.Prelude.{◌≡◌, ℕ, ℤ, pos, ◌++◌, Option, ◌<◌, ◌≤◌, ◌^◌, List, [], map, length, false, All, unwrap_or}
 use Rattle.std.specs.List.{slice_get}
 use Rattle.road_base.specs.declared.osm_objects.Object.{Object}

@@ -5,7 +5,8 @@ use Rattle.std.specs.Int.{int_div_euclid}
 use Rattle.std.specs.List.{slice_get}
 use Rattle.std.proofs.lemmas.Int.{ints}
 use Rattle.std.proofs.lemmas.Bool.Decides.{nat_tests}
-use Rattle.std.proofs.lemmas.Option.{get_or_from_slice_get, same_Some, slice_get-map}
+use Rattle.std.proofs.Math.Seq.{drop-cons}
+use Rattle.std.proofs.lemmas.Option.{get_or_from_slice_get, same_Some, slice_get-map, slice_get_within}
 use Rattle.geo_integer.specs.Bearing.{bearing_of, modifier_of}
 use Rattle.geo_integer.specs.Plane.{cosine_of, length_of, plane_between, squared}
 use Rattle.geo_integer.specs.Position.{Position, position_of}
@@ -17,11 +18,14 @@ use Rattle.edge_graph.specs.Segment.{Segment}
 use Rattle.edge_graph.specs.NetworkView.{NetworkView, vertices_of}
 use Rattle.edge_graph.specs.Turn.{exits}
 use Rattle.edge_graph.specs.Vertex.{Vertex, against, along, opposite, vertices}
-use Rattle.edge_graph.proofs.VertexLemmas.{vertices-even, vertices-odd}
-use Rattle.edge_graph.proofs.WayLemmas.{drop-get}
+use Rattle.edge_graph.specs.Laws.{vertices-even, vertices-odd}
 use Rattle.metric_make.specs.MetricOf.{bearing_along, bend_penalty, cost_at, penalty_at, vertex_cost}
 use Rattle.metric_make.specs.TurnParts.{turning_at, waiting_at}
 use Rattle.way_profile.specs.Vehicle.{penalty_of}
+
+-- an element, and what stands behind it
+drop-get : {X : Type 0} (xs : List X) (k : ℕ) (x : X) → slice_get xs k ≡ Some x → drop k xs ≡ x ∷ drop (suc k) xs
+drop-get {X} xs k x e = drop-cons xs k x (slice_get_within xs k x e) ∙ ap (λ (y : X). y ∷ drop (suc k) xs) (get_or_from_slice_get xs k x x e)
 
 apart-same : (x y : ℤ) → unsigned_abs (x -ℤ y) ≡ unsigned_abs (y -ℤ x)
 apart-same x y = omega (arith, ints)

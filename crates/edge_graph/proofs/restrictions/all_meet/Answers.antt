@@ -4,7 +4,7 @@ use Rattle.std.specs.List.{list_all, slice_get}
 use Rattle.std.proofs.lemmas.Int.{to_z-of_z}
 use Rattle.std.proofs.lemmas.Option.{slice_get-get_or}
 use Rattle.edge_graph.specs.RestrictionParts.{pair_eq}
-use Rattle.edge_graph.proofs.RuleLemmas.{list_all-drop}
+use Rattle.edge_graph.proofs.Drops.{list_all-drop}
 use Rattle.edge_graph.proofs.restrictions.all_meet.Goals as goal
 
 pub returns-then-not-contains : goal.returns-then-not-contains
