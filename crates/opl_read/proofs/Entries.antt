@@ -1,5 +1,5 @@
 -- The entries of a field, one by one.
-use Rattle.std.proofs.Common.{◌≡◌, ℕ, eqb, List, [], ◌∷◌, ◌++◌, append_assoc, map, Result, Ok, Err, IfOk, refl, sym, ◌∙◌, ap}
+use Rattle.std.proofs.Common.{◌≡◌, ℕ, eqb, List, [], ◌∷◌, ◌++◌, append_assoc, map, Result, Ok, Err, refl, sym, ◌∙◌, ap}
 use Rattle.std.specs.List.{slice_split}
 use Rattle.opl_read.specs.Faults.{mapped, all_of}
 use Rattle.opl_read.specs.declared.line_faults.FaultKind.{FaultKind}
@@ -35,8 +35,3 @@ module _ {A : Type 0} (values kept : List A) where
     -- the last entry
     pub onto-last : (text : List ℕ) → slice_split (λ b. eqb b 44) text ≡ text ∷ [] → mapped (λ x. values ++ x ∷ []) (f text) ≡ Ok kept → onto f values text ≡ Ok kept
     onto-last text split e = ap (λ parts. mapped (λ all. values ++ all) (all_of (map f parts))) split ∙ last_one (f text) e
-
--- what follows of a value follows where there is one
-pub on_ok : {A B : Type 0} (P Q : A → Type 0) (r : Result A B) → ((x : A) → P x → Q x) → IfOk r P → IfOk r Q
-on_ok P Q (Ok x) f h = f x h
-on_ok P Q (Err e) f h = tt

@@ -3,6 +3,8 @@ pub mod Escaping
 pub mod FieldLaws
 pub mod HexDigits
 pub mod LineSteps
+pub mod Outcomes
+pub mod ReadLaws
 pub mod SeenLaws
 pub mod Splitting
 pub mod LineLaws

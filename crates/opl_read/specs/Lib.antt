@@ -6,4 +6,5 @@ pub mod LineParts
 pub mod LineText
 pub mod Members
 pub mod Objects
+pub mod ReadLines
 pub mod Seen

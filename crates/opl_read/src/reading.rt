@@ -2,7 +2,8 @@
 
 ghost use Rattle.std.specs.Prelude.{◌≡◌, Ok, IfOk, IfErr};
 ghost use Rattle.opl_read.specs.Faults.{IsFaultOf};
-ghost use Rattle.opl_read.specs.Objects.{opl_objects, AreDistinct};
+ghost use Rattle.opl_read.specs.Objects.{opl_objects, lines_of, AreDistinct};
+ghost use Rattle.opl_read.specs.ReadLines.{AreObjectsOf, IsFirstFaultOf};
 ghost use Rattle.opl_read.specs.declared.line_faults.ReadFault.TheVariants.{Line};
 
 use crate::line_faults::{FaultKind, LineError, LineFault, ReadFault};
@@ -29,7 +30,20 @@ use std::alloc::Global;
 /// `BadField` for a field or an entry that isn't of its form, doesn't belong to the object or stands twice,
 /// and `Duplicate`, the last, for a second object of one kind and id. A tag without `=` and a member without
 /// its letter or `@` are `BadField`, whatever else is wrong with them. Want of memory may come at any time.
+///
+/// Two clauses say it line by line, and two by the definition `opl_objects`, which callers cite.
 pub fn read(alloc: Global, bytes: &[u8]) -> Result<Vec<Object>, ReadFault>
+    ensures lines { IfOk result (λ objects. AreObjectsOf (lines_of bytes.now) objects.items) }
+    ensures first_fault { IfErr result (IsFirstFaultOf (lines_of bytes.now)) }
+    ensures objects { IfOk result (λ objects. opl_objects bytes.now ≡ Ok objects.items) }
+    ensures distinct { IfOk result (λ objects. AreDistinct objects.items) }
+    ensures fault { IfErr result (IsFaultOf (opl_objects bytes.now)) }
+{
+    read_lines(alloc, bytes)
+}
+
+// The objects of the lines, one line after the other.
+fn read_lines(alloc: Global, bytes: &[u8]) -> Result<Vec<Object>, ReadFault>
     ensures objects { IfOk result (λ objects. opl_objects bytes.now ≡ Ok objects.items) }
     ensures distinct { IfOk result (λ objects. AreDistinct objects.items) }
     ensures fault { IfErr result (IsFaultOf (opl_objects bytes.now)) }

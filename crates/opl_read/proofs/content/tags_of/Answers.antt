@@ -1,8 +1,9 @@
 -- One tag more, and the last one.
-use Rattle.std.proofs.Common.{◌≡◌, ◌++◌, ◌∷◌, [], List, ℕ, Ok, ◌∙◌, sym, rules}
+use Rattle.std.proofs.Common.{◌≡◌, ◌++◌, ◌∷◌, [], Ok, ◌∙◌, sym, rules}
 use Rattle.opl_read.specs.Content.{tag_of, tags_of}
 use Rattle.opl_read.specs.Faults.{mapped}
-use Rattle.opl_read.proofs.Entries.{onto-more, onto-last, on_ok}
+use Rattle.opl_read.proofs.Entries.{onto-more, onto-last}
+use Rattle.opl_read.proofs.Outcomes.{on_ok}
 use Rattle.opl_read.proofs.content.tags_of.Goals as goal
 
 pub loop-entry-preserved : goal.loop-entry-preserved

@@ -3,7 +3,7 @@ use Rattle.std.specs.List.{list_any}
 use Rattle.road_base.specs.declared.osm_objects.Object.{Object}
 use Rattle.opl_read.specs.Objects.{AreDistinct, is_same, lines_of, objects_after, opl_objects}
 use Rattle.opl_read.specs.Seen.{has_seen}
-use Rattle.opl_read.proofs.reading.read.Given as goal
+use Rattle.opl_read.proofs.reading.read_lines.Given as goal
 
 -- the objects so far, and the lines that are left, make the text's objects; just their ids were seen
 abbrev pub invariant-loop-rest : goal.invariant-loop-rest
