@@ -8,7 +8,7 @@ use Rattle.road_io.specs.Told.{appends_front_then, appends_then}
 use Rattle.road_io.specs.Views.{InputView, OutputView}
 use Rattle.line_session.specs.Leading.{Goes, GoesStopped, IsWholeFront, Leads, NoNewline, TakenSoFar, TellsAll, TellsFront}
 use Rattle.line_session.specs.Publication.{Publication}
-use Rattle.line_session.specs.Stopping.{AnsweredSoFar, InputFailed, OutputFailed, ToldAll, TookTooMuch}
+use Rattle.line_session.specs.Stopping.{InputFailed, OutputFailed, ToldAll, TookTooMuch}
 use Rattle.line_session.specs.Told.{Told, whole_lines}
 use Rattle.line_session.proofs.LeadLaws.{goes_start, goes_stopped, goes_then}
 use Rattle.line_session.proofs.LineLaws.{whole_none}

@@ -1,6 +1,5 @@
 use Rattle.std.proofs.Common.{◌^◌, ◌<◌, ◌≤◌, ◌∙◌, length, arith}
-use Rattle.road_io.specs.FaultLaws.{rose_since}
-use Rattle.line_session.proofs.EndLaws.{failed_last, failed_within, input_failed, so_far_none, so_far_piece, told_all, took_long}
+use Rattle.line_session.proofs.EndLaws.{failed_last, failed_within, input_failed, so_far_piece, told_all, took_long}
 use Rattle.line_session.proofs.asking.answer_lines.Goals as goal
 
 -- the input failed
