@@ -8,20 +8,27 @@ use Rattle.road_io.specs.Told.{appends_front_then, appends_then}
 use Rattle.road_io.specs.Views.{InputView, OutputView}
 use Rattle.line_session.specs.Leading.{Goes, GoesStopped, IsWholeFront, Leads, NoNewline, TakenSoFar, TellsAll, TellsFront}
 use Rattle.line_session.specs.Publication.{Publication}
-use Rattle.line_session.specs.Stopping.{AnsweredSoFar, InputFailed, OutputFailed, ToldAll, TookTooMuch}
+use Rattle.line_session.specs.Stopping.{InputFailed, OutputFailed, ToldAll, TookTooMuch}
 use Rattle.line_session.specs.Told.{Told, whole_lines}
 use Rattle.line_session.proofs.LeadLaws.{goes_start, goes_stopped, goes_then}
 use Rattle.line_session.proofs.LineLaws.{whole_none}
+
+-- what one call took: so many bytes of a piece, or none at the end of the input
+abbrev pub TakesPiece : InputView → InputView → List ℕ → ℕ → Type 0
+TakesPiece mid now piece count = Consumes mid.left now.left (take count piece) × (count ≤ length piece) × (now.taken ≡ min (mid.taken + count) (2 ^ 64 - 1))
+
+abbrev pub TakesEnd : InputView → InputView → List ℕ → ℕ → Type 0
+TakesEnd mid now piece count = (count ≡ 0) × Consumes mid.left now.left (take count piece) × (now.taken ≡ min (mid.taken + count) (2 ^ 64 - 1)) × IsAtEnd now.left
 
 -- before the first piece, and after one more
 pub so_far_none : (last : Publication) (input : InputView) (output : OutputView) → TakenSoFar last input input output output [] 0
 so_far_none last input output = record { taken = []; length_is = refl; took = took_none input; goes = goes_start last [] output }
 
-pub so_far_piece : (last : Publication) (first mid now : InputView) (before middle after : OutputView) (held rest piece : List ℕ) (taken count : ℕ) → TakenSoFar last first mid before middle held taken → Consumes mid.left now.left (take count piece) → count ≤ length piece → now.taken ≡ min (mid.taken + count) (2 ^ 64 - 1) → Goes last held (take count piece) middle after rest → TakenSoFar last first now before after rest (taken + count)
-so_far_piece last first mid now before middle after held rest piece taken count so_far given bound counted goes = record {
+pub so_far_piece : (last : Publication) (first mid now : InputView) (before middle after : OutputView) (held rest piece : List ℕ) (taken count : ℕ) → TakenSoFar last first mid before middle held taken → TakesPiece mid now piece count → Goes last held (take count piece) middle after rest → TakenSoFar last first now before after rest (taken + count)
+so_far_piece last first mid now before middle after held rest piece taken count so_far takes goes = record {
   taken = so_far.taken ++ take count piece;
   length_is = omega (arith, length-append so_far.taken (take count piece), length-take count piece, so_far.length_is);
-  took = took_piece first mid now so_far.taken piece count so_far.took given bound counted;
+  took = took_piece first mid now so_far.taken piece count so_far.took takes.0 takes.1 takes.2;
   goes = goes_then last [] so_far.taken held (take count piece) rest before middle after so_far.goes goes;
 }
 
@@ -41,13 +48,13 @@ whole_told last held taken text none leads =
     (subst (λ (xs : List ℕ). Told last (whole_lines xs) (text ++ [])) (append-nil taken) (leads.whole [] rest))
 
 -- the end of the input
-pub told_all : (last : Publication) (first mid now : InputView) (before middle after : OutputView) (held piece : List ℕ) (taken count : ℕ) → TakenSoFar last first mid before middle held taken → taken < 2 ^ 63 → count ≡ 0 → Consumes mid.left now.left (take count piece) → now.taken ≡ min (mid.taken + count) (2 ^ 64 - 1) → IsAtEnd now.left → TellsAll last held middle after → ToldAll last first now before after
-told_all last first mid now before middle after held piece taken count so_far short none given counted at_end tells = record {
+pub told_all : (last : Publication) (first mid now : InputView) (before middle after : OutputView) (held piece : List ℕ) (taken count : ℕ) → TakenSoFar last first mid before middle held taken → taken < 2 ^ 63 → TakesEnd mid now piece count → TellsAll last held middle after → ToldAll last first now before after
+told_all last first mid now before middle after held piece taken count so_far short ends tells = record {
   text = so_far.goes.text ++ tells.0;
   answered = record {
     input = so_far.taken;
-    took = took_end first mid now so_far.taken piece count so_far.took none given counted;
-    at_end = at_end;
+    took = took_end first mid now so_far.taken piece count so_far.took ends.0 ends.1 ends.2;
+    at_end = ends.3;
     short = omega (arith, so_far.length_is);
     told = ended last held so_far.taken so_far.goes.text tells.0 (so_far.goes.leads []) tells.1;
   };
@@ -69,13 +76,13 @@ input_failed last first mid now before middle held taken so_far none kept same r
 }
 
 -- at the end of the input the last reply was cut off
-pub failed_last : (last : Publication) (first mid now : InputView) (before middle after : OutputView) (held piece : List ℕ) (taken count : ℕ) → TakenSoFar last first mid before middle held taken → taken < 2 ^ 63 → count ≡ 0 → Consumes mid.left now.left (take count piece) → now.taken ≡ min (mid.taken + count) (2 ^ 64 - 1) → IsAtEnd now.left → TellsFront last held middle after → OutputRose before after → now.faults ≡ first.faults → OutputFailed last first now before after
-failed_last last first mid now before middle after held piece taken count so_far short none given counted at_end tells rose steady = record {
+pub failed_last : (last : Publication) (first mid now : InputView) (before middle after : OutputView) (held piece : List ℕ) (taken count : ℕ) → TakenSoFar last first mid before middle held taken → taken < 2 ^ 63 → TakesEnd mid now piece count → TellsFront last held middle after → OutputRose before after → now.faults ≡ first.faults → OutputFailed last first now before after
+failed_last last first mid now before middle after held piece taken count so_far short ends tells rose steady = record {
   text = so_far.goes.text ++ tells.0;
   answered = inr (record {
     input = so_far.taken;
-    took = took_end first mid now so_far.taken piece count so_far.took none given counted;
-    at_end = at_end;
+    took = took_end first mid now so_far.taken piece count so_far.took ends.0 ends.1 ends.2;
+    at_end = ends.3;
     short = omega (arith, so_far.length_is);
     told = ended last held so_far.taken so_far.goes.text tells.0 (so_far.goes.leads []) tells.1;
   });
@@ -85,8 +92,8 @@ failed_last last first mid now before middle after held piece taken count so_far
 }
 
 -- in a piece a reply was cut off
-pub failed_within : (last : Publication) (first mid now : InputView) (before middle after : OutputView) (held piece : List ℕ) (taken count : ℕ) → TakenSoFar last first mid before middle held taken → Consumes mid.left now.left (take count piece) → count ≤ length piece → now.taken ≡ min (mid.taken + count) (2 ^ 64 - 1) → GoesStopped last held (take count piece) middle after → OutputRose before after → now.faults ≡ first.faults → OutputFailed last first now before after
-failed_within last first mid now before middle after held piece taken count so_far given bound counted stopped rose steady =
+pub failed_within : (last : Publication) (first mid now : InputView) (before middle after : OutputView) (held piece : List ℕ) (taken count : ℕ) → TakenSoFar last first mid before middle held taken → TakesPiece mid now piece count → GoesStopped last held (take count piece) middle after → OutputRose before after → now.faults ≡ first.faults → OutputFailed last first now before after
+failed_within last first mid now before middle after held piece taken count so_far takes stopped rose steady =
     let all = goes_stopped last [] so_far.taken held (take count piece) before middle after so_far.goes stopped in
     let front : IsWholeFront last (so_far.taken ++ take count piece) all.part =
     subst (λ (xs : List ℕ). IsWholeFront last xs all.part) (append-nil (so_far.taken ++ take count piece)) (all.front []) in
@@ -94,7 +101,7 @@ failed_within last first mid now before middle after held piece taken count so_f
       text = front.0;
       answered = inl (record {
         taken = so_far.taken ++ take count piece;
-        took = took_piece first mid now so_far.taken piece count so_far.took given bound counted;
+        took = took_piece first mid now so_far.taken piece count so_far.took takes.0 takes.1 takes.2;
         told = front.1;
       });
       put = (all.part, front.2, all.put);

@@ -1,14 +1,13 @@
 -- How what is told of an input goes on, byte by byte and piece by piece.
-use Rattle.std.proofs.Common.{◌⊎◌, Bool, true, nat_le, Option, None, ◌≡◌, ℕ, ◌+◌, ◌-◌, ◌^◌, ◌<◌, ◌≤◌, min, false, ◌==◌, Result, Ok, Err, OnErr, get_or, drop, add-one, take-suc, take-append-drop, List, [], ◌∷◌, ◌++◌, length, take, refl, sym, ap, ◌∙◌, subst, inl, inr, append_assoc, append-nil, arith, length-append, length-take}
+use Rattle.std.proofs.Common.{◌⊎◌, Bool, true, nat_le, Option, None, ◌≡◌, ℕ, ◌+◌, ◌<◌, ◌≤◌, false, ◌==◌, Result, Ok, Err, OnErr, get_or, drop, add-one, take-suc, take-append-drop, List, [], ◌∷◌, ◌++◌, length, take, refl, sym, ap, ◌∙◌, subst, inl, inr, append_assoc, append-nil, arith}
 use Rattle.std.proofs.lemmas.Bool.Decides.{nat_tests}
-use Rattle.std.specs.Io.KnownBytes.{Consumes, IsAtEnd}
 use Rattle.std.specs.Str.Lines.{lines, strip_carriage_return}
 use Rattle.reply_core.specs.Answers.{IsAnswerToAny, IsLineAnswer}
 use Rattle.reply_core.specs.Request.{target_of}
 use Rattle.road_places.specs.RoadMetric.{RoadMetric}
 use Rattle.reply_core.specs.Texts.{busy_text}
 use Rattle.reply_core.specs.declared.answers.Answer.{Answer}
-use Rattle.road_io.specs.Told.{appends_none, appends_then, front_none, front_of_first, front_of_second}
+use Rattle.road_io.specs.Told.{appends_none, appends_then, front_of_first, front_of_second}
 use Rattle.road_io.specs.Views.{OutputView}
 use Rattle.line_session.specs.Leading.{AddsAll, AddsFront, Goes, GoesStopped, IsWholeFront, Leads, NoNewline, TellsAll, TellsFront}
 use Rattle.line_session.specs.Publication.{IsReplyLine, Publication, newline}

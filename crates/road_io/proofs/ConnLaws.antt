@@ -34,7 +34,7 @@ puts_of before after old new bytes (Err failed) is_old is_new kept all part caus
 }
 
 -- what `take` ensures, of a connection
-pub takes_of : (before after : ConnState) (old new : InputView) (into : List ℕ) (result : Result ℕ Failed) → before.source ≡ old → after.source ≡ new → KeepsSink before after → IfOk result (λ n. n ≤ length into) → ReadConsumes old.left new.left result into → CountsTaken old.taken new.taken result → HasCause old.faults new.faults result → TakesInto before after into result
+pub takes_of : (before after : ConnState) (old new : InputView) (into : List ℕ) (r : Result ℕ Failed) → before.source ≡ old → after.source ≡ new → KeepsSink before after → IfOk r (λ n. n ≤ length into) → ReadConsumes old.left new.left r into → CountsTaken old.taken new.taken r → HasCause old.faults new.faults r → TakesInto before after into r
 takes_of before after old new into (Ok count) is_old is_new kept bound bytes counted cause =
     let size : length (take count into) ≡ count = omega (arith, length-take count into, bound) in
     record {
