@@ -1,5 +1,5 @@
 -- A value of two parts, told by its parts.
-use Rattle.std.proofs.Common.{◌≡◌, Option, Some, None, option_map, ap₂, ap}
+use Rattle.std.proofs.Common.{◌≡◌, Option, Some, None, option_map, ap₂}
 use Rattle.std.proofs.lemmas.Option.{same_Some}
 
 module _ {B N R : Type 0} (f : B → N) (g : B → R) where

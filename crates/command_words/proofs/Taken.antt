@@ -1,5 +1,5 @@
 -- Which words make a command.
-use Rattle.std.proofs.Common.{◌≡◌, ◌≢◌, inl, inr, List, [], ◌∷◌, Option, None, refl, option_and_then}
+use Rattle.std.proofs.Common.{◌≡◌, ◌≢◌, inl, inr, List, [], ◌∷◌, None, refl, option_and_then}
 use Rattle.clap.specs.Words.{Text, HasKind, Kinds, IsAmong, fault_of, kind_of, subcommand_of}
 use Rattle.clap.specs.declared.error.Error.{Error}
 use Rattle.clap.specs.declared.error.kind.ErrorKind.{ErrorKind}
@@ -24,7 +24,7 @@ command_of-refused words kind among = go (fault_of road_router words) refl
     go [] e = absurd (rw e at among)
     go (k ∷ ks) e = rw e refl
 
-pub fault-cause : (words : List Text) (e : Error) (fault : WordsFault) → HasKind (fault_of road_router words) e → (fault ≡ Unknown → kind_of e ≢ OutOfMemory) → IsWordsFault (command_of words) fault
+pub fault-cause : (words : List Text) (e : Error) (fault : WordsFault) → HasKind (fault_of road_router words) e → (fault ≡ Unknown → kind_of e ≢ OutOfMemory) → IsWordsFault words fault
 fault-cause words e Memory has other = tt
 fault-cause words e Unknown (inl memory) other = absurd (other refl memory)
-fault-cause words e Unknown (inr among) other = command_of-refused words (kind_of e) among
+fault-cause words e Unknown (inr among) other = (λ none. rw none at among, command_of-refused words (kind_of e) among)

@@ -33,6 +33,8 @@ pub fn command_line<'a>(alloc: Global) -> Result<Command<'a>, AllocError>
 {
     Command::new(alloc, "road_router")
         .no_binary_name(true)
+        .disable_help_flag(true)
+        .disable_help_subcommand(true)
         .subcommand_required(true)
         .subcommand(over_files(alloc, "check")?)?
         .subcommand(over_files(alloc, "ask")?)

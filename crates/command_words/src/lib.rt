@@ -4,8 +4,10 @@
 #![tactic(auto)]
 
 mod command_lines;
+mod laws;
 mod words;
 
+pub use laws::taken_words_make_a_command;
 pub use words::{Words, WordsFault, read_words};
 
 #[cfg(test)]

@@ -8,9 +8,10 @@ ghost use Rattle.command_words.specs.Commands.{command_of, command_in, command_n
 ghost use Rattle.command_words.specs.WordsCause.{IsWordsFault};
 
 use crate::command_lines::command_line;
+use clap::ArgMatches;
 use clap::error::ErrorKind;
-use clap::{ArgMatches, Error};
 use std::alloc::Global;
+use thiserror::Error;
 
 /// What the words ask for.
 #[derive(Clone, Copy, Debug, PartialEq, Eq)]
@@ -22,16 +23,18 @@ pub enum Words<'a> {
 }
 
 /// Why the words were not read.
-#[derive(Clone, Copy, Debug, PartialEq, Eq)]
+#[derive(Clone, Copy, Debug, PartialEq, Eq, Error)]
 pub enum WordsFault {
     /// They make no command; a call for help is none either.
+    #[error("the words make no command")]
     Unknown,
     /// Memory ran out.
+    #[error("out of memory")]
     Memory,
 }
 
 // How `clap` reads the words.
-fn matches_of<'a>(alloc: Global, words: &'a [String]) -> Result<ArgMatches<'a>, Error>
+fn matches_of<'a>(alloc: Global, words: &'a [String]) -> Result<ArgMatches<'a>, clap::Error>
     ensures fails { FailsBy (fault_of road_router (map string_bytes words.entry.now)) result }
     ensures matches { IfOk result (λ m. subcommand_rows_of m ≡ subcommand_of road_router (map string_bytes words.entry.now)) }
 {
@@ -70,10 +73,10 @@ fn command_in<'a>(matches: &ArgMatches<'a>) -> Option<Words<'a>>
 }
 
 /// Reads the words, which stand without the program's name: `clap` takes `check OPL SETTINGS` and
-/// `ask OPL SETTINGS`. What it does not take is `Unknown`, a call for help too.
+/// `ask OPL SETTINGS`. What it does not take, and only that, is `Unknown`, a call for help too.
 pub fn read_words<'a>(alloc: Global, words: &'a [String]) -> Result<Words<'a>, WordsFault>
     ensures read { IfOk result (λ w. command_of (map string_bytes words.entry.now) ≡ Some (command_seen w)) }
-    ensures unknown { IfErr result (IsWordsFault (command_of (map string_bytes words.entry.now))) }
+    ensures unknown { IfErr result (IsWordsFault (map string_bytes words.entry.now)) }
 {
     let matches = match matches_of(alloc, words) {
         Ok(matches) => matches,
@@ -81,12 +84,13 @@ pub fn read_words<'a>(alloc: Global, words: &'a [String]) -> Result<Words<'a>, W
     };
     match command_in(&matches) {
         Some(command) => Ok(command),
-        None => Err(WordsFault::Unknown),
+        // Where `clap` takes the words, they name a command.
+        None => unreachable!(),
     }
 }
 
 // What an error of `clap` is to the words.
-fn fault_of_error(error: &Error) -> WordsFault
+fn fault_of_error(error: &clap::Error) -> WordsFault
     ensures { result ≡ WordsFault.Unknown → kind_of error.now ≢ ErrorKind.OutOfMemory }
 {
     match error.kind() {

@@ -1,15 +1,20 @@
-use Rattle.std.proofs.Common.{◌∙◌, ap, sym, option_and_then}
+-- The command of the matches is the command of the words, and where there are matches there is one.
+use Rattle.std.proofs.Common.{◌≡◌, ◌∙◌, None, Some, ap, sym, option_and_then}
 use Rattle.command_words.specs.Commands.{command_in}
+use Rattle.command_words.proofs.Named.{named}
 use Rattle.command_words.proofs.Taken.{command_of-taken, fault-cause}
 use Rattle.command_words.proofs.words.read_words.Goals as goal
 
 pub returns-in-Err-clause-unknown : goal.returns-in-Err-clause-unknown
 returns-in-Err-clause-unknown c = fault-cause _ c.in-Err.error _ c.in-Err.ensures.fails c.fault_of_error.ensures
 
-pub returns-in-Some-clause-read : goal.returns-in-Some-clause-read
-returns-in-Some-clause-read c =
+pub returns-clause-read : goal.returns-clause-read
+returns-clause-read c =
     command_of-taken _ c.in-Ok.ensures.fails ∙ ap (option_and_then (λ p. command_in p.0 p.1)) (sym c.in-Ok.ensures.matches) ∙ sym c.in-Some.ensures
 
-pub returns-clause-unknown : goal.returns-clause-unknown
-returns-clause-unknown c =
-    command_of-taken _ c.in-Ok.ensures.fails ∙ ap (option_and_then (λ p. command_in p.0 p.1)) (sym c.in-Ok.ensures.matches) ∙ sym c.in-None.ensures
+pub unreachable-requires : goal.unreachable-requires
+unreachable-requires c =
+    let none = command_of-taken _ c.in-Ok.ensures.fails ∙ ap (option_and_then (λ p. command_in p.0 p.1)) (sym c.in-Ok.ensures.matches) ∙ sym c.in-None.ensures in
+    let found = named _ c.in-Ok.ensures.fails in
+    let bad : None ≡ Some found.0 = sym none ∙ found.1 in
+    absurd (cc)
