@@ -1,11 +1,11 @@
 -- The pieces of a text, put together.
-use Rattle.std.proofs.Common.{◌≡◌, ℕ, ℤ, ◌+◌, ◌-◌, ◌/◌, ◌%◌, List, [], ◌∷◌, ◌++◌, length, ◌<◌, ◌≤◌, take, subst, slice_index, IsUtf8, reverse, Option, Some, None, refl, sym, ap, ◌∙◌, append_assoc, append-nil, length-append, decimal, arith}
+use Rattle.std.proofs.Common.{◌≡◌, ℕ, ℤ, ◌+◌, ◌-◌, ◌/◌, ◌%◌, List, [], ◌∷◌, ◌++◌, length, ◌<◌, ◌≤◌, take, subst, slice_index, IsUtf8, reverse, Option, Some, None, refl, sym, ap, ◌∙◌, append_assoc, length-append, decimal, arith}
 use Rattle.std.proofs.Math.Seq.{take-append_seam}
 use Rattle.std.proofs.lemmas.List.{reverse-append}
 use Rattle.std.proofs.lemmas.Str.{IsCharBoundary-from_take}
 use Rattle.std.specs.Prelude.{unsigned_abs, MatchOption, option_to_list}
 use Rattle.json_text.specs.declared.draft.Container.{Container}
-use Rattle.json_text.specs.Numbers.{sign_text, six_digits, millionths_text}
+use Rattle.json_text.specs.Numbers.{sign_text, millionths_text}
 use Rattle.json_text.specs.Values.{compact_text, location}
 use Rattle.json_text.specs.Drafts.{outer_of}
 

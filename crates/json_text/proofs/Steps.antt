@@ -6,7 +6,7 @@ use Rattle.json_text.specs.declared.draft.Container.TheVariants as container
 use Rattle.json_text.specs.declared.draft.Last.{Last}
 use Rattle.json_text.specs.declared.draft.Last.TheVariants as last
 use Rattle.json_text.specs.Values.{JsonValue, array, object, Items, no_items, item, Members, no_members, member, compact_text, items_text, later_items_text, members_text, later_members_text}
-use Rattle.json_text.specs.Drafts.{Draft, TakesValue, TakesKey, TakesEnd, comma_text, opening_bracket, closing_bracket, outer_of, begun, ended, with_key, with_text, with_value}
+use Rattle.json_text.specs.Drafts.{Draft, TakesValue, TakesKey, TakesEnd, comma_text, opening_bracket, closing_bracket, outer_of, begun, ended, with_key, with_value}
 use Rattle.json_text.specs.Parts.{Frame, in_array, in_object, Part, nothing, finished, items, members, key, last_of_items, last_of_members, frames_text, containers_of, draft_of, IsPart}
 
 -- the items, and one more behind them

@@ -1,6 +1,6 @@
 -- Whole arrays and objects: from the list of what is in them, and written part by part. This project's
 -- rule.
-use Rattle.std.specs.Prelude.{◌≡◌, ℕ, List, [], ◌∷◌, ◌++◌, Option, Some, None}
+use Rattle.std.specs.Prelude.{ℕ, List, [], ◌∷◌, Option, Some, None}
 use Rattle.json_text.specs.Values.{JsonValue, array, object, Items, no_items, item, Members, no_members, member}
 use Rattle.json_text.specs.Drafts.{Draft, with_key, with_value}
 
