@@ -14,4 +14,3 @@ pub mod Leaving
 pub mod RestrictionParts
 pub mod Spots
 pub mod TurnParts
-pub mod Laws

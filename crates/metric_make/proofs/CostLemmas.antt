@@ -17,7 +17,7 @@ use Rattle.edge_graph.specs.Segment.{Segment}
 use Rattle.edge_graph.specs.NetworkView.{NetworkView, vertices_of}
 use Rattle.edge_graph.specs.Turn.{exits}
 use Rattle.edge_graph.specs.Vertex.{Vertex, against, along, opposite, vertices}
-use Rattle.edge_graph.specs.Laws.{vertices-even, vertices-odd}
+use Rattle.edge_graph.proofs.VertexLemmas.{vertices-even, vertices-odd}
 use Rattle.list_lemmas.proofs.Drops.{drop-get}
 use Rattle.metric_make.specs.MetricOf.{bearing_along, bend_penalty, cost_at, penalty_at, vertex_cost}
 use Rattle.metric_make.specs.TurnParts.{turning_at, waiting_at}

@@ -15,7 +15,7 @@ use Rattle.plain_search.specs.declared.found.Found.{Found}
 use Rattle.edge_graph.specs.Segment.{Segment}
 use Rattle.edge_graph.specs.NetworkView.{NetworkView, graph_of}
 use Rattle.edge_graph.specs.Vertex.{Vertex, vertices}
-use Rattle.edge_graph.specs.Laws.{vertices-even}
+use Rattle.edge_graph.proofs.VertexLemmas.{vertices-even}
 use Rattle.reply_core.specs.Answers.{HasNoWalk, IsLeastAlong, StandsFor, legs_of, waypoint_of, waypoint_on}
 use Rattle.reply_core.specs.Legs.{IsRouteAnswer}
 use Rattle.reply_core.specs.Places.{IsPlaceOf}

@@ -2,7 +2,7 @@ use Rattle.std.proofs.Common.{length, ap, ◌∙◌, sym}
 use Rattle.std.proofs.lemmas.List.{length-map}
 use Rattle.search_graph.specs.Digraph.{Digraph}
 use Rattle.edge_graph.specs.NetworkView.{vertices_of}
-use Rattle.edge_graph.specs.Laws.{length-vertices}
+use Rattle.edge_graph.proofs.VertexLemmas.{length-vertices}
 use Rattle.metric_make.specs.MetricOf.{vertex_cost}
 use Rattle.metric_make.proofs.base_metric.base.Goals as goal
 

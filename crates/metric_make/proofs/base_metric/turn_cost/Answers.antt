@@ -1,7 +1,7 @@
 use Rattle.std.proofs.Common.{◌≡◌, arith}
 use Rattle.list_lemmas.proofs.Gets.{get_some}
 use Rattle.edge_graph.specs.NetworkView.{vertices_of}
-use Rattle.edge_graph.specs.Laws.{length-vertices}
+use Rattle.edge_graph.proofs.VertexLemmas.{length-vertices}
 use Rattle.std.specs.List.{slice_get}
 use Rattle.metric_make.specs.MetricOf.{penalty_at}
 use Rattle.metric_make.proofs.CostLemmas.{penalty-parts}

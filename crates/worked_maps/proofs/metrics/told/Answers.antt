@@ -1,7 +1,7 @@
 use Rattle.std.proofs.Common.{length, ap, arith}
 use Rattle.std.proofs.lemmas.List.{length-map}
 use Rattle.edge_graph.specs.NetworkView.{vertices_of}
-use Rattle.edge_graph.specs.Laws.{length-vertices}
+use Rattle.edge_graph.proofs.VertexLemmas.{length-vertices}
 use Rattle.metric_make.specs.MetricOf.{MetricView, turn_cost, vertex_cost}
 use Rattle.worked_maps.proofs.metrics.told.Goals as goal
 
