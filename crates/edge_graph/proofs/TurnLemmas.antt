@@ -27,7 +27,7 @@ use Rattle.edge_graph.proofs.DecisionLemmas.{pair-same}
 use Rattle.edge_graph.specs.Vertex.{Vertex, against, along, opposite, vertices}
 use Rattle.edge_graph.proofs.ChainLemmas.{IsChain-lower}
 use Rattle.edge_graph.proofs.Drops.{drop-get}
-use Rattle.edge_graph.proofs.VertexLemmas.{length-vertices, vertices-even, vertices-odd}
+use Rattle.edge_graph.specs.Laws.{length-vertices, vertices-even, vertices-odd}
 
 -- 1 for what is true
 abbrev pub bit : Bool → ℕ

@@ -7,31 +7,11 @@ use Rattle.std.proofs.lemmas.Bool.{cases_eq}
 use Rattle.std.proofs.lemmas.List.{length-map}
 use Rattle.way_profile.specs.Vehicle.{IsSpeed}
 use Rattle.edge_graph.specs.Rows.{AreRows, no_street, segment_in, segments_in, street_at}
+use Rattle.edge_graph.specs.Laws.{length-vertices, vertices-even, vertices-odd}
 use Rattle.edge_graph.specs.Segment.{Segment}
 use Rattle.edge_graph.specs.Vertex.{Vertex, along, against, vertices}
 use Rattle.edge_graph.specs.declared.roads.Row.{Row}
 use Rattle.edge_graph.specs.declared.streets.Street.{Street}
-
-pub vertices-even : (segments : List Segment) (k : ℕ) (s : Segment) (v : ℕ) → slice_get segments k ≡ Some s → v ≡ 2 * k → slice_get (vertices segments) v ≡ Some (along s)
-vertices-even [] k s v e h = cc
-vertices-even (s0 ∷ segments) zero s zero e h = ap (option_map along) e
-vertices-even (s0 ∷ segments) zero s (suc v) e h = absurd (omega arith)
-vertices-even (s0 ∷ segments) (suc k) s zero e h = absurd (omega arith)
-vertices-even (s0 ∷ segments) (suc k) s (suc zero) e h = absurd (omega arith)
-vertices-even (s0 ∷ segments) (suc k) s (suc (suc v)) e h = vertices-even segments k s v e (omega arith)
-
-pub vertices-odd : (segments : List Segment) (k : ℕ) (s : Segment) (v : ℕ) → slice_get segments k ≡ Some s → v ≡ 2 * k + 1 → slice_get (vertices segments) v ≡ Some (against s)
-vertices-odd [] k s v e h = cc
-vertices-odd (s0 ∷ segments) zero s zero e h = absurd (omega arith)
-vertices-odd (s0 ∷ segments) zero s (suc zero) e h = ap (option_map against) e
-vertices-odd (s0 ∷ segments) zero s (suc (suc v)) e h = absurd (omega arith)
-vertices-odd (s0 ∷ segments) (suc k) s zero e h = absurd (omega arith)
-vertices-odd (s0 ∷ segments) (suc k) s (suc zero) e h = absurd (omega arith)
-vertices-odd (s0 ∷ segments) (suc k) s (suc (suc v)) e h = vertices-odd segments k s v e (omega arith)
-
-pub length-vertices : (segments : List Segment) → length (vertices segments) ≡ 2 * length segments
-length-vertices [] = omega arith
-length-vertices (s ∷ segments) = omega (arith, length-vertices segments)
 
 -- the rows and the segments are as many
 pub length-rows : (streets : List Street) (rows : List Row) (segments : List Segment) → segments_in streets rows ≡ segments → length rows ≡ length segments

@@ -7,7 +7,7 @@ use Rattle.edge_graph.specs.Fans.{AreFans, fan_in}
 use Rattle.edge_graph.specs.Vertex.{vertices}
 use Rattle.edge_graph.specs.declared.fans.Fan.{Fan}
 use Rattle.edge_graph.proofs.FanLemmas.{AreFans-add, AreFans-skip, AreFans-start, fan-few, field-at}
-use Rattle.edge_graph.proofs.VertexLemmas.{length-vertices}
+use Rattle.edge_graph.specs.Laws.{length-vertices}
 use Rattle.edge_graph.proofs.fans.fans_of.Goals as goal
 
 pub loop-v-init : goal.loop-v-init

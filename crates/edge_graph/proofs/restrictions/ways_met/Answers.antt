@@ -9,7 +9,7 @@ use Rattle.edge_graph.specs.RestrictionParts.{pair_eq}
 use Rattle.edge_graph.specs.Vertex.{Vertex, vertices}
 use Rattle.edge_graph.proofs.FanLemmas.{field-at}
 use Rattle.edge_graph.proofs.RuleLemmas.{HaveMet, begins, begins-vertices, met-add, met-skip}
-use Rattle.edge_graph.proofs.VertexLemmas.{length-vertices}
+use Rattle.edge_graph.specs.Laws.{length-vertices}
 use Rattle.edge_graph.proofs.restrictions.ways_met.Goals as goal
 
 pub loop-v-init : goal.loop-v-init

@@ -11,7 +11,7 @@ use Rattle.edge_graph.specs.Vertex.{opposite, vertices}
 use Rattle.edge_graph.specs.declared.fans.Fan.{Fan}
 use Rattle.edge_graph.proofs.FanLemmas.{field-at}
 use Rattle.edge_graph.proofs.TurnLemmas.{bit, exits-leaving, opposite-get}
-use Rattle.edge_graph.proofs.VertexLemmas.{length-vertices}
+use Rattle.edge_graph.specs.Laws.{length-vertices}
 use Rattle.edge_graph.proofs.turn_lists.exits_of.Goals as goal
 
 -- the fan at the head counts the exits and the way back

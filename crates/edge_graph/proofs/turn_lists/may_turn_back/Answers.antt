@@ -7,7 +7,7 @@ use Rattle.edge_graph.specs.Restrictions.{is_forbidden_at}
 use Rattle.edge_graph.specs.Vertex.{opposite, vertices}
 use Rattle.edge_graph.proofs.FanLemmas.{field-at}
 use Rattle.edge_graph.proofs.TurnLemmas.{both-ways, may_turn_back-at}
-use Rattle.edge_graph.proofs.VertexLemmas.{length-vertices}
+use Rattle.edge_graph.specs.Laws.{length-vertices}
 use Rattle.edge_graph.proofs.turn_lists.may_turn_back.Goals as goal
 
 pub permitted-requires : goal.permitted-requires

@@ -6,7 +6,7 @@ use Rattle.edge_graph.specs.Turn.{exits}
 use Rattle.edge_graph.specs.Vertex.{vertices}
 use Rattle.edge_graph.proofs.FanLemmas.{field-at}
 use Rattle.edge_graph.proofs.TurnLemmas.{must_turn_back-at}
-use Rattle.edge_graph.proofs.VertexLemmas.{length-vertices}
+use Rattle.edge_graph.specs.Laws.{length-vertices}
 use Rattle.edge_graph.proofs.turn_lists.must_turn_back.Goals as goal
 
 pub returns-then-exit_count-eq0 : goal.returns-then-exit_count-eq0

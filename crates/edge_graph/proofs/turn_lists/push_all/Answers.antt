@@ -9,7 +9,7 @@ use Rattle.edge_graph.specs.Vertex.{vertices}
 use Rattle.edge_graph.specs.declared.fans.Fan.{Fan}
 use Rattle.edge_graph.proofs.FanLemmas.{field-at}
 use Rattle.edge_graph.proofs.TurnLemmas.{IsLeft-ahead, IsLeft-done, IsLeft-next, both-ways, turns_onto_all-at}
-use Rattle.edge_graph.proofs.VertexLemmas.{length-vertices}
+use Rattle.edge_graph.specs.Laws.{length-vertices}
 use Rattle.edge_graph.proofs.turn_lists.push_all.Goals.{then-is_other+in_ok-push, else-is_other}
 use Rattle.edge_graph.proofs.turn_lists.push_all.Goals as goal
 

@@ -3,7 +3,7 @@ use Rattle.std.specs.Result.{OnOk}
 use Rattle.std.proofs.lemmas.List.{append-nil}
 use Rattle.edge_graph.specs.Vertex.{opposite, vertices}
 use Rattle.list_lemmas.proofs.Gets.{get_is}
-use Rattle.edge_graph.proofs.VertexLemmas.{length-vertices}
+use Rattle.edge_graph.specs.Laws.{length-vertices}
 use Rattle.edge_graph.proofs.FanLemmas.{field-at}
 use Rattle.edge_graph.proofs.TurnLemmas.{both-ways, turns-back, turns-none, turns-on}
 use Rattle.edge_graph.proofs.turn_lists.push_turns.Goals as goal

@@ -8,7 +8,7 @@ use Rattle.edge_graph.specs.Segment.{Segment}
 use Rattle.edge_graph.specs.Turn.{turns, turns_from}
 use Rattle.edge_graph.specs.Vertex.{vertices}
 use Rattle.edge_graph.proofs.TurnLemmas.{no-rows, turns-all, turns-end, turns-step}
-use Rattle.edge_graph.proofs.VertexLemmas.{length-vertices}
+use Rattle.edge_graph.specs.Laws.{length-vertices}
 use Rattle.edge_graph.proofs.turn_lists.turn_list.Goals as goal
 
 -- the turns from one more vertex are listed

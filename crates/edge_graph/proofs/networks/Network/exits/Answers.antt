@@ -4,7 +4,7 @@ use Rattle.edge_graph.specs.NetworkView.{NetworkView}
 use Rattle.edge_graph.specs.Segment.{Segment}
 use Rattle.edge_graph.specs.Turn.{exits}
 use Rattle.edge_graph.specs.Vertex.{vertices}
-use Rattle.edge_graph.proofs.VertexLemmas.{length-vertices}
+use Rattle.edge_graph.specs.Laws.{length-vertices}
 use Rattle.edge_graph.proofs.networks.Network.exits.Goals as goal
 
 pub index-requires : goal.index-requires
