@@ -4,7 +4,7 @@ ghost use Rattle.std.specs.Prelude.{◌≡◌, ℕ, IfNone, IfSome, ◌*◌, ◌
 ghost use Rattle.std.specs.List.{slice_get};
 ghost use Rattle.edge_graph.specs.BuildCause.{IsBuildFault, IsWithinLimits};
 ghost use Rattle.edge_graph.specs.Leaving.{AreLeaving};
-ghost use Rattle.edge_graph.specs.NetworkView.{graph_of, network_of, turn_graph, vertices_of};
+ghost use Rattle.edge_graph.specs.NetworkView.{graph_of, network_of, vertices_of};
 ghost use Rattle.edge_graph.specs.Restrictions.{applied_rules};
 ghost use Rattle.edge_graph.specs.Turn.{exits, turns};
 ghost use Rattle.turn_rules.specs.Rules.{rules_of};
@@ -13,7 +13,6 @@ ghost use Rattle.edge_graph.specs.Segment.{segments};
 ghost use Rattle.edge_graph.specs.Fans.{AreExits, AreFans};
 ghost use Rattle.geo_integer.specs.Position.{position_of};
 ghost use Rattle.geo_integer.specs.Project.{position_at};
-ghost use Rattle.search_graph.specs.Digraph.{IsArc};
 ghost use Rattle.search_graph.specs.Faults.{AllInRange};
 ghost use Rattle.way_profile.specs.Vehicle.{IsSpeed};
 
@@ -240,21 +239,6 @@ impl Network {
         ensures few { result ≤ 2 ^ 26 }
     {
         self.graph.arcs()
-    }
-
-    /// The number of the turn from vertex `d` to vertex `e`, or None where that is none.
-    pub fn turn(&self, d: u32, e: u32) -> Option<u32>
-        requires { d < 2 * length self.now.segments }
-        ensures some { IfSome result (λ i. IsArc (turn_graph self.now) i d e) }
-        ensures none { IfNone result ((i : ℕ) → IsArc (turn_graph self.now) i d e → ⊥) }
-    {
-        for i in self.graph.out(d) {
-            let (_, head) = self.graph.arc(*i);
-            if head == e {
-                return Some(*i);
-            }
-        }
-        None
     }
 
     /// The graph of the vertices, whose arcs are the turns: arc i is turn i. The turns are numbered from 0
