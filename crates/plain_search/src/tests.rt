@@ -66,7 +66,9 @@ fn weights(alloc: Global, graph: &Graph) -> Result<Weights<DurLen>, AllocError>
     requires { (graph.now.vertices ≡ 7) × (length graph.now.arcs ≡ 10) }
     ensures { IfOk result (IsWeighting durlen_ops graph.now) }
 {
-    Ok(small_weights(graph, vertex_costs(alloc)?, arc_costs(alloc)?))
+    let vertex = vertex_costs(alloc)?;
+    let arc = arc_costs(alloc)?;
+    Ok(small_weights(graph, vertex, arc))
 }
 
 fn start(vertex: u32, cost: DurLen) -> Start<DurLen>
