@@ -1,12 +1,16 @@
 -- Lines put behind what stands in the output.
 use Rattle.std.proofs.Common.{◌≡◌, ◌≤◌, ℕ, List, [], ◌∷◌, ◌++◌, ◌⊎◌, ⊎_elim, inl, inr, Option, Some, None, Result, Ok, Err, OnErr, IsErrOf, refl, ap, sym, ◌∙◌, subst, append_assoc}
 use Rattle.std.specs.Io.KnownBytes.{Appends}
-use Rattle.line_session.specs.Outside.{FilesView, InputView, OutputView, FilesRose, InputRose, OutputRose, outside, Closes}
-use Rattle.line_session.specs.Stopping.{ToldPart}
+use Rattle.road_io.specs.Faults.{FilesRose, InputRose, OutputRose}
+use Rattle.road_io.specs.Outside.{outside}
+use Rattle.road_io.specs.Putting.{Closes}
+use Rattle.road_io.specs.Views.{FilesView, InputView, OutputView}
+use Rattle.line_session.specs.Stopping.{InputFailed, OutputFailed, ToldAll, TookTooMuch}
 use Rattle.road_base.specs.declared.program_status.Status.{Status}
 use Rattle.road_base.specs.declared.program_status.Status.TheVariants as status
 use Rattle.road_io.specs.FailedNames.{AppendsNames, TellsFailed, TellsRead}
-use Rattle.road_io.specs.Faults.{HasFileCause, Rose, rose_since}
+use Rattle.road_io.specs.FaultLaws.{rose_since}
+use Rattle.road_io.specs.Faults.{HasFileCause, Rose}
 use Rattle.road_io.specs.declared.failures.FileFault.{FileFault}
 use Rattle.road_io.specs.declared.failures.FileFault.TheVariants as file
 use Rattle.road_io.specs.Told.{IsContent, appends_then, appends_front_then}
@@ -15,7 +19,11 @@ use Rattle.line_session.specs.Publication.{Publication, opening}
 use Rattle.opl_read.specs.Objects.{opl_objects}
 use Rattle.road_base.specs.declared.osm_objects.Object.{Object}
 use Rattle.map_loading.specs.Counting.{check_text, counts_of}
-use Rattle.road_router.specs.Ending.{AreBegun, AreRead, Begun, BegunFrom, CountedFront, Ends, EndsCheck, EndsCountOver, EndsFrom, EndsOver, EndsPut, IsCounted, IsExhausted, IsLeft, IsUnread, Refuses, answered, cannot_read, count_exhausted, count_refused, counted, exhausted, long_line, refused}
+use Rattle.road_router.specs.AskEnding.{Answering, EndsAsk, IsLong, long_line}
+use Rattle.road_router.specs.CheckEnding.{CountedFront, EndsCheck, IsCounted}
+use Rattle.road_router.specs.FileReads.{AreBegun, AreRead}
+use Rattle.road_router.specs.InnerEnds.{EndsCountOver, EndsFrom, EndsOver, EndsPut, IsLeft, answered, count_exhausted, count_refused, counted, exhausted, refused}
+use Rattle.road_router.specs.StoppedEarly.{IsExhausted, IsUnread, Refuses, cannot_read}
 use Rattle.map_loading.specs.Loading.{load_of, memory_line}
 
 -- what holds anyhow holds of a failure
@@ -28,15 +36,15 @@ closes_then before middle after part line put later (inl more) = inl (appends_th
 closes_then before middle after part line put later (inr more) =
     inr (rose_since before.faults middle.faults after.faults later more.0, appends_front_then before.written middle.written after.written part line put more.1)
 
--- a line behind a front of what is told
-pub begun_then : (first : Publication) (input : InputView) (before middle after : OutputView) (line : List ℕ)
-    → ToldPart first input before middle → before.faults ≤ middle.faults → Closes middle after line → BegunFrom first input before after line
-begun_then first input before middle after line told later closes = record {
-  input = told.input;
-  is_input = told.is_input;
-  part = told.part;
-  front = told.front;
-  put = closes_then before middle after told.part line told.put later closes;
+-- the line for too much input, behind the replies
+pub long_then : (first : Publication) (input_before input_after : InputView) (before middle after : OutputView)
+    → TookTooMuch first input_before input_after before middle → before.faults ≤ middle.faults → Closes middle after long_line
+    → IsLong first input_before input_after before after
+long_then first input_before input_after before middle after too_much later closes = record {
+  text = too_much.text;
+  answered = too_much.answered;
+  put = closes_then before middle after too_much.text long_line too_much.put later closes;
+  steady = too_much.input_steady;
 }
 
 -- names told one behind another
@@ -155,11 +163,11 @@ exhausted_of first last input before after map settings begun put = record { fil
 -- where a file is not read, the run ends for it
 pub ends_of_left : (code : Status) (first last : FilesView) (input : InputView) (before after : OutputView) (map settings name : List ℕ) (fault : FileFault)
     → IsLeft first last map settings name fault → EndsLeft code before after name fault
-    → Ends code (outside first input before) (outside last input after) map settings
+    → EndsAsk code (outside first input before) (outside last input after) map settings
 ends_of_left code first last input before after map settings name fault left (by_failure failed is put) =
-    subst (λ (c : Status). Ends c (outside first input before) (outside last input after) map settings) (sym is) (inl (unread_of first last input before after map settings name fault left failed put))
+    subst (λ (c : Status). EndsAsk c (outside first input before) (outside last input after) map settings) (sym is) (inl (unread_of first last input before after map settings name fault left failed put))
 ends_of_left code first last input before after map settings name fault left (by_memory memory is put) =
-    subst (λ (c : Status). Ends c (outside first input before) (outside last input after) map settings) (sym is) (inl (exhausted_of first last input before after map settings (left.memory memory) put))
+    subst (λ (c : Status). EndsAsk c (outside first input before) (outside last input after) map settings) (sym is) (exhausted_of first last input before after map settings (left.memory memory) put)
 
 pub check_of_left : (code : Status) (first last : FilesView) (input : InputView) (before after : OutputView) (map settings name : List ℕ) (fault : FileFault)
     → IsLeft first last map settings name fault → EndsLeft code before after name fault
@@ -169,35 +177,31 @@ check_of_left code first last input before after map settings name fault left (b
 check_of_left code first last input before after map settings name fault left (by_memory memory is put) =
     subst (λ (c : Status). EndsCheck c (outside first input before) (outside last input after) map settings) (sym is) (exhausted_of first last input before after map settings (left.memory memory) put)
 
-begun_of : (first last : FilesView) (input_before input_after : InputView) (before after : OutputView) (map settings map_bytes settings_bytes line : List ℕ) (network : NetworkView)
+answering_of : (ended : Publication → Type 0) (first last : FilesView) (map settings map_bytes settings_bytes : List ℕ) (network : NetworkView)
     → AreRead first last map settings map_bytes settings_bytes → load_of map_bytes settings_bytes ≡ Ok network
-    → BegunFrom (opening network) input_before before after line → Begun (outside first input_before before) (outside last input_after after) map settings line
-begun_of first last input_before input_after before after map settings map_bytes settings_bytes line network read loads begun = record {
+    → ended (opening network) → Answering ended first last map settings
+answering_of ended first last map settings map_bytes settings_bytes network read loads ends = record {
   network = network;
   loaded = record { map_bytes = map_bytes; settings_bytes = settings_bytes; read = read; loads = loads };
-  begun = begun;
+  ends = ends;
 }
 
 -- how answering over what was loaded ends, by its status
 ends_from : (code : Status) (first last : FilesView) (input_before input_after : InputView) (before after : OutputView) (map settings map_bytes settings_bytes : List ℕ) (network : NetworkView)
     → AreRead first last map settings map_bytes settings_bytes → load_of map_bytes settings_bytes ≡ Ok network
     → EndsFrom code (opening network) input_before input_after before after
-    → Ends code (outside first input_before before) (outside last input_after after) map settings
+    → EndsAsk code (outside first input_before before) (outside last input_after after) map settings
 ends_from status.Ok first last input_before input_after before after map settings map_bytes settings_bytes network read loads h = (
   record { files = read.steady; input = h.0; output = h.1 },
-  record {
-    network = network;
-    loaded = record { map_bytes = map_bytes; settings_bytes = settings_bytes; read = read; loads = loads };
-    told = h.2;
-  },
+  answering_of (λ (p : Publication). ToldAll p input_before input_after before after) first last map settings map_bytes settings_bytes network read loads h.2,
 )
 ends_from status.Outside first last input_before input_after before after map settings map_bytes settings_bytes network read loads h =
-    inr (h.0, begun_of first last input_before input_after before after map settings map_bytes settings_bytes [] network read loads h.1)
+    inr (answering_of (λ (p : Publication). InputFailed p input_before input_after before after ⊎ OutputFailed p input_before input_after before after) first last map settings map_bytes settings_bytes network read loads h)
 ends_from status.Words first last input_before input_after before after map settings map_bytes settings_bytes network read loads h = absurd h
 ends_from status.Refused first last input_before input_after before after map settings map_bytes settings_bytes network read loads h =
-    inr (h.0, begun_of first last input_before input_after before after map settings map_bytes settings_bytes long_line network read loads h.1)
+    inr (answering_of (λ (p : Publication). IsLong p input_before input_after before after) first last map settings map_bytes settings_bytes network read loads h)
 ends_from status.Memory first last input_before input_after before after map settings map_bytes settings_bytes network read loads h =
-    inr (begun_of first last input_before input_after before after map settings map_bytes settings_bytes memory_line network read loads h)
+    record { files = begun_both first last map settings map_bytes settings_bytes read; input = h.0; put = h.1 }
 
 refuses_of : (first last : FilesView) (input_before input_after : InputView) (before after : OutputView) (map settings map_bytes settings_bytes line : List ℕ)
     → AreRead first last map settings map_bytes settings_bytes → load_of map_bytes settings_bytes ≡ Err line
@@ -213,15 +217,15 @@ refuses_of first last input_before input_after before after map settings map_byt
 pub ends_of_read : (code : Status) (first last : FilesView) (input_before input_after : InputView) (before after : OutputView) (map settings map_bytes settings_bytes : List ℕ)
     → AreRead first last map settings map_bytes settings_bytes
     → EndsOver code (load_of map_bytes settings_bytes) input_before input_after before after
-    → Ends code (outside first input_before before) (outside last input_after after) map settings
+    → EndsAsk code (outside first input_before before) (outside last input_after after) map settings
 ends_of_read code first last input_before input_after before after map settings map_bytes settings_bytes read (answered network loads from) =
     ends_from code first last input_before input_after before after map settings map_bytes settings_bytes network read loads from
 ends_of_read code first last input_before input_after before after map settings map_bytes settings_bytes read (refused line refuses is untaken put) =
-    subst (λ (c : Status). Ends c (outside first input_before before) (outside last input_after after) map settings) (sym is)
+    subst (λ (c : Status). EndsAsk c (outside first input_before before) (outside last input_after after) map settings) (sym is)
     (inl (refuses_of first last input_before input_after before after map settings map_bytes settings_bytes line read refuses untaken put))
 ends_of_read code first last input_before input_after before after map settings map_bytes settings_bytes read (exhausted is untaken put) =
-    subst (λ (c : Status). Ends c (outside first input_before before) (outside last input_after after) map settings) (sym is)
-    (inl (record { files = begun_both first last map settings map_bytes settings_bytes read; input = untaken; put = put }))
+    subst (λ (c : Status). EndsAsk c (outside first input_before before) (outside last input_after after) map settings) (sym is)
+    (record { files = begun_both first last map settings map_bytes settings_bytes read; input = untaken; put = put })
 
 counted_of : (first last : FilesView) (map settings map_bytes settings_bytes : List ℕ) (objects : List Object) (network : NetworkView)
     → AreRead first last map settings map_bytes settings_bytes → opl_objects map_bytes ≡ Ok objects → load_of map_bytes settings_bytes ≡ Ok network
@@ -269,3 +273,14 @@ pub check_outside : (code : Status) (first last : FilesView) (input : InputView)
 check_outside code first last input before after map settings ends is =
     let h : EndsCheck status.Outside (outside first input before) (outside last input after) map settings = subst (λ (c : Status). EndsCheck c (outside first input before) (outside last input after) map settings) is ends in
     ⊎_elim (λ (unread : IsUnread (outside first input before) (outside last input after) map settings). inl unread.failed.rose) (λ (rest : OutputRose before after × CountedFront (outside first input before) (outside last input after) map settings). inr (inr rest.0)) h
+
+-- and so does a run that answers
+pub ask_outside : (code : Status) (first last : FilesView) (input_before input_after : InputView) (before after : OutputView) (map settings : List ℕ)
+    → EndsAsk code (outside first input_before before) (outside last input_after after) map settings
+    → code ≡ status.Outside → FilesRose first last ⊎ (InputRose input_before input_after ⊎ OutputRose before after)
+ask_outside code first last input_before input_after before after map settings ends is =
+    let h : EndsAsk status.Outside (outside first input_before before) (outside last input_after after) map settings = subst (λ (c : Status). EndsAsk c (outside first input_before before) (outside last input_after after) map settings) is ends in
+    elim h [
+      | inl unread ↦ inl unread.failed.rose
+      | inr answering ↦ elim answering.ends [ inl failed ↦ inr (inl failed.rose) | inr failed ↦ inr (inr failed.rose) ]
+    ]

@@ -3,52 +3,36 @@
 //!
 //! `running::run` does all that the program does over what is handed in, and its contract is the program's
 //! theorem: `specs/Ending` says what stands in the output, by the status, and what each status comes from.
-//! `main` makes the real things and calls it.
+//! `main` makes the real things and runs on them; what it answers only a run can make.
 #![tactic(auto)]
 
+#[cfg(test)]
+mod edge_tests;
+mod endings;
 mod real_files;
 mod real_streams;
+mod retrying;
 mod running;
 #[cfg(test)]
 mod tests;
+mod typed_words;
 
+use endings::{Ended, run_to_end};
 use real_files::SystemFiles;
 use real_streams::{Reading, Writing};
-use road_base::Status;
 use road_io::{NoDoors, OpenGate};
-use running::run;
-use std::process::ExitCode;
-use std::{env, io};
+use std::io;
+use typed_words::typed_words_of;
 
-fn main(rt: HostRuntime) -> ExitCode {
-    let words = match words(&rt) {
-        Ok(words) => words,
-        Err(error) if error.kind() == io::ErrorKind::OutOfMemory => {
-            return ExitCode::from(Status::Memory.exit_code());
-        }
-        // Words that are no text make no command.
-        Err(_) => Vec::new(rt.alloc()),
-    };
-    let status = run(
+fn main(rt: HostRuntime) -> Ended {
+    run_to_end(
         &rt,
         rt.alloc(),
-        words.as_slice(),
+        typed_words_of(&rt),
         &mut SystemFiles::of(&rt),
         &mut Reading::of(rt.reader()),
         &mut Writing::of(io::writer(&rt)),
         &mut NoDoors::new(),
         &OpenGate,
-    );
-    ExitCode::from(status.exit_code())
-}
-
-// The words of the command line, without the program's name.
-fn words(rt: &HostRuntime) -> io::Result<Vec<String>> {
-    let mut all = Vec::new(rt.alloc());
-    for (place, word) in env::args(rt)?.enumerate() {
-        if place > 0 {
-            all.push(word)?;
-        }
-    }
-    Ok(all)
+    )
 }

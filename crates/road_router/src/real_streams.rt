@@ -1,5 +1,7 @@
-//! Readers and writers of std, as the program's input and output.
+//! Readers and writers of std, as the program's input and output. A call that a signal interrupts is tried
+//! again; any other failure is a fault.
 
+use crate::retrying::{read_retrying, write_retrying};
 use road_io::{Failed, Sink, Source};
 use std::io::{Read, Write};
 
@@ -25,16 +27,12 @@ impl<R: Read + Drop> Reading<R> {
 impl<R: Read + Drop> Source for Reading<R> {
     ghost use Rattle.road_io.specs.Sides.{no_sink_side};
 
-    ghost left = { λ s. R.remaining s.reader };
-
-    ghost faults = { λ s. s.faults };
-
-    ghost taken = { λ s. s.taken };
+    ghost view = { λ s. record { left = R.remaining s.reader; taken = s.taken; faults = s.faults } };
 
     ghost beside = { λ _. no_sink_side };
 
     fn take(&mut self, into: &mut [u8]) -> Result<usize, Failed> {
-        match self.reader.read(into) {
+        match read_retrying(&mut self.reader, into) {
             Ok(count) => {
                 self.taken = self.taken.saturating_add(count as u64);
                 Ok(count)
@@ -64,14 +62,12 @@ impl<W: Write + Drop> Writing<W> {
 impl<W: Write + Drop> Sink for Writing<W> {
     ghost use Rattle.road_io.specs.Sides.{no_source_side};
 
-    ghost written = { λ s. W.contents s.writer };
-
-    ghost faults = { λ s. s.faults };
+    ghost view = { λ s. record { written = W.contents s.writer; faults = s.faults } };
 
     ghost beside = { λ _. no_source_side };
 
     fn put(&mut self, bytes: &[u8]) -> Result<usize, Failed> {
-        match self.writer.write(bytes) {
+        match write_retrying(&mut self.writer, bytes) {
             Ok(count) if count > 0 || bytes.is_empty() => Ok(count),
             _ => {
                 self.faults = self.faults.saturating_add(1);

@@ -2,12 +2,19 @@
 
 ghost use Rattle.std.specs.Prelude.{◌≡◌, ◌⊎◌, ◌≤◌, map, string_bytes, IfOk, IfErr, OnOk, OnErr};
 ghost use Rattle.std.specs.Io.KnownBytes.{Appends};
-ghost use Rattle.line_session.specs.Outside.{InputView, outside, files_view, input_view, output_view, Closes};
-ghost use Rattle.road_io.specs.Faults.{HasCause, Rose};
+ghost use Rattle.road_io.specs.Outside.{outside};
+ghost use Rattle.road_io.specs.Putting.{Closes};
+ghost use Rattle.road_io.specs.Views.{InputView};
+ghost use Rattle.road_io.specs.Faults.{FilesRose, HasCause, InputRose, OutputRose};
 ghost use Rattle.road_io.specs.Told.{AppendsFront};
 ghost use Rattle.command_words.specs.Commands.{command_of};
 ghost use Rattle.map_loading.specs.Counting.{check_text};
-ghost use Rattle.road_router.specs.Ending.{AreRead, Ends, EndsCheck, EndsCountOver, EndsFrom, EndsOver, EndsPut, EndsRun, IsLeft, cannot_read};
+ghost use Rattle.road_router.specs.AskEnding.{EndsAsk};
+ghost use Rattle.road_router.specs.CheckEnding.{EndsCheck};
+ghost use Rattle.road_router.specs.Ending.{EndsRun};
+ghost use Rattle.road_router.specs.FileReads.{AreRead};
+ghost use Rattle.road_router.specs.InnerEnds.{EndsCountOver, EndsFrom, EndsOver, EndsPut, IsLeft};
+ghost use Rattle.road_router.specs.StoppedEarly.{cannot_read};
 ghost use Rattle.map_loading.specs.Loading.{load_of, memory_line};
 
 use command_words::{Words, WordsFault, read_words};
@@ -29,8 +36,8 @@ const LONG: &[u8] = b"input too long\n";
 
 // Puts the line on which a run ends. Where the output fails, the status stays.
 fn close<O: Sink>(output: &mut O, line: &[u8])
-    ensures put { Closes (output_view (O.written output.old) (O.faults output.old)) (output_view (O.written output.new) (O.faults output.new)) line.now }
-    ensures later { O.faults output.old ≤ O.faults output.new }
+    ensures put { Closes (O.view output.old) (O.view output.new) line.now }
+    ensures later { (O.view output.old).faults ≤ (O.view output.new).faults }
 {
     match put_all(output, line) {
         Ok(()) => (),
@@ -40,19 +47,19 @@ fn close<O: Sink>(output: &mut O, line: &[u8])
 
 // Puts the line on a file that could not be read.
 fn put_unread<O: Sink>(output: &mut O, name: &str) -> Result<(), Failed>
-    ensures all { OnOk result (Appends (O.written output.old) (O.written output.new) (cannot_read name.now)) }
-    ensures part { OnErr result (AppendsFront (O.written output.old) (O.written output.new) (cannot_read name.now)) }
-    ensures cause { HasCause (O.faults output.old) (O.faults output.new) result }
+    ensures all { OnOk result (Appends (O.view output.old).written (O.view output.new).written (cannot_read name.now)) }
+    ensures part { OnErr result (AppendsFront (O.view output.old).written (O.view output.new).written (cannot_read name.now)) }
+    ensures cause { HasCause (O.view output.old).faults (O.view output.new).faults result }
 {
     put_all(output, b"cannot read ")?;
     put_all(output, name.as_bytes())?;
     put_all(output, b"\n")
 }
 
-// Ends a run for which there was no memory.
-fn end_exhausted<O: Sink>(output: &mut O) -> Status
+/// Ends a run for which there was no memory.
+pub fn end_exhausted<O: Sink>(output: &mut O) -> Status
     ensures status { result ≡ Status.Memory }
-    ensures put { Closes (output_view (O.written output.old) (O.faults output.old)) (output_view (O.written output.new) (O.faults output.new)) memory_line }
+    ensures put { Closes (O.view output.old) (O.view output.new) memory_line }
 {
     close(output, MEMORY);
     Status::Memory
@@ -60,8 +67,8 @@ fn end_exhausted<O: Sink>(output: &mut O) -> Status
 
 // Ends a run for a file that could not be read, or for which there was no memory.
 fn end_unread<O: Sink>(output: &mut O, name: &str, fault: FileFault) -> Status
-    ensures failed { fault ≡ FileFault.Failed → (result ≡ Status.Outside) × Closes (output_view (O.written output.old) (O.faults output.old)) (output_view (O.written output.new) (O.faults output.new)) (cannot_read name.now) }
-    ensures memory { fault ≡ FileFault.Memory → (result ≡ Status.Memory) × Closes (output_view (O.written output.old) (O.faults output.old)) (output_view (O.written output.new) (O.faults output.new)) memory_line }
+    ensures failed { fault ≡ FileFault.Failed → (result ≡ Status.Outside) × Closes (O.view output.old) (O.view output.new) (cannot_read name.now) }
+    ensures memory { fault ≡ FileFault.Memory → (result ≡ Status.Memory) × Closes (O.view output.old) (O.view output.new) memory_line }
 {
     match fault {
         FileFault::Failed => {
@@ -79,8 +86,8 @@ fn answer<I: Source, O: Sink>(
     input: &mut I,
     output: &mut O,
 ) -> Status
-    ensures { EndsFrom result published.now (input_view (I.left input.old) (I.taken input.old) (I.faults input.old)) (input_view (I.left input.new) (I.taken input.new) (I.faults input.new))
-        (output_view (O.written output.old) (O.faults output.old)) (output_view (O.written output.new) (O.faults output.new)) }
+    ensures { EndsFrom result published.now (I.view input.old) (I.view input.new)
+        (O.view output.old) (O.view output.new) }
 {
     match answer_lines(alloc, published, input, output) {
         Ok(()) => Status::Ok,
@@ -97,7 +104,7 @@ fn answer<I: Source, O: Sink>(
 // Ends a run whose data are refused on this line.
 fn end_refused<O: Sink>(output: &mut O, line: Text) -> Status
     ensures status { result ≡ Status.Refused }
-    ensures put { Closes (output_view (O.written output.old) (O.faults output.old)) (output_view (O.written output.new) (O.faults output.new)) line }
+    ensures put { Closes (O.view output.old) (O.view output.new) line }
 {
     close(output, line.as_bytes());
     Status::Refused
@@ -117,8 +124,8 @@ fn read_files<'a, F: Files>(
     settings: &'a str,
     files: &mut F,
 ) -> Result<(Vec<u8>, Vec<u8>), Unread<'a>>
-    ensures read { IfOk result (λ both. AreRead (files_view (F.content files.old) (F.reads files.old) (F.failed_names files.old) (F.faults files.old)) (files_view (F.content files.new) (F.reads files.new) (F.failed_names files.new) (F.faults files.new)) map.now settings.now both.0.items both.1.items) }
-    ensures unread { IfErr result (λ u. IsLeft (files_view (F.content files.old) (F.reads files.old) (F.failed_names files.old) (F.faults files.old)) (files_view (F.content files.new) (F.reads files.new) (F.failed_names files.new) (F.faults files.new)) map.now settings.now u.name.now u.fault) }
+    ensures read { IfOk result (λ both. AreRead (F.view files.old) (F.view files.new) map.now settings.now both.0.items both.1.items) }
+    ensures unread { IfErr result (λ u. IsLeft (F.view files.old) (F.view files.new) map.now settings.now u.name.now u.fault) }
 {
     let map_bytes = match files.read(alloc, map) {
         Ok(bytes) => bytes,
@@ -141,8 +148,8 @@ fn ask_over<I: Source, O: Sink>(
     input: &mut I,
     output: &mut O,
 ) -> Status
-    ensures { EndsOver result (load_of map.items settings.now) (input_view (I.left input.old) (I.taken input.old) (I.faults input.old)) (input_view (I.left input.new) (I.taken input.new) (I.faults input.new))
-        (output_view (O.written output.old) (O.faults output.old)) (output_view (O.written output.new) (O.faults output.new)) }
+    ensures { EndsOver result (load_of map.items settings.now) (I.view input.old) (I.view input.new)
+        (O.view output.old) (O.view output.new) }
 {
     match load(alloc, map, settings) {
         Ok(loaded) => match Published::opening(alloc, loaded.network) {
@@ -164,8 +171,8 @@ pub fn ask<F: Files, I: Source, O: Sink>(
     input: &mut I,
     output: &mut O,
 ) -> Status
-    ensures ends { Ends result (outside (files_view (F.content files.old) (F.reads files.old) (F.failed_names files.old) (F.faults files.old)) (input_view (I.left input.old) (I.taken input.old) (I.faults input.old)) (output_view (O.written output.old) (O.faults output.old)))
-        (outside (files_view (F.content files.new) (F.reads files.new) (F.failed_names files.new) (F.faults files.new)) (input_view (I.left input.new) (I.taken input.new) (I.faults input.new)) (output_view (O.written output.new) (O.faults output.new))) map.now settings.now }
+    ensures ends { EndsAsk result (outside (F.view files.old) (I.view input.old) (O.view output.old))
+        (outside (F.view files.new) (I.view input.new) (O.view output.new)) map.now settings.now }
 {
     match read_files(alloc, map, settings, files) {
         Ok((map, settings)) => ask_over(alloc, map, settings.as_slice(), input, output),
@@ -175,7 +182,7 @@ pub fn ask<F: Files, I: Source, O: Sink>(
 
 // Puts the counts of what was loaded.
 fn put_counts<O: Sink>(alloc: Global, loaded: &Loaded, output: &mut O) -> Status
-    ensures { EndsPut result (check_text loaded.now.objects loaded.now.network) (output_view (O.written output.old) (O.faults output.old)) (output_view (O.written output.new) (O.faults output.new)) }
+    ensures { EndsPut result (check_text loaded.now.objects loaded.now.network) (O.view output.old) (O.view output.new) }
 {
     let Ok(text) = check_text(alloc, loaded.objects, &loaded.network) else {
         return end_exhausted(output);
@@ -188,7 +195,7 @@ fn put_counts<O: Sink>(alloc: Global, loaded: &Loaded, output: &mut O) -> Status
 
 // Counts over a map and settings that were read, or refuses them.
 fn check_over<O: Sink>(alloc: Global, map: Vec<u8>, settings: &[u8], output: &mut O) -> Status
-    ensures { EndsCountOver result map.items settings.now (output_view (O.written output.old) (O.faults output.old)) (output_view (O.written output.new) (O.faults output.new)) }
+    ensures { EndsCountOver result map.items settings.now (O.view output.old) (O.view output.new) }
 {
     match load(alloc, map, settings) {
         Ok(loaded) => put_counts(alloc, &loaded, output),
@@ -207,8 +214,8 @@ pub fn check<F: Files, O: Sink>(
     files: &mut F,
     output: &mut O,
 ) -> Status
-    ensures ends { (input : InputView) → EndsCheck result (outside (files_view (F.content files.old) (F.reads files.old) (F.failed_names files.old) (F.faults files.old)) input (output_view (O.written output.old) (O.faults output.old)))
-        (outside (files_view (F.content files.new) (F.reads files.new) (F.failed_names files.new) (F.faults files.new)) input (output_view (O.written output.new) (O.faults output.new))) map.now settings.now }
+    ensures ends { (input : InputView) → EndsCheck result (outside (F.view files.old) input (O.view output.old))
+        (outside (F.view files.new) input (O.view output.new)) map.now settings.now }
 {
     match read_files(alloc, map, settings, files) {
         Ok((map, settings)) => check_over(alloc, map, settings.as_slice(), output),
@@ -230,14 +237,11 @@ pub fn run<R, F: Files, I: Source, O: Sink, N: Doors, G: Gate>(
     doors: &mut N,
     gate: &G,
 ) -> Status
-    ensures ends { EndsRun (command_of (map string_bytes words.now)) result (outside (files_view (F.content files.old) (F.reads files.old) (F.failed_names files.old) (F.faults files.old)) (input_view (I.left input.old) (I.taken input.old) (I.faults input.old)) (output_view (O.written output.old) (O.faults output.old)))
-        (outside (files_view (F.content files.new) (F.reads files.new) (F.failed_names files.new) (F.faults files.new)) (input_view (I.left input.new) (I.taken input.new) (I.faults input.new)) (output_view (O.written output.new) (O.faults output.new))) }
-    ensures outside { result ≡ Status.Outside → Rose (F.faults files.old) (F.faults files.new) ⊎ (Rose (I.faults input.old) (I.faults input.new) ⊎ Rose (O.faults output.old) (O.faults output.new)) }
+    ensures ends { EndsRun (command_of (map string_bytes words.now)) result (outside (F.view files.old) (I.view input.old) (O.view output.old))
+        (outside (F.view files.new) (I.view input.new) (O.view output.new)) }
+    ensures outside { result ≡ Status.Outside → FilesRose (F.view files.old) (F.view files.new) ⊎ (InputRose (I.view input.old) (I.view input.new) ⊎ OutputRose (O.view output.old) (O.view output.new)) }
     ensures doors { N.view doors.new ≡ N.view doors.old }
 {
-    let _ = rt;
-    let _ = doors;
-    let _ = gate;
     match read_words(alloc, words) {
         Ok(Words::Check(map, settings)) => check(alloc, map, settings, files, output),
         Ok(Words::Ask(map, settings)) => ask(alloc, map, settings, files, input, output),

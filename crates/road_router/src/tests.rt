@@ -35,28 +35,20 @@ const BLOCK: &[u8] =
 
 const STREET: &[u8] = b"n1 x0 y0\nn2 x0.001 y0\nw20 Thighway=residential,oneway=yes Nn1,n2\n";
 
-// Four streets that meet at a fifth node; its other texts have a restriction, or a signal there.
-const STAR: &[u8] =
-    b"n1 x0.001 y0\nn2 x0.002 y0.001\nn3 x0.001 y0.002\nn4 x0 y0.001\nn5 x0.001 y0.001\nw1 Thighway=residential,name=South Nn1,n5\nw2 Thighway=residential Nn5,n2\nw3 Thighway=residential Nn5,n3\nw4 Thighway=residential,name=West Nn4,n5\n";
+// Four streets that meet at a fifth node, between whose tags and the streets `star` puts them together.
+const STAR_NODES: &[u8] =
+    b"n1 x0.001 y0\nn2 x0.002 y0.001\nn3 x0.001 y0.002\nn4 x0 y0.001\nn5 x0.001 y0.001";
 
-const STAR_NO_LEFT: &[u8] =
-    b"n1 x0.001 y0\nn2 x0.002 y0.001\nn3 x0.001 y0.002\nn4 x0 y0.001\nn5 x0.001 y0.001\nw1 Thighway=residential Nn1,n5\nw2 Thighway=residential Nn5,n2\nw3 Thighway=residential Nn5,n3\nw4 Thighway=residential Nn4,n5\nr1 Ttype=restriction,restriction=no_left_turn Mw1@from,n5@via,w4@to\n";
-
-const STAR_STRAIGHT: &[u8] =
-    b"n1 x0.001 y0\nn2 x0.002 y0.001\nn3 x0.001 y0.002\nn4 x0 y0.001\nn5 x0.001 y0.001\nw1 Thighway=residential Nn1,n5\nw2 Thighway=residential Nn5,n2\nw3 Thighway=residential Nn5,n3\nw4 Thighway=residential Nn4,n5\nr1 Ttype=restriction,restriction=only_straight_on Mw1@from,n5@via,w3@to\n";
-
-const STAR_EXCEPTED: &[u8] =
-    b"n1 x0.001 y0\nn2 x0.002 y0.001\nn3 x0.001 y0.002\nn4 x0 y0.001\nn5 x0.001 y0.001\nw1 Thighway=residential Nn1,n5\nw2 Thighway=residential Nn5,n2\nw3 Thighway=residential Nn5,n3\nw4 Thighway=residential Nn4,n5\nr1 Ttype=restriction,restriction=no_left_turn,except=bus;motorcar Mw1@from,n5@via,w4@to\n";
-
-const STAR_STRAIGHT_EXCEPTED: &[u8] =
-    b"n1 x0.001 y0\nn2 x0.002 y0.001\nn3 x0.001 y0.002\nn4 x0 y0.001\nn5 x0.001 y0.001\nw1 Thighway=residential Nn1,n5\nw2 Thighway=residential Nn5,n2\nw3 Thighway=residential Nn5,n3\nw4 Thighway=residential Nn4,n5\nr1 Ttype=restriction,restriction=only_straight_on,except=bus;motorcar Mw1@from,n5@via,w3@to\n";
-
-const STAR_SIGNAL: &[u8] =
-    b"n1 x0.001 y0\nn2 x0.002 y0.001\nn3 x0.001 y0.002\nn4 x0 y0.001\nn5 x0.001 y0.001 Thighway=traffic_signals\nw1 Thighway=residential Nn1,n5\nw2 Thighway=residential Nn5,n2\nw3 Thighway=residential Nn5,n3\nw4 Thighway=residential Nn4,n5\n";
+const STAR_WAYS: &[u8] =
+    b"\nw1 Thighway=residential Nn1,n5\nw2 Thighway=residential Nn5,n2\nw3 Thighway=residential Nn5,n3\nw4 Thighway=residential Nn4,n5\n";
 
 // The town with an escaped name, a changeset and a way that was deleted, and the town with a barrier.
 const TOWN_NAMED: &[u8] =
     b"n1 x0 y0\nn2 x0 y0.001\nn3 x0.001 y0.001\nw10 Nn1,n2,n3 v7 Tname=Main%20%Street%d%,highway=residential\nc7 k2 d0 uAnn\nw11 dD Thighway=residential Nn1,n3\n";
+
+// The town with a name that is to follow.
+const TOWN_UNNAMED: &[u8] =
+    b"n1 x0 y0\nn2 x0 y0.001\nn3 x0.001 y0.001\nw10 Nn1,n2,n3 Thighway=residential,name=";
 
 const TOWN_BARRED: &[u8] =
     b"n1 x0 y0\nn2 x0 y0.001 Tbarrier=bollard\nn3 x0.001 y0.001\nw10 Thighway=residential Nn1,n2,n3\n";
@@ -362,77 +354,27 @@ fn a_map_without_roads_has_no_place(rt: HostRuntime) -> Result<(), AllocError> {
     Ok(())
 }
 
+// Whether the run is done and what it puts has this text in it.
+fn shows(rt: &HostRuntime, case: Case<'_>, expected: &str) -> Result<bool, AllocError> {
+    let (status, output) = ask(rt, case)?;
+    let told = std::str::from_utf8(output.as_bytes()).unwrap_or("");
+    Ok(status == Status::Ok && told.contains(expected))
+}
+
 // What replies over these maps and settings have in them, worked out by hand.
 #[test]
 fn routes_over_small_maps(rt: HostRuntime) -> Result<(), AllocError> {
-    let cases: [(&[u8], &[u8], &[u8], &str); 12] = [
+    let no_route = "{\"code\":\"NoRoute\",\"data_version\":\"0\",\"message\":\"leg 0\"}";
+    let cases: [(&[u8], &[u8], &[u8], &str); 4] = [
         (
             BLOCK,
             SETTINGS,
             BACKWARDS,
             "[{\"distance\":388.8,\"duration\":34.6,",
         ),
-        (
-            STREET,
-            SETTINGS,
-            BACKWARDS,
-            "{\"code\":\"NoRoute\",\"data_version\":\"0\",\"message\":\"leg 0\"}",
-        ),
-        (
-            STAR,
-            SETTINGS,
-            SOUTH_TO_WEST,
-            "[{\"distance\":222.2,\"duration\":19.8,",
-        ),
-        (
-            STAR_NO_LEFT,
-            SETTINGS,
-            SOUTH_TO_WEST,
-            "[{\"distance\":444.4,\"duration\":59.6,",
-        ),
-        (
-            STAR_STRAIGHT,
-            SETTINGS,
-            SOUTH_TO_WEST,
-            "[{\"distance\":444.4,\"duration\":59.6,",
-        ),
-        (
-            STAR_EXCEPTED,
-            SETTINGS,
-            SOUTH_TO_WEST,
-            "[{\"distance\":222.2,\"duration\":19.8,",
-        ),
-        (
-            STAR_STRAIGHT_EXCEPTED,
-            SETTINGS,
-            SOUTH_TO_WEST,
-            "[{\"distance\":222.2,\"duration\":19.8,",
-        ),
-        (
-            STAR_SIGNAL,
-            SIGNALS,
-            SOUTH_TO_WEST,
-            "[{\"distance\":222.2,\"duration\":22.8,",
-        ),
-        (
-            STAR,
-            LEFTS,
-            SOUTH_TO_WEST,
-            "[{\"distance\":222.2,\"duration\":24.8,",
-        ),
-        (
-            STAR_SIGNAL,
-            SIGNALS_AND_LEFTS,
-            SOUTH_TO_WEST,
-            "[{\"distance\":222.2,\"duration\":27.8,",
-        ),
+        (STREET, SETTINGS, BACKWARDS, no_route),
         (TOWN_NAMED, SETTINGS, LINE, "\"name\":\"Main Street\\r\""),
-        (
-            TOWN_BARRED,
-            BARRIERS,
-            LINE,
-            "{\"code\":\"NoRoute\",\"data_version\":\"0\",\"message\":\"leg 0\"}",
-        ),
+        (TOWN_BARRED, BARRIERS, LINE, no_route),
     ];
     for (map, settings, input, expected) in cases {
         let case = Case {
@@ -440,11 +382,130 @@ fn routes_over_small_maps(rt: HostRuntime) -> Result<(), AllocError> {
             settings,
             ..Case::over_town(input)
         };
-        let (status, output) = ask(&rt, case)?;
-        assert_eq!(rt; status, Status::Ok);
-        let told = std::str::from_utf8(output.as_bytes()).unwrap_or("");
-        assert!(rt; told.contains(expected));
+        assert!(rt; shows(&rt, case, expected)?, "{expected}");
     }
+    Ok(())
+}
+
+// The star with these tags at its fifth node, and this restriction.
+fn star(alloc: Global, tags: &[u8], restriction: &[u8]) -> Result<Vec<u8>, AllocError> {
+    let mut map = Vec::from_slice(alloc, STAR_NODES)?;
+    map.extend_from_slice(tags)?;
+    map.extend_from_slice(STAR_WAYS)?;
+    map.extend_from_slice(restriction)?;
+    Ok(map)
+}
+
+// Routes from the south to the west over the star, straight or round the north, worked out by hand.
+#[test]
+fn routes_over_a_star(rt: HostRuntime) -> Result<(), AllocError> {
+    let left = "[{\"distance\":222.2,\"duration\":19.8,";
+    let round = "[{\"distance\":444.4,\"duration\":59.6,";
+    let cases: [(&[u8], &[u8], &[u8], &str); 8] = [
+        (b"", b"", SETTINGS, left),
+        (
+            b"",
+            b"r1 Ttype=restriction,restriction=no_left_turn Mw1@from,n5@via,w4@to\n",
+            SETTINGS,
+            round,
+        ),
+        (
+            b"",
+            b"r1 Ttype=restriction,restriction=only_straight_on Mw1@from,n5@via,w3@to\n",
+            SETTINGS,
+            round,
+        ),
+        (
+            b"",
+            b"r1 Ttype=restriction,restriction=no_left_turn,except=bus;motorcar Mw1@from,n5@via,w4@to\n",
+            SETTINGS,
+            left,
+        ),
+        (
+            b"",
+            b"r1 Ttype=restriction,restriction=only_straight_on,except=bus;motorcar Mw1@from,n5@via,w3@to\n",
+            SETTINGS,
+            left,
+        ),
+        (
+            b" Thighway=traffic_signals",
+            b"",
+            SIGNALS,
+            "[{\"distance\":222.2,\"duration\":22.8,",
+        ),
+        (b"", b"", LEFTS, "[{\"distance\":222.2,\"duration\":24.8,"),
+        (
+            b" Thighway=traffic_signals",
+            b"",
+            SIGNALS_AND_LEFTS,
+            "[{\"distance\":222.2,\"duration\":27.8,",
+        ),
+    ];
+    for (tags, restriction, settings, expected) in cases {
+        let map = star(rt.alloc(), tags, restriction)?;
+        let case = Case {
+            map: map.as_slice(),
+            settings,
+            ..Case::over_town(SOUTH_TO_WEST)
+        };
+        assert!(rt; shows(&rt, case, expected)?, "{expected}");
+    }
+    Ok(())
+}
+
+// A text so many times, behind another.
+fn repeated(alloc: Global, front: &[u8], text: &[u8], times: usize) -> Result<Vec<u8>, AllocError> {
+    let mut all = Vec::from_slice(alloc, front)?;
+    for _ in 0..times {
+        all.extend_from_slice(text)?;
+    }
+    Ok(all)
+}
+
+// Want of memory may be told anywhere; where memory is ample it isn't, however long the replies are.
+#[test]
+fn a_route_through_500_places_is_answered(rt: HostRuntime) -> Result<(), AllocError> {
+    let first = b"GET /route/v1/car/0,0;0.001,0.001";
+    let mut input = repeated(rt.alloc(), first, b";0,0;0.001,0.001", 249)?;
+    input.extend_from_slice(b"?overview=false")?;
+    let case = Case {
+        room: 131_072,
+        ..Case::over_town(input.as_slice())
+    };
+    // 499 legs of 222.2 metres and 19.8 seconds.
+    assert!(rt; shows(&rt, case, "[{\"distance\":110877.8,\"duration\":9880.2,")?);
+    Ok(())
+}
+
+#[test]
+fn a_thousand_lines_are_answered(rt: HostRuntime) -> Result<(), AllocError> {
+    let input = repeated(rt.alloc(), b"", LINE, 1000)?;
+    let case = Case {
+        room: 1_048_576,
+        ..Case::over_town(input.as_slice())
+    };
+    let (status, output) = ask(&rt, case)?;
+    assert_eq!(rt; status, Status::Ok);
+    assert!(rt; output.as_bytes() == repeated(rt.alloc(), b"", REPLY, 1000)?.as_slice());
+    Ok(())
+}
+
+#[test]
+fn a_long_street_name_is_told(rt: HostRuntime) -> Result<(), AllocError> {
+    let map = repeated(rt.alloc(), TOWN_UNNAMED, b"LongStreet", 600)?;
+    let expected = repeated(rt.alloc(), b"\"name\":\"", b"LongStreet", 600)?;
+    let case = Case {
+        map: map.as_slice(),
+        room: 16_384,
+        ..Case::over_town(LINE)
+    };
+    assert!(rt;
+        shows(
+            &rt,
+            case,
+            std::str::from_utf8(expected.as_slice()).unwrap_or("-")
+        )?
+    );
     Ok(())
 }
 

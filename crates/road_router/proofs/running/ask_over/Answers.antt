@@ -1,19 +1,19 @@
 -- How answering ends is how the run ends; a refusal is the one of loading.
 use Rattle.std.proofs.Common.{ℕ, List, refl, subst}
-use Rattle.line_session.specs.Outside.{input_view, output_view, Closes}
+use Rattle.road_io.specs.Putting.{Closes}
 use Rattle.line_session.specs.Publication.{Publication}
-use Rattle.road_router.specs.Ending.{EndsFrom, answered, refused}
+use Rattle.road_router.specs.InnerEnds.{EndsFrom, answered, refused}
 use Rattle.road_router.proofs.running.ask_over.Goals as goal
 
 pub returns-in-Ok-opening : goal.returns-in-Ok-opening
 returns-in-Ok-opening g c =
     answered c.in-Ok.loaded.network c.in-Ok.ensures.loaded (subst (λ (p : Publication). EndsFrom c.answer.result p
-    (input_view (g.I.Source.left c.args.input.now) (g.I.Source.taken c.args.input.now) (g.I.Source.faults c.args.input.now))
-    (input_view (g.I.Source.left c.answer.new.input) (g.I.Source.taken c.answer.new.input) (g.I.Source.faults c.answer.new.input))
-    (output_view (g.O.Sink.written c.args.output.now) (g.O.Sink.faults c.args.output.now))
-    (output_view (g.O.Sink.written c.answer.new.output) (g.O.Sink.faults c.answer.new.output))) c.in-Ok-opening.ensures c.answer.ensures)
+    (g.I.Source.view c.args.input.now)
+    (g.I.Source.view c.answer.new.input)
+    (g.O.Sink.view c.args.output.now)
+    (g.O.Sink.view c.answer.new.output)) c.in-Ok-opening.ensures c.answer.ensures)
 
 pub returns-in-Err-Refused : goal.returns-in-Err-Refused
 returns-in-Err-Refused g c =
     refused c.in-Err-Refused.line (rw c.in-Err-Refused.field-0-is at c.in-Err-Refused.ensures.fault) c.end_refused.ensures.status refl
-    (subst (λ (l : List ℕ). Closes (output_view (g.O.Sink.written c.args.output.now) (g.O.Sink.faults c.args.output.now)) (output_view (g.O.Sink.written c.end_refused.new.output) (g.O.Sink.faults c.end_refused.new.output)) l) c.in-Err-Refused.line-is c.end_refused.ensures.put)
+    (subst (λ (l : List ℕ). Closes (g.O.Sink.view c.args.output.now) (g.O.Sink.view c.end_refused.new.output) l) c.in-Err-Refused.line-is c.end_refused.ensures.put)

@@ -1,0 +1,57 @@
+-- Serves this crate's own functions alone, and is no part of what `run` promises: how the steps of a run
+-- end, each by what it knows itself.
+use Rattle.std.specs.Prelude.{◌≡◌, ℕ, ◌⊎◌, List, [], Result, Ok, Err}
+use Rattle.std.specs.Io.KnownBytes.{Appends}
+use Rattle.edge_graph.specs.NetworkView.{NetworkView}
+use Rattle.road_io.specs.Faults.{OutputRose}
+use Rattle.road_io.specs.Putting.{Closes}
+use Rattle.road_io.specs.Views.{FilesView, InputView, OutputView}
+use Rattle.line_session.specs.Publication.{Publication, opening}
+use Rattle.line_session.specs.Stopping.{InputFailed, OutputFailed, ToldAll}
+use Rattle.map_loading.specs.Counting.{check_text, counts_of}
+use Rattle.map_loading.specs.Loading.{load_of, memory_line}
+use Rattle.opl_read.specs.Objects.{opl_objects}
+use Rattle.road_base.specs.declared.osm_objects.Object.{Object}
+use Rattle.road_base.specs.declared.program_status.Status.{Status}
+use Rattle.road_base.specs.declared.program_status.Status.TheVariants as status
+use Rattle.road_io.specs.declared.failures.FileFault.{FileFault}
+use Rattle.road_io.specs.declared.failures.FileFault.TheVariants as file
+use Rattle.road_io.specs.Told.{AppendsFront}
+use Rattle.road_router.specs.AskEnding.{IsLong}
+use Rattle.road_router.specs.FileReads.{AreBegun, IsFailed}
+
+-- of the two files the one of this name was not read, with this fault
+pub record IsLeft (before after : FilesView) (map settings name : List ℕ) (fault : FileFault) : Type 0 where
+  pub failed : fault ≡ file.Failed → IsFailed before after map settings name
+  pub memory : fault ≡ file.Memory → AreBegun before after map settings
+
+-- the end of answering lines from a publication on, by the status
+abbrev pub EndsFrom : Status → Publication → InputView → InputView → OutputView → OutputView → Type 0
+EndsFrom status.Ok first input_before input_after before after =
+    (input_after.faults ≡ input_before.faults) × (after.faults ≡ before.faults) × ToldAll first input_before input_after before after
+EndsFrom status.Outside first input_before input_after before after =
+    InputFailed first input_before input_after before after ⊎ OutputFailed first input_before input_after before after
+EndsFrom status.Words first input_before input_after before after = ⊥
+EndsFrom status.Refused first input_before input_after before after = IsLong first input_before input_after before after
+EndsFrom status.Memory first input_before input_after before after = (input_after ≡ input_before) × Closes before after memory_line
+
+-- the end of answering lines over what a map and settings are loaded as; where that was not begun, nothing
+-- was taken of the input
+pub data EndsOver (code : Status) (loaded : Result NetworkView (List ℕ)) (input_before input_after : InputView) (before after : OutputView) : Type 0 where
+  answered : (network : NetworkView) → loaded ≡ Ok network → EndsFrom code (opening network) input_before input_after before after → EndsOver code loaded input_before input_after before after
+  refused : (line : List ℕ) → loaded ≡ Err line → code ≡ status.Refused → input_after ≡ input_before → Closes before after line → EndsOver code loaded input_before input_after before after
+  exhausted : code ≡ status.Memory → input_after ≡ input_before → Closes before after memory_line → EndsOver code loaded input_before input_after before after
+
+-- the end of putting a text, by its status
+abbrev pub EndsPut : Status → List ℕ → OutputView → OutputView → Type 0
+EndsPut status.Ok text before after = (after.faults ≡ before.faults) × Appends before.written after.written text
+EndsPut status.Outside text before after = OutputRose before after × AppendsFront before.written after.written text
+EndsPut status.Words text before after = ⊥
+EndsPut status.Refused text before after = ⊥
+EndsPut status.Memory text before after = Closes before after memory_line
+
+-- the end of counting over the bytes of a map and settings
+pub data EndsCountOver (code : Status) (map settings : List ℕ) (before after : OutputView) : Type 0 where
+  counted : (objects : List Object) (network : NetworkView) → opl_objects map ≡ Ok objects → load_of map settings ≡ Ok network → EndsPut code (check_text (counts_of objects) network) before after → EndsCountOver code map settings before after
+  count_refused : (line : List ℕ) → load_of map settings ≡ Err line → code ≡ status.Refused → Closes before after line → EndsCountOver code map settings before after
+  count_exhausted : code ≡ status.Memory → Closes before after memory_line → EndsCountOver code map settings before after

@@ -1,0 +1,61 @@
+//! A run with the words as they were read, and how the system is told of its end.
+
+ghost use Rattle.std.specs.Prelude.{◌≡◌, map, string_bytes, MatchResult};
+ghost use Rattle.std.specs.Process.{exit_status};
+ghost use Rattle.command_words.specs.Commands.{command_of};
+ghost use Rattle.road_io.specs.Outside.{outside};
+ghost use Rattle.road_base.specs.StatusCode.{code_of};
+ghost use Rattle.road_router.specs.Ending.{EndsRun, EndsWordless};
+
+use crate::running::{end_exhausted, run};
+use road_base::Status;
+use road_io::{Doors, Files, Gate, Sink, Source};
+use std::alloc::{AllocError, Global};
+use std::io::Eprint;
+use std::process::{ExitCode, Termination};
+
+/// How a run ended. Only a run makes one, so what `main` answers is how its run ended.
+#[derive(Drop)]
+pub struct Ended {
+    status: Status,
+}
+
+impl Termination for Ended {
+    fn report<R: Eprint>(self, _rt: &R) -> ExitCode
+        ensures { exit_status result ≡ code_of self.status }
+    {
+        ExitCode::from(self.status.exit_code())
+    }
+}
+
+/// Runs on the words as they were read. Where there was no memory for them, it ends for that.
+pub fn run_to_end<R, F: Files, I: Source, O: Sink, N: Doors, G: Gate>(
+    rt: &R,
+    alloc: Global,
+    words: Result<Vec<String>, AllocError>,
+    files: &mut F,
+    input: &mut I,
+    output: &mut O,
+    doors: &mut N,
+    gate: &G,
+) -> Ended
+    ensures ends { MatchResult words (λ all. EndsRun (command_of (map string_bytes all.items)) result.status (outside (F.view files.old) (I.view input.old) (O.view output.old))
+        (outside (F.view files.new) (I.view input.new) (O.view output.new)))
+        (λ _. EndsWordless result.status (outside (F.view files.old) (I.view input.old) (O.view output.old))
+        (outside (F.view files.new) (I.view input.new) (O.view output.new))) }
+{
+    let status = match words {
+        Ok(words) => run(
+            rt,
+            alloc,
+            words.as_slice(),
+            files,
+            input,
+            output,
+            doors,
+            gate,
+        ),
+        Err(_) => end_exhausted(output),
+    };
+    Ended { status }
+}
