@@ -1,6 +1,8 @@
 -- What a search over the parts answers is what one over the whole would.
-use Rattle.std.proofs.Common.{◌≡◌, ℕ, inl, inr, List, [], ◌∷◌, ◌++◌, refl, sym, subst}
-use Rattle.list_lemmas.proofs.Singles.{Contains_one, only_one}
+use Rattle.std.proofs.Common.{◌≡◌, ℕ, zero, suc, ◌<◌, ◌↔◌, inl, inr, Some, List, [], ◌∷◌, ◌++◌, length, arith, refl, sym, subst}
+use Rattle.std.specs.List.{Contains, slice_get}
+use Rattle.list_lemmas.proofs.Gets.{Contains_get, get_Contains}
+use Rattle.std.proofs.lemmas.Option.{slice_get_within, same_Some}
 use Rattle.search_graph.specs.Costs.{CostOps, CostLaws, NoDearer}
 use Rattle.search_graph.specs.declared.ends.Start.{Start}
 use Rattle.search_graph.specs.Walks.{Chain, Paying}
@@ -11,6 +13,17 @@ use Rattle.step_search.specs.Paths.{IsPathTo, IsLeastPath, NoPathTo}
 use Rattle.cut_walks.specs.Cut.{Cut, IsCut, OverHop, Goes, Passes, MayEnd, IsWhole, IsOver, AreAlone, AreAcross}
 use Rattle.cut_walks.specs.Cutting.{over_valid, goes_from_pass, pass_from_goes, entered_begins}
 use Rattle.cut_walks.specs.Bounds.{Chain-ends, pass_from_path, path_from_pass}
+
+Contains_one : {X : Type 0} (x : X) → Contains (x ∷ []) x
+Contains_one x = Contains_get (x ∷ []) 0 x refl
+
+get_one : {X : Type 0} (x y : X) (k : ℕ) → slice_get (x ∷ []) k ≡ Some y → y ≡ x
+get_one {X} x y zero e = sym (same_Some x y e)
+get_one {X} x y (suc k) e = let lt : k < length {A = X} [] = slice_get_within [] k y e in absurd (omega arith)
+
+-- what a list of one element contains is that element
+pub only_one : {X : Type 0} (x y : X) → Contains (x ∷ []) y → y ≡ x
+only_one x y h = let g = get_Contains (x ∷ []) y h in get_one x y g.0 g.1
 
 cons_nil : (x : ℕ) (xs : List ℕ) → x ∷ xs ≡ [] → ⊥
 cons_nil x xs e = cc
