@@ -7,13 +7,9 @@ use Rattle.geo_integer.specs.Position.{position_of}
 use Rattle.road_places.specs.RoadMetric.{RoadMetric}
 use Rattle.road_walks.specs.FirstFailure.{IsFirstFailure}
 use Rattle.road_walks.specs.Legs.{IsBrokenLeg}
-use Rattle.road_walks.specs.declared.leg_faults.LegFault.{LegFault}
-use Rattle.road_walks.specs.declared.leg_faults.LegFault.TheVariants as leg
 use Rattle.snap_index.specs.Snapped.{IsSnapped, HasNoPlace}
 use Rattle.reply_core.specs.declared.lacks.Lack.{Lack}
 use Rattle.reply_core.specs.declared.lacks.Lack.TheVariants as lack
-use Rattle.reply_core.specs.declared.lacks.RouteFault.{RouteFault}
-use Rattle.reply_core.specs.declared.lacks.RouteFault.TheVariants as fault
 
 -- the place stands for the coordinate
 abbrev pub StandsFor : RoadMetric → Point → Place → Type 0
@@ -41,13 +37,3 @@ pub record IsBroken (road : RoadMetric) (coordinates : List Point) (number : ℕ
 abbrev pub IsLack : RoadMetric → List Point → Lack → Type 0
 IsLack road coordinates (lack.Segment number) = IsStray road coordinates number
 IsLack road coordinates (lack.Route number) = IsBroken road coordinates number
-
--- what a fault tells; want of memory tells nothing
-abbrev pub IsRouteFault : RoadMetric → List Point → RouteFault → Type 0
-IsRouteFault road coordinates (fault.Lacks what) = IsLack road coordinates what
-IsRouteFault road coordinates fault.Memory = Unit {0}
-
--- a fault of the legs as one of the request
-abbrev pub fault_of : LegFault → RouteFault
-fault_of (leg.NoWalk number) = fault.Lacks (lack.Route number)
-fault_of leg.Memory = fault.Memory

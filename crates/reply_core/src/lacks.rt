@@ -1,7 +1,7 @@
 //! What a request lacks under a metric.
 
 ghost use Rattle.std.specs.Prelude.{◌≡◌};
-ghost use Rattle.reply_core.specs.Lacks.{fault_of};
+ghost use Rattle.reply_core.specs.Faults.{fault_of};
 ghost use Rattle.reply_core.specs.declared.lacks.RouteFault.TheVariants.{Memory};
 
 use road_walks::LegFault;

@@ -10,7 +10,8 @@ ghost use Rattle.road_places.specs.RoadMetric.{road_of};
 ghost use Rattle.road_walks.specs.Legs.{AreAlong, AreLeastRoutes};
 ghost use Rattle.snap_index.specs.Ends.{all_ends};
 ghost use Rattle.reply_core.specs.Answers.{IsRouteReply, Refuses, lack_code, status_of, waypoints_of};
-ghost use Rattle.reply_core.specs.Lacks.{IsRouteFault, StandsFor};
+ghost use Rattle.reply_core.specs.Faults.{IsRouteFault};
+ghost use Rattle.reply_core.specs.Lacks.{StandsFor};
 ghost use Rattle.reply_core.specs.Texts.{found_text};
 ghost use Rattle.reply_core.specs.declared.answers.Code.TheVariants as code;
 

@@ -10,7 +10,7 @@ use Rattle.search_graph.specs.Durations.{durlen_ops, durlen_laws}
 use Rattle.list_lemmas.proofs.Gets.{Contains_push}
 use Rattle.plain_search.specs.declared.found.Found.{Found}
 use Rattle.road_places.specs.declared.walks.Route.{Route}
-use Rattle.road_walks.specs.Least.{IsCheapestOf, IsCheaperOf, route_of}
+use Rattle.road_walks.specs.Choosing.{IsCheapestOf, IsCheaperOf, route_of}
 
 -- a cost that is no dearer than another is no dearer than what that is no dearer than
 pub no_dearer-trans : (a b c : DurLen) → NoDearer durlen_ops a b → NoDearer durlen_ops b c → NoDearer durlen_ops a c

@@ -1,11 +1,14 @@
 -- How the least of walks comes from the least of parts of them.
-use Rattle.std.proofs.Common.{ℕ, inl, inr, List, Option, Some, None, sym, subst}
+use Rattle.std.proofs.Common.{ℕ, arith, inl, inr, List, Option, Some, None, sym, subst}
 use Rattle.search_graph.specs.declared.costs.DurLen.{DurLen}
 use Rattle.search_graph.specs.Costs.{NoDearer}
-use Rattle.search_graph.specs.Durations.{durlen_ops}
+use Rattle.search_graph.specs.Durations.{durlen_ops, durlen_laws}
+use Rattle.std.specs.Prelude.{IfSome}
+use Rattle.edge_graph.specs.NetworkView.{NetworkView}
 use Rattle.road_places.specs.RoadMetric.{RoadMetric}
 use Rattle.road_places.specs.declared.walks.Route.{Route}
-use Rattle.road_walks.specs.Least.{IsLeastOf, IsCheaperOf, Either, IsRouteAnswer}
+use Rattle.road_walks.specs.Choosing.{IsLeastOf, IsCheaperOf, Either}
+use Rattle.road_walks.specs.Least.{IsRouteAnswer, most_units}
 use Rattle.road_walks.proofs.CheapestLemmas.{no_dearer-trans}
 use Rattle.road_base.specs.declared.segments.Place.{Place}
 use Rattle.road_places.specs.Permitted.{IsAlongOne, IsByTurns}
@@ -44,3 +47,17 @@ module _ (P Q : List ℕ → DurLen → Type 0) where
 pub least-route : (road : RoadMetric) (p q : Place) (r : Option Route) → IsLeastOf (Either (IsAlongOne road.weights p q) (IsByTurns road p q)) r → IsRouteAnswer road p q r
 least-route road p q None h = h
 least-route road p q (Some r) h = record { permitted = h.0; least = h.1 }
+
+-- the cheaper of two that cost at most so much costs at most so much
+pub cheaper-within : (n : ℕ) (a b r : Option Route) → IsCheaperOf a b r → IfSome a (λ route. durlen_ops.units route.cost n) → IfSome b (λ route. durlen_ops.units route.cost n) → IfSome r (λ route. durlen_ops.units route.cost n)
+cheaper-within n None b r e h k = subst (λ (x : Option Route). IfSome x (λ route. durlen_ops.units route.cost n)) (sym e) k
+cheaper-within n (Some a) None r e h k = subst (λ (x : Option Route). IfSome x (λ route. durlen_ops.units route.cost n)) (sym e) h
+cheaper-within n (Some a) (Some b) r e h k = elim e [
+  | inl first ↦ subst (λ (x : Option Route). IfSome x (λ route. durlen_ops.units route.cost n)) (sym first.0) h
+  | inr second ↦ subst (λ (x : Option Route). IfSome x (λ route. durlen_ops.units route.cost n)) (sym second.0) k
+]
+
+-- what costs at most one unit costs at most the units of any network
+pub unit-within : (network : NetworkView) (o : Option Route) → IfSome o (λ route. durlen_ops.units route.cost 1) → IfSome o (λ route. durlen_ops.units route.cost (most_units network))
+unit-within network None h = tt
+unit-within network (Some route) h = durlen_laws.units_more route.cost 1 (most_units network) h (omega arith)

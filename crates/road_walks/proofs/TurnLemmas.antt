@@ -8,7 +8,10 @@ use Rattle.search_graph.specs.declared.costs.DurLen.{DurLen}
 use Rattle.search_graph.specs.declared.ends.Start.{Start}
 use Rattle.search_graph.specs.declared.ends.Target.{Target}
 use Rattle.search_graph.specs.Costs.{NoDearer}
-use Rattle.search_graph.specs.Durations.{durlen_ops}
+use Rattle.search_graph.specs.Durations.{durlen_ops, durlen_laws}
+use Rattle.search_graph.specs.WeightLaws.{least_walk_units}
+use Rattle.search_graph.specs.Weighted.{AreSmall}
+use Rattle.std.specs.Prelude.{IfSome}
 use Rattle.search_graph.specs.Walks.{IsBetween, IsLeastWalk}
 use Rattle.list_lemmas.proofs.Gets.{Contains_get, get_Contains, get_some}
 use Rattle.plain_search.specs.declared.found.Found.{Found}
@@ -20,7 +23,8 @@ use Rattle.road_places.specs.Places.{IsDirection, IsPlaceOn}
 use Rattle.road_places.specs.Permitted.{IsByTurns, IsStart, IsTarget}
 use Rattle.road_places.specs.RoadMetric.{RoadMetric, turn_graph}
 use Rattle.road_places.specs.declared.walks.Route.{Route}
-use Rattle.road_walks.specs.Least.{IsLeastOf, IsCheapestOf, route_of}
+use Rattle.road_walks.specs.Choosing.{IsLeastOf, IsCheapestOf, route_of}
+use Rattle.road_walks.specs.Least.{most_units}
 use Rattle.road_walks.proofs.CheapestLemmas.{no_dearer-trans}
 
 module _ (road : RoadMetric) (p q : Place) (starts : List (Start DurLen)) (targets : List (Target DurLen)) (are_starts : AreAll (IsStart road.weights p) starts) (are_targets : AreAll (IsTarget road.weights q) targets) where
@@ -106,6 +110,15 @@ module _ (road : RoadMetric) (p q : Place) (starts : List (Start DurLen)) (targe
     pub cheapest-least : (r : Option Route) → IsCheapestOf found r → IsLeastOf (IsByTurns road p q) r
     cheapest-least None h = λ walk d b. let a = answered walk d b in none-left h walk d b a.0 a.1 a.2
     cheapest-least (Some r) h = (is-by_turns r h.0.0 h.0.1 h.0.2, λ walk d b. let a = answered walk d b in no_dearer r h.1 walk d b a.0 a.1 a.2)
+
+    -- and it costs no more than the network's vertices allow
+    pub cheapest-bound : AreSmall durlen_ops (turn_graph road.network) road.weights → ((s : Start DurLen) → Contains starts s → durlen_ops.units s.cost 1) → ((t : Target DurLen) → Contains targets t → durlen_ops.units t.cost 1)
+        → (r : Option Route) → IsCheapestOf found r → IfSome r (λ route. durlen_ops.units route.cost (most_units road.network))
+    cheapest-bound small start_units target_units None h = tt
+    cheapest-bound small start_units target_units (Some r) h =
+        let t = target-of h.0.0 h.0.1 in
+        subst (λ (x : Route). durlen_ops.units x.cost (most_units road.network)) (sym h.0.2)
+        (least_walk_units durlen_laws (turn_graph road.network) road.weights small starts t.0 start_units (target_units t.0 t.1) h.0.0.walk h.0.0.cost t.2)
 
 module _ (road : RoadMetric) (p : Place) (on : IsPlaceOn road.network p) (unit : AreWithinUnit road.weights) where
   direction-within : (v : ℕ) → IsDirection p.segment v → v < 2 * length road.network.segments

@@ -1,3 +1,4 @@
+pub mod Choosing
 pub mod FirstFailure
 pub mod Least
 pub mod Legs

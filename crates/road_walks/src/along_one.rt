@@ -1,10 +1,10 @@
 //! Walks of one vertex, which lead from a place to one farther on along the same segment.
 
-ghost use Rattle.std.specs.Prelude.{◌≡◌, ◌+◌, ◌*◌, ◌^◌, ◌<◌, ◌≤◌, IfOk, length};
+ghost use Rattle.std.specs.Prelude.{◌≡◌, ◌+◌, ◌*◌, ◌^◌, ◌<◌, ◌≤◌, IfOk, IfSome, length};
 ghost use Rattle.search_graph.specs.Durations.{durlen_ops};
 ghost use Rattle.road_places.specs.Permitted.{IsAlong, IsAlongOne};
 ghost use Rattle.road_places.specs.Places.{IsDirection, before};
-ghost use Rattle.road_walks.specs.Least.{IsLeastOf};
+ghost use Rattle.road_walks.specs.Choosing.{IsLeastOf};
 
 use crate::cheapest::cheaper;
 use metric_make::BaseMetric;
@@ -24,7 +24,8 @@ pub(crate) fn along_one(
     requires in_range { 2 * from.segment + 1 < length base.now.weights.vertex }
     requires from { from.at ≤ 1024 }
     requires to { to.at ≤ 1024 }
-    ensures { IfOk result (IsLeastOf (IsAlongOne base.now.weights from to)) }
+    ensures least { IfOk result (IsLeastOf (IsAlongOne base.now.weights from to)) }
+    ensures unit { IfOk result (λ found. IfSome found (λ route. durlen_ops.units route.cost 1)) }
 {
     if from.segment != to.segment {
         return Ok(None);
@@ -47,7 +48,8 @@ fn along(
     requires ends { IsDirection to.segment vertex }
     requires from { from.at ≤ 1024 }
     requires to { to.at ≤ 1024 }
-    ensures { IfOk result (IsLeastOf (IsAlong base.now.weights from to vertex)) }
+    ensures least { IfOk result (IsLeastOf (IsAlong base.now.weights from to vertex)) }
+    ensures unit { IfOk result (λ found. IfSome found (λ route. durlen_ops.units route.cost 1)) }
 {
     let first = parts_along(from, vertex);
     let last = parts_along(to, vertex);
@@ -67,7 +69,8 @@ fn between(cost: DurLen, first: u32, last: u32) -> DurLen
     requires small { durlen_ops.units cost 1 }
     requires order { first ≤ last }
     requires within { last ≤ 1024 }
-    ensures { before cost last ≡ durlen_ops.plus (before cost first) result }
+    ensures value { before cost last ≡ durlen_ops.plus (before cost first) result }
+    ensures unit { durlen_ops.units result 1 }
 {
     before(cost, last).minus(before(cost, first))
 }

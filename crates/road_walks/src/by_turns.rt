@@ -1,13 +1,14 @@
 //! Walks of two or more vertices between two places.
 
-ghost use Rattle.std.specs.Prelude.{◌≡◌, ◌^◌, ◌<◌, IfOk, length};
+ghost use Rattle.std.specs.Prelude.{◌≡◌, ◌^◌, ◌<◌, IfOk, IfSome, length};
 ghost use Rattle.edge_graph.specs.NetworkView.{graph_of};
 ghost use Rattle.search_graph.specs.Durations.{durlen_ops};
 ghost use Rattle.search_graph.specs.Weighted.{IsWeighting};
 ghost use Rattle.road_places.specs.Permitted.{IsByTurns};
 ghost use Rattle.road_places.specs.Places.{IsPlaceOn};
 ghost use Rattle.road_places.specs.RoadMetric.{road_of};
-ghost use Rattle.road_walks.specs.Least.{IsLeastOf};
+ghost use Rattle.road_walks.specs.Choosing.{IsLeastOf};
+ghost use Rattle.road_walks.specs.Least.{most_units};
 
 use crate::cheapest::cheapest;
 use edge_graph::Network;
@@ -29,7 +30,8 @@ pub(crate) fn by_turns(
     requires few { length network.now.segments < 2 ^ 30 }
     requires from { IsPlaceOn network.now from }
     requires to { IsPlaceOn network.now to }
-    ensures { IfOk result (IsLeastOf (IsByTurns (road_of network.now base.now) from to)) }
+    ensures least { IfOk result (IsLeastOf (IsByTurns (road_of network.now base.now) from to)) }
+    ensures bound { IfOk result (λ found. IfSome found (λ route. durlen_ops.units route.cost (most_units network.now))) }
 {
     let starts = starts(alloc, base, from)?;
     let targets = targets(alloc, base, to)?;

@@ -1,7 +1,7 @@
 //! The cheaper of walks.
 
 ghost use Rattle.std.specs.Prelude.{◌≡◌, option_map};
-ghost use Rattle.road_walks.specs.Least.{IsCheaperOf, IsCheapestOf, route_of};
+ghost use Rattle.road_walks.specs.Choosing.{IsCheaperOf, IsCheapestOf, route_of};
 
 use plain_search::Found;
 use road_places::{Route, Walk};

@@ -1,4 +1,4 @@
--- The segments one by one, and the nearest of those so far.
+-- The crate's own: the segments one by one, and the nearest of those so far.
 use Rattle.std.specs.Prelude.{◌≡◌, ℕ, ◌<◌, ◌⊎◌, List, Some}
 use Rattle.std.specs.List.{slice_get}
 use Rattle.geo_integer.specs.Position.{Position, position_of}

@@ -3,8 +3,8 @@ use Rattle.road_base.specs.declared.segments.Place.{Place}
 use Rattle.search_graph.specs.declared.costs.DurLen.{DurLen}
 use Rattle.search_graph.specs.Digraph.{Weighting}
 use Rattle.road_places.specs.Permitted.{IsAlong, IsAlongOne}
-use Rattle.road_walks.specs.Least.{Either}
-use Rattle.road_walks.proofs.LeastLemmas.{least-cheaper, least-same}
+use Rattle.road_walks.specs.Choosing.{Either}
+use Rattle.road_walks.proofs.LeastLemmas.{cheaper-within, least-cheaper, least-same}
 use Rattle.road_walks.proofs.along_one.along_one.Goals as goal
 
 module _ (w : Weighting DurLen) (p q : Place) where
@@ -18,7 +18,11 @@ module _ (w : Weighting DurLen) (p q : Place) where
   ]
 
 -- the lesser of the two directions is the least of both
-pub returns : goal.returns
-returns c =
+pub returns-clause-least : goal.returns-clause-least
+returns-clause-least c =
     least-same _ _ (some-vertex c.args.base.now.weights c.args.from c.args.to) (which-vertex c.args.base.now.weights c.args.from c.args.to) c.cheaper.result
-    (least-cheaper _ _ c.in_ok-forward.forward c.in_ok-backward.backward c.cheaper.result c.cheaper.ensures c.in_ok-forward.ensures c.in_ok-backward.ensures)
+    (least-cheaper _ _ c.in_ok-forward.forward c.in_ok-backward.backward c.cheaper.result c.cheaper.ensures c.in_ok-forward.ensures.least c.in_ok-backward.ensures.least)
+
+-- and costs at most one unit
+pub returns-clause-unit : goal.returns-clause-unit
+returns-clause-unit c = cheaper-within 1 c.in_ok-forward.forward c.in_ok-backward.backward c.cheaper.result c.cheaper.ensures c.in_ok-forward.ensures.unit c.in_ok-backward.ensures.unit

@@ -1,4 +1,4 @@
-use Rattle.road_walks.specs.Least.{IsCheapestOf}
+use Rattle.road_walks.specs.Choosing.{IsCheapestOf}
 use Rattle.road_walks.proofs.cheapest.cheapest.Given as goal
 
 abbrev pub invariant-loop-one : goal.invariant-loop-one

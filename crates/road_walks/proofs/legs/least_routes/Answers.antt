@@ -21,7 +21,7 @@ returns-in-None-clause-err c =
     let test = c.loop-leg-test.true in
     first_failure (IsLeastAlong road) (HasWalk road) (HasNoWalk road) (legs_of places) c.loop-leg.routes.items k leg (λ a route r. (route.walk, route.cost, r.permitted)) c.loop-leg.invariant
     (leg-at places k nowhere (omega (arith, test)))
-    (no-walk road leg c.in_ok-route.field-0 c.in_ok-route.ensures c.in-None.is)
+    (no-walk road leg c.in_ok-route.field-0 c.in_ok-route.ensures.least c.in-None.is)
 
 -- one route more
 pub loop-leg-preserved : goal.loop-leg-preserved
@@ -35,7 +35,7 @@ loop-leg-preserved c =
     subst (λ (routes : List Route). AllZip (IsLeastAlong road) (take (k + 1) (legs_of places)) routes) (sym c.in_ok-push-in-Some.ensures.items)
     (all_zip-more (IsLeastAlong road) (legs_of places) c.loop-leg.routes.items k leg c.in-Some.route c.loop-leg.invariant
     (leg-at places k nowhere (omega (arith, test)))
-    (least-along road leg c.in_ok-route.field-0 c.in-Some.route c.in_ok-route.ensures c.in-Some.is))
+    (least-along road leg c.in_ok-route.field-0 c.in-Some.route c.in_ok-route.ensures.least c.in-Some.is))
 
 -- all legs
 pub returns-clause-along : goal.returns-clause-along
