@@ -10,9 +10,9 @@ ghost use Rattle.metric_make.specs.TurnParts.{turning_at, waiting_at};
 ghost use Rattle.search_graph.specs.Durations.{durlen_ops};
 ghost use Rattle.search_graph.specs.Weighted.{IsWeighting};
 
+use cost_lists::{CostList, FullCostList};
 use edge_graph::Network;
 use geo_integer::{bearing, length, modifier};
-use cost_lists::{CostList, FullCostList};
 use search_graph::{DurLen, Weights, small_weights};
 use std::alloc::{AllocError, Global};
 use std::marker::Model;
