@@ -1,0 +1,36 @@
+-- The least costs from the entries to the exits of each cell, in one list a level.
+use Rattle.std.specs.Prelude.{◌≡◌, ℕ, ◌+◌, ◌*◌, ◌-◌, ◌≤◌, List, length, Option, Some}
+use Rattle.std.specs.List.{slice_get, slice_range}
+use Rattle.search_graph.specs.Costs.{CostOps}
+use Rattle.search_graph.specs.Digraph.{Weighting}
+use Rattle.cell_frame.specs.declared.cells.Cell.{Cell}
+use Rattle.cell_frame.specs.Borders.{Framed, Holds, IsCell, at_cell}
+use Rattle.cell_frame.specs.Inside.{IsInsideValue}
+
+-- the least costs inside cell k from u to each of its exits, in their order
+pub record IsRow {C : Type 0} (ops : CostOps C) (f : Framed) (w : Weighting C) (k : Cell) (u : ℕ) (row : List (Option C)) : Type 0 where
+  pub size : length row ≡ length (at_cell f.exits k)
+  pub each : (j v : ℕ) (o : Option C) → slice_get (at_cell f.exits k) j ≡ Some v → slice_get row j ≡ Some o → IsInsideValue ops f.graph w (Holds f.cells k) u v o
+
+-- The cliques of one level: that of cell n begins at place n of `first`, an entry's row behind another's.
+pub record Rows (C : Type 0) : Type 0 where
+  pub first : List ℕ
+  pub values : List (Option C)
+
+-- row i of clique n, whose rows are as long as `width` says
+pub record HasRow {C : Type 0} (rows : Rows C) (n i width : ℕ) (row : List (Option C)) : Type 0 where
+  pub first : ℕ
+  pub begins : slice_get rows.first n ≡ Some first
+  pub within : first + i * width + width ≤ length rows.values
+  pub row_is : row ≡ slice_range rows.values (first + i * width) (first + i * width + width)
+
+-- the row of the entry at place i of cell k, level 1 first among the cliques
+pub record HasCellRow {C : Type 0} (f : Framed) (cliques : List (Rows C)) (k : Cell) (i : ℕ) (row : List (Option C)) : Type 0 where
+  pub rows : Rows C
+  pub level : slice_get cliques (k.level - 1) ≡ Some rows
+  pub has : HasRow rows k.number i (length (at_cell f.exits k)) row
+
+-- up to level `top` each entry's row has the least costs inside its cell, under these weights
+abbrev pub AreExact : {C : Type 0} → CostOps C → Framed → Weighting C → List (Rows C) → ℕ → Type 0
+AreExact {C} ops f w cliques top = (k : Cell) (i u : ℕ) → IsCell f.cells k → k.level ≤ top → slice_get (at_cell f.entries k) i ≡ Some u →
+    (row : List (Option C)) × HasCellRow f cliques k i row × IsRow ops f w k u row

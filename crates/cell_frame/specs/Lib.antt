@@ -1,0 +1,9 @@
+pub mod Bordering
+pub mod Borders
+pub mod Cliqued
+pub mod Free
+pub mod Inside
+pub mod Listing
+pub mod Marks
+pub mod Parts
+pub mod PartSpace

@@ -1,0 +1,186 @@
+//! A graph and its cells.
+
+ghost use Rattle.std.specs.Prelude.{◌≡◌, ◌<◌, ◌≤◌, length, All, IfSome, IfNone, IfOk, Some, nat_eq};
+ghost use Rattle.std.specs.List.{Contains, slice_get, list_any};
+ghost use Rattle.cell_partition.specs.Partition.{level_at, number_of};
+ghost use Rattle.cell_frame.specs.Borders.{IsFramed, IsCell, at_cell, cell_of};
+ghost use Rattle.cell_frame.specs.Free.{has_terminal, free_level, part_at};
+
+use crate::borders::Border;
+use crate::building::borders;
+use crate::cells::{Cell, Part};
+use crate::side::Side;
+use cell_partition::Cells;
+use search_graph::Graph;
+use std::alloc::{AllocError, Global};
+use std::marker::Model;
+
+/// A graph, its cells, and the entries and exits of each.
+#[derive(Drop)]
+pub struct Frame {
+    graph: Graph,
+    cells: Cells,
+    entries: Vec<Border>,
+    exits: Vec<Border>,
+}
+
+impl Model for Frame {
+    ghost use Rattle.cell_frame.specs.Borders.{Framed, IsFramed};
+
+    ghost Value = { Framed };
+
+    ghost view = { λ f. record { graph = f.graph; cells = f.cells; entries = f.entries.items; exits = f.exits.items } };
+
+    ghost invariant = { λ f. IsFramed (record { graph = f.graph; cells = f.cells; entries = f.entries.items; exits = f.exits.items }) };
+}
+
+impl Frame {
+    /// The frame of a graph and its cells: a copy of the graph, and the entries and exits of each cell.
+    ///
+    /// It takes a pass over the arcs and one over the vertices for each level, twice. It answers the error where memory
+    /// runs out.
+    pub fn of(alloc: Global, graph: &Graph, cells: Cells) -> Result<Frame, AllocError>
+        requires { cells.vertices ≡ graph.now.vertices }
+        ensures graph { IfOk result (λ f. f.graph ≡ graph.now) }
+        ensures cells { IfOk result (λ f. f.cells ≡ cells) }
+    {
+        cells.known();
+        let graph = graph.copy()?;
+        let entries = borders(alloc, &graph, &cells, Side::Entries)?;
+        let exits = borders(alloc, &graph, &cells, Side::Exits)?;
+        Ok(Frame {
+            graph,
+            cells,
+            entries,
+            exits,
+        })
+    }
+
+    /// Tells a proof what is true of each frame. It does nothing.
+    pub fn known(&self)
+        ensures { IsFramed self.now }
+    {
+        let _ = &self.graph;
+    }
+
+    /// The graph.
+    pub fn graph(&self) -> &Graph
+        ensures { result.now ≡ self.now.graph }
+    {
+        &self.graph
+    }
+
+    /// How many levels there are.
+    pub fn levels(&self) -> u32
+        ensures { result ≡ length self.now.cells.levels }
+    {
+        self.cells.levels()
+    }
+
+    /// How many cells a level has.
+    pub fn count(&self, level: u32) -> u32
+        requires above { 1 ≤ level }
+        requires below { level ≤ length self.now.cells.levels }
+        ensures { result ≡ length (level_at self.now.cells level) }
+    {
+        self.cells.count(level)
+    }
+
+    /// The cell of a vertex at a level.
+    pub fn cell(&self, level: u32, v: u32) -> Cell
+        requires above { 1 ≤ level }
+        requires below { level ≤ length self.now.cells.levels }
+        requires vertex { v < self.now.graph.vertices }
+        ensures named { result ≡ cell_of self.now.cells level v }
+        ensures cell { IsCell self.now.cells result }
+    {
+        let number = self.cells.cell(level, v);
+        Cell { level, number }
+    }
+
+    /// The entries of a cell, ascending.
+    pub fn entries(&self, cell: Cell) -> &[u32]
+        requires { IsCell self.now.cells cell }
+        ensures { result.now ≡ at_cell self.now.entries cell }
+    {
+        self.entries[cell.level as usize - 1].list(cell.number)
+    }
+
+    /// The exits of a cell, ascending.
+    pub fn exits(&self, cell: Cell) -> &[u32]
+        requires { IsCell self.now.cells cell }
+        ensures { result.now ≡ at_cell self.now.exits cell }
+    {
+        self.exits[cell.level as usize - 1].list(cell.number)
+    }
+
+    /// The place of a vertex among the entries of a cell.
+    pub fn entry(&self, cell: Cell, v: u32) -> Option<usize>
+        requires { IsCell self.now.cells cell }
+        ensures some { IfSome result (λ i. slice_get (at_cell self.now.entries cell) i ≡ Some v) }
+        ensures none { IfNone result (¬ Contains (at_cell self.now.entries cell) v) }
+    {
+        self.known();
+        match self.entries(cell).binary_search(&v) {
+            Ok(i) => Some(i),
+            Err(_) => None,
+        }
+    }
+
+    /// The highest level at which the cell of a vertex holds no terminal, or 0 where there is none.
+    pub fn free_level(&self, v: u32, terminals: &[u32]) -> u32
+        requires vertex { v < self.now.graph.vertices }
+        requires terminals { All (λ t. t < self.now.graph.vertices) terminals.now }
+        ensures level { result ≡ free_level self.now.cells terminals.now v }
+        ensures high { result ≤ length self.now.cells.levels }
+    {
+        let mut level = self.levels();
+        while level > 0 {
+            if !self.has_terminal(level, v, terminals) {
+                return level;
+            }
+            level -= 1;
+        }
+        0
+    }
+
+    /// The part that holds a vertex: its highest cell that holds no terminal, or else the vertex alone.
+    pub fn part_of(&self, v: u32, terminals: &[u32]) -> Part
+        requires vertex { v < self.now.graph.vertices }
+        requires terminals { All (λ t. t < self.now.graph.vertices) terminals.now }
+        ensures { result ≡ part_at self.now.cells terminals.now v }
+    {
+        let level = self.free_level(v, terminals);
+        if level == 0 {
+            return Part::Alone(v);
+        }
+        Part::Whole(self.cell(level, v))
+    }
+
+    // Whether the cell of a vertex at a level holds a terminal.
+    fn has_terminal(&self, level: u32, v: u32, terminals: &[u32]) -> bool
+        requires above { 1 ≤ level }
+        requires below { level ≤ length self.now.cells.levels }
+        requires vertex { v < self.now.graph.vertices }
+        requires terminals { All (λ t. t < self.now.graph.vertices) terminals.now }
+        ensures { result ≡ has_terminal self.now.cells terminals.now level v }
+    {
+        let number = self.cells.cell(level, v);
+        any_in(&self.cells, level, number, terminals)
+    }
+}
+
+// Whether one of the vertices is in a cell.
+fn any_in(cells: &Cells, level: u32, number: u32, vertices: &[u32]) -> bool
+    requires above { 1 ≤ level }
+    requires below { level ≤ length cells.now.levels }
+    requires inside { All (λ t. t < cells.now.vertices) vertices.now }
+    ensures { result ≡ list_any (λ t. nat_eq number (number_of (level_at cells.now level) t)) vertices.now }
+{
+    for t in vertices {
+        if number == cells.cell(level, *t) {
+            return true;
+        }
+    }
+    false
+}
