@@ -1,5 +1,7 @@
 //! What no clause says of the program's edges: what the system hands over, and what becomes of it.
 
+ghost use Rattle.std.specs.Prelude.{◌≤◌, IfOk};
+
 use crate::real_files::SystemFiles;
 use crate::real_streams::{Reading, Writing};
 use crate::typed_words::typed_words_of;
@@ -65,7 +67,9 @@ struct Halting {
 }
 
 impl Halting {
-    fn step(&mut self, most: usize) -> io::Result<usize> {
+    fn step(&mut self, most: usize) -> io::Result<usize>
+        ensures { IfOk result (λ count. count ≤ most) }
+    {
         if self.interrupted > 0 {
             self.interrupted -= 1;
             return Err(io::Error::from(ErrorKind::Interrupted));

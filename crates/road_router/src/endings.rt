@@ -43,6 +43,7 @@ pub fn run_to_end<R, F: Files, I: Source, O: Sink, N: Doors, G: Gate>(
         (outside (F.view files.new) (I.view input.new) (O.view output.new)))
         (λ _. EndsWordless result.status (outside (F.view files.old) (I.view input.old) (O.view output.old))
         (outside (F.view files.new) (I.view input.new) (O.view output.new))) }
+    ensures doors { N.view doors.new ≡ N.view doors.old }
 {
     let status = match words {
         Ok(words) => run(
