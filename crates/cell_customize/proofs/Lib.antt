@@ -1,0 +1,4 @@
+pub mod Inner
+pub mod Piling
+pub mod Slices
+pub mod Zipping

@@ -1,0 +1,10 @@
+-- Each turn has an exact level more.
+use Rattle.std.proofs.Common.{◌∷◌, [], length-append, arith}
+use Rattle.cell_customize.proofs.Piling.{AreExact-push}
+use Rattle.cell_customize.proofs.side_by_side.customize_in_threads.Goals as goal
+
+pub loop-below-preserved : goal.loop-below-preserved
+loop-below-preserved g c = record {
+  count = rw c.in_ok-push.ensures (omega (arith, length-append c.loop-below.cliques (c.in_ok-level.level ∷ []), c.loop-below.invariant.count));
+  exact = rw c.in_ok-push.ensures (AreExact-push g.C.Cost.ops c.args.frame.now c.args.weights.now c.loop-below.cliques c.loop-below.below c.in_ok-level.level c.loop-below.invariant.count c.loop-below.invariant.exact c.in_ok-level.ensures);
+}

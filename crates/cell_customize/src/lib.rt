@@ -1,0 +1,16 @@
+//! What walks cost inside the cells of a frame, for given weights: the customization of Customizable Route Planning
+//! (D. Delling, A. V. Goldberg, T. Pajor and R. F. Werneck, 2017).
+//!
+//! Each entry of a cell has one search inside the cell, over the cliques one level down; in cells of level 1 it goes over arcs
+//! alone. So the levels come from the lowest up, and the cells of one level don't depend on one another.
+#![tactic(auto)]
+
+mod customizing;
+mod levels;
+mod rows;
+mod side_by_side;
+#[cfg(test)]
+mod tests;
+
+pub use customizing::customize;
+pub use side_by_side::customize_in_threads;
