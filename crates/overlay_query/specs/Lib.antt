@@ -1,3 +1,4 @@
 pub mod Answers
 pub mod Packed
+pub mod PackLaws
 pub mod Query
