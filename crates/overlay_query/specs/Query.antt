@@ -1,5 +1,5 @@
 -- For the functions of this crate alone: what a query goes over and stands on.
-use Rattle.std.specs.Prelude.{◌≡◌, ℕ, ◌<◌, List, All, length}
+use Rattle.std.specs.Prelude.{◌≡◌, ℕ, ◌<◌, ◌≤◌, List, All, length}
 use Rattle.std.specs.List.{Contains}
 use Rattle.search_graph.specs.declared.ends.Start.{Start}
 use Rattle.search_graph.specs.declared.ends.Target.{Target}
@@ -23,6 +23,7 @@ pub record IsQuery {C : Type 0} (ops : CostOps C) (f : Framed) (w : Weighting C)
   pub small : AreSmall ops f.graph w
   pub exact : AreExact ops f w cliques (length f.cells.levels)
   pub lawful : IsLawful ops f w (λ v. Unit {0}) (free_level f.cells terminals)
+  pub high : (v : ℕ) → free_level f.cells terminals v ≤ length f.cells.levels
   pub inside : All (λ t. t < f.graph.vertices) terminals
   pub alone : (t : ℕ) → Contains terminals t → free_level f.cells terminals t ≡ 0
   pub starts_in : (s : Start C) → Contains starts s → Contains terminals s.vertex

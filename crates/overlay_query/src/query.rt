@@ -13,7 +13,7 @@ ghost use Rattle.overlay_query.specs.Query.{IsQuery, IsCostWith, IsAsked, query_
 
 use crate::hops::pack;
 use crate::packed::{Hops, PackedFound, PackedWalk};
-use cell_frame::{Cliques, Frame, Over, Terminals};
+use cell_frame::{Cliques, Frame, Over, Parts, Terminals};
 use plain_search::SearchFault;
 use search_graph::{Cost, Start, Target, Weights};
 use std::alloc::{AllocError, Global};
@@ -133,6 +133,7 @@ pub fn least<C: Cost>(
         parts: &parts,
     };
     parts.alone(frame);
+    parts.known(frame);
     over.known();
     let found = least_over(alloc, &over, starts, targets)?;
     Ok(found)
