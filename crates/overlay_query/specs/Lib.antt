@@ -2,3 +2,4 @@ pub mod Answers
 pub mod Packed
 pub mod PackLaws
 pub mod Query
+pub mod TerminalCells

@@ -14,6 +14,7 @@
 mod hops;
 mod packed;
 mod query;
+mod terminals;
 #[cfg(test)]
 mod tests;
 

@@ -10,10 +10,12 @@ ghost use Rattle.step_search.specs.UnderWay.{IsUnderWay};
 ghost use Rattle.cell_frame.specs.Cliqued.{AreExact};
 ghost use Rattle.overlay_query.specs.Answers.{IsPackedFound, terminals_of};
 ghost use Rattle.overlay_query.specs.Query.{IsQuery, IsCostWith, IsAsked, query_space};
+ghost use Rattle.overlay_query.specs.TerminalCells.{AreTerminalCells};
 
 use crate::hops::pack;
 use crate::packed::{Hops, PackedFound, PackedWalk};
-use cell_frame::{Cliques, Frame, Over, Parts, Terminals};
+use crate::terminals::TerminalCells;
+use cell_frame::{Cliques, Frame, Over, Parts};
 use plain_search::SearchFault;
 use search_graph::{Cost, Start, Target, Weights};
 use std::alloc::{AllocError, Global};
@@ -33,14 +35,14 @@ fn terminals<C: Cost>(
 
 // What a walk to the target costs: what its path does, with the target's cost in place of the vertex's.
 fn cost_with<C: Cost>(
-    over: &Over<C, Terminals>,
+    over: &Over<C, TerminalCells>,
     starts: &[Start<C>],
     target: Target<C>,
     path: &Reached<C>,
 ) -> C
-    requires query { IsQuery C.ops over.now.frame.now over.now.weights.now over.now.cliques.now over.now.parts.now.vertices.now starts.now }
-    requires target { IsAsked C.ops over.now.frame.now over.now.parts.now.vertices.now target }
-    requires path { IsLeastPath C.ops (query_space C.ops over.now.frame.now over.now.weights.now over.now.parts.now.vertices.now) starts.now target.vertex path.now.walk.items path.now.cost }
+    requires query { IsQuery C.ops over.now.frame.now over.now.weights.now over.now.cliques.now over.now.parts.now.vertices.items starts.now }
+    requires target { IsAsked C.ops over.now.frame.now over.now.parts.now.vertices.items target }
+    requires path { IsLeastPath C.ops (query_space C.ops over.now.frame.now over.now.weights.now over.now.parts.now.vertices.items) starts.now target.vertex path.now.walk.items path.now.cost }
     ensures { IsCostWith C.ops over.now.frame.now.graph over.now.weights.now starts.now target path.now.cost result }
 {
     let _ = starts;
@@ -53,16 +55,17 @@ fn cost_with<C: Cost>(
 // The cheapest walk to one target, of a search that has begun.
 fn find<C: Cost>(
     alloc: Global,
-    over: &Over<C, Terminals>,
+    over: &Over<C, TerminalCells>,
     search: &mut Search<C>,
     starts: &[Start<C>],
     target: Target<C>,
 ) -> Result<Option<PackedFound<C>>, AllocError>
-    requires query { IsQuery C.ops over.now.frame.now over.now.weights.now over.now.cliques.now over.now.parts.now.vertices.now starts.now }
-    requires target { IsAsked C.ops over.now.frame.now over.now.parts.now.vertices.now target }
-    requires under_way { IsUnderWay C.ops (query_space C.ops over.now.frame.now over.now.weights.now over.now.parts.now.vertices.now) starts.now search.old }
-    ensures under_way { OnOk result (IsUnderWay C.ops (query_space C.ops over.now.frame.now over.now.weights.now over.now.parts.now.vertices.now) starts.now search.new) }
-    ensures found { IfOk result (IsPackedFound C.ops over.now.frame.now over.now.weights.now over.now.parts.now.vertices.now starts.now target) }
+    requires query { IsQuery C.ops over.now.frame.now over.now.weights.now over.now.cliques.now over.now.parts.now.vertices.items starts.now }
+    requires cells { AreTerminalCells over.now.frame.now over.now.parts.now.vertices.items over.now.parts.now.levels.items }
+    requires target { IsAsked C.ops over.now.frame.now over.now.parts.now.vertices.items target }
+    requires under_way { IsUnderWay C.ops (query_space C.ops over.now.frame.now over.now.weights.now over.now.parts.now.vertices.items) starts.now search.old }
+    ensures under_way { OnOk result (IsUnderWay C.ops (query_space C.ops over.now.frame.now over.now.weights.now over.now.parts.now.vertices.items) starts.now search.new) }
+    ensures found { IfOk result (IsPackedFound C.ops over.now.frame.now over.now.weights.now over.now.parts.now.vertices.items starts.now target) }
 {
     search.run(over, starts, target.vertex)?;
     match search.answer(alloc, over, starts, target.vertex)? {
@@ -82,14 +85,15 @@ fn find<C: Cost>(
 // For each target the cheapest walk to it over the parts.
 fn least_over<C: Cost>(
     alloc: Global,
-    over: &Over<C, Terminals>,
+    over: &Over<C, TerminalCells>,
     starts: &[Start<C>],
     targets: &[Target<C>],
 ) -> Result<Vec<Option<PackedFound<C>>>, AllocError>
-    requires query { IsQuery C.ops over.now.frame.now over.now.weights.now over.now.cliques.now over.now.parts.now.vertices.now starts.now }
-    requires targets { (t : Target C) → Contains targets.now t → IsAsked C.ops over.now.frame.now over.now.parts.now.vertices.now t }
+    requires query { IsQuery C.ops over.now.frame.now over.now.weights.now over.now.cliques.now over.now.parts.now.vertices.items starts.now }
+    requires cells { AreTerminalCells over.now.frame.now over.now.parts.now.vertices.items over.now.parts.now.levels.items }
+    requires targets { (t : Target C) → Contains targets.now t → IsAsked C.ops over.now.frame.now over.now.parts.now.vertices.items t }
     ensures one_each { IfOk result (λ found. length found.items ≡ length targets.now) }
-    ensures least { IfOk result (λ found. (k : ℕ) (t : Target C) (answer : _) → slice_get targets.now k ≡ Some t → slice_get found.items k ≡ Some answer → IsPackedFound C.ops over.now.frame.now over.now.weights.now over.now.parts.now.vertices.now starts.now t answer) }
+    ensures least { IfOk result (λ found. (k : ℕ) (t : Target C) (answer : _) → slice_get targets.now k ≡ Some t → slice_get found.items k ≡ Some answer → IsPackedFound C.ops over.now.frame.now over.now.weights.now over.now.parts.now.vertices.items starts.now t answer) }
 {
     let mut search = Search::begin(alloc, over, starts)?;
     let mut found = Vec::with_capacity(alloc, targets.len())?;
@@ -123,9 +127,7 @@ pub fn least<C: Cost>(
     ensures least { IfOk result (λ found. (k : ℕ) (t : Target C) (answer : _) → slice_get targets.now k ≡ Some t → slice_get found.items k ≡ Some answer → IsPackedFound C.ops frame.now weights.now (terminals_of starts.now targets.now) starts.now t answer) }
 {
     let all = terminals(alloc, starts, targets)?;
-    let parts = Terminals {
-        vertices: all.as_slice(),
-    };
+    let parts = TerminalCells::of(alloc, frame, all)?;
     let over = Over {
         frame,
         weights,

@@ -35,5 +35,5 @@ loop-target-preserved g c =
     record {
       under_way = c.in_ok-answer.ensures.under_way;
       one_each = rw c.in_ok-push.ensures.items (omega (arith, length-append c.loop-target.found.items (c.in_ok-answer.answer ∷ []), n));
-      least = rw c.in_ok-push.ensures.items (one_more (IsPackedFound g.C.Cost.ops c.args.over.now.frame.now c.args.over.now.weights.now c.args.over.now.parts.now.vertices.now c.args.starts.now) c.args.targets.now c.loop-target.found.items c.loop-target.target-index c.target-item.result c.in_ok-answer.answer n c.loop-target-test.true c.target-item.is c.in_ok-answer.ensures.found c.loop-target.invariant.least);
+      least = rw c.in_ok-push.ensures.items (one_more (IsPackedFound g.C.Cost.ops c.args.over.now.frame.now c.args.over.now.weights.now c.args.over.now.parts.now.vertices.items c.args.starts.now) c.args.targets.now c.loop-target.found.items c.loop-target.target-index c.target-item.result c.in_ok-answer.answer n c.loop-target-test.true c.target-item.is c.in_ok-answer.ensures.found c.loop-target.invariant.least);
     }
