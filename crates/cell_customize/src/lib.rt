@@ -6,7 +6,8 @@
 #![tactic(auto)]
 
 mod customizing;
-mod levels;
+mod idle;
+mod pieces;
 mod rows;
 mod side_by_side;
 #[cfg(test)]
