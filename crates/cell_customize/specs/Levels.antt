@@ -1,5 +1,5 @@
 -- For the functions of this crate alone: the rows of a cell, the cells of a level, and one level more.
-use Rattle.std.specs.Prelude.{◌≡◌, ℕ, ◌+◌, ◌-◌, ◌*◌, ◌/◌, ◌<◌, ◌≤◌, List, ◌++◌, length, map, Option, Some}
+use Rattle.std.specs.Prelude.{◌≡◌, ℕ, ◌+◌, ◌-◌, ◌*◌, ◌/◌, ◌<◌, ◌≤◌, List, ◌++◌, length, map, All, Option, Some}
 use Rattle.std.specs.List.{slice_get, slice_range}
 use Rattle.search_graph.specs.Costs.{CostOps}
 use Rattle.search_graph.specs.Digraph.{Weighting}
@@ -27,7 +27,7 @@ IsRowOf {C} ops f w k rows n = (i u : ℕ) → slice_get (at_cell f.entries k) i
 -- the cliques of the cells of a level from number `from` on and below `to`, one behind another
 pub record AreMade {C : Type 0} (ops : CostOps C) (f : Framed) (w : Weighting C) (level from to : ℕ) (rows : Rows C) : Type 0 where
   pub size : from + length rows.first ≡ to
-  pub within : (n first : ℕ) → slice_get rows.first n ≡ Some first → first ≤ length rows.values
+  pub within : All (λ first. first ≤ length rows.values) rows.first
   pub each : (n : ℕ) → n < length rows.first → IsRowOf ops f w (record { level = level; number = from + n }) rows n
 
 -- these cliques, and others behind them

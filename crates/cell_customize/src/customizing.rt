@@ -5,12 +5,11 @@ ghost use Rattle.cell_frame.specs.Cliqued.{AreExact};
 ghost use Rattle.search_graph.specs.Weighted.{AreSmall};
 ghost use Rattle.cell_customize.specs.Levels.{IsExactLevel};
 
-use crate::idle::idle;
 use crate::pieces::cliques_of;
+use crate::scratch::Scratch;
 use cell_frame::{Cliques, Frame, LevelCliques};
 use search_graph::{Cost, Weights};
 use std::alloc::{AllocError, Global};
-use step_search::Search;
 
 // The cliques of a level, by those of the levels below it.
 fn level_cliques<C: Cost>(
@@ -19,7 +18,7 @@ fn level_cliques<C: Cost>(
     weights: &Weights<C>,
     cliques: &Cliques<C>,
     level: u32,
-    search: &mut Search<C>,
+    scratch: &mut Scratch<C>,
 ) -> Result<LevelCliques<C>, AllocError>
     requires above { 1 ≤ level }
     requires below { level ≤ length frame.now.cells.levels }
@@ -28,7 +27,7 @@ fn level_cliques<C: Cost>(
     ensures { IfOk result (λ rows. IsExactLevel C.ops frame.now weights.now rows level) }
 {
     let count = frame.count(level);
-    let all = cliques_of(alloc, frame, weights, cliques, level, 0, count, search)?;
+    let all = cliques_of(alloc, frame, weights, cliques, level, 0, count, scratch)?;
     Ok(all.into_level())
 }
 
@@ -44,10 +43,10 @@ pub fn customize<C: Cost>(
     requires weights { AreSmall C.ops frame.now.graph weights.now }
     ensures { IfOk result (λ cliques. AreExact C.ops frame.now weights.now cliques (length frame.now.cells.levels)) }
 {
-    let mut search = idle(alloc)?;
+    let mut scratch = Scratch::new(alloc)?;
     let mut cliques = Cliques::new(alloc);
     for below in 0..frame.levels() {
-        let level = level_cliques(alloc, frame, weights, &cliques, below + 1, &mut search)?;
+        let level = level_cliques(alloc, frame, weights, &cliques, below + 1, &mut scratch)?;
         cliques.push(level)?;
     }
     Ok(cliques)

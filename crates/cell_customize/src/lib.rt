@@ -6,9 +6,9 @@
 #![tactic(auto)]
 
 mod customizing;
-mod idle;
 mod pieces;
 mod rows;
+mod scratch;
 mod side_by_side;
 #[cfg(test)]
 mod tests;

@@ -1,19 +1,18 @@
 //! The cliques of neighbouring cells of a level.
 
-ghost use Rattle.std.specs.Prelude.{◌≡◌, ℕ, ◌-◌, ◌≤◌, Some, length, IfOk, OnOk};
-ghost use Rattle.std.specs.List.{slice_get};
+ghost use Rattle.std.specs.Prelude.{◌≡◌, ◌-◌, ◌≤◌, [], length, All, IfOk, OnOk};
 ghost use Rattle.cell_partition.specs.Partition.{level_at};
 ghost use Rattle.cell_frame.specs.Cliqued.{AreExact};
 ghost use Rattle.search_graph.specs.Weighted.{AreSmall};
 ghost use Rattle.cell_customize.specs.Levels.{AreMade, behind};
 
 use crate::rows::clique;
+use crate::scratch::Scratch;
 use cell_frame::{Cell, Cliques, Frame, LevelCliques};
 use cost_lists::{CostList, Narrow};
 use search_graph::{Cost, Weights};
 use std::alloc::{AllocError, Global};
 use std::marker::Model;
-use step_search::Search;
 
 /// The cliques of some cells, one behind another: that of the n-th begins at place n of `first`.
 #[derive(Drop)]
@@ -43,7 +42,7 @@ impl<C: Narrow> Piece<C> {
 
     /// Puts those of another piece behind its own.
     pub fn append(&mut self, other: &Piece<C>) -> Result<(), AllocError>
-        requires { (n first : ℕ) → slice_get other.now.first n ≡ Some first → first ≤ length other.now.values }
+        requires { All (λ first. first ≤ length other.now.values) other.now.first }
         ensures { OnOk result (self.new ≡ behind self.old other.now) }
     {
         let base = self.values.len();
@@ -65,7 +64,7 @@ impl<C: Narrow> Piece<C> {
 
 /// The cliques of the cells of a level from number `from` on and below `to`, by those of the levels below it.
 ///
-/// The search may be any; it is begun anew at each entry of each cell, in the memory that it has.
+/// The search may be any: it is begun anew at each entry of each cell, in the memory that it has.
 pub fn cliques_of<C: Cost>(
     alloc: Global,
     frame: &Frame,
@@ -74,7 +73,7 @@ pub fn cliques_of<C: Cost>(
     level: u32,
     from: u32,
     to: u32,
-    search: &mut Search<C>,
+    scratch: &mut Scratch<C>,
 ) -> Result<Piece<C>, AllocError>
     requires above { 1 ≤ level }
     requires below { level ≤ length frame.now.cells.levels }
@@ -89,7 +88,7 @@ pub fn cliques_of<C: Cost>(
     for number in from..to {
         first.push(values.len())?;
         let cell = Cell { level, number };
-        clique(frame, weights, cliques, cell, search, &mut values)?;
+        clique(frame, weights, cliques, cell, scratch, &mut values)?;
     }
     Ok(Piece { first, values })
 }

@@ -6,8 +6,8 @@ ghost use Rattle.cell_frame.specs.Cliqued.{AreExact};
 ghost use Rattle.search_graph.specs.Weighted.{AreSmall};
 ghost use Rattle.cell_customize.specs.Levels.{AreMade, ArePieces, IsExactLevel, IsPiece, IsReady, cut_at};
 
-use crate::idle::idle;
 use crate::pieces::{Piece, cliques_of};
+use crate::scratch::Scratch;
 use cell_frame::{Cliques, Frame, LevelCliques};
 use rayon::prelude::*;
 use search_graph::{Cost, Weights};
@@ -42,8 +42,17 @@ fn piece<C: Cost>(
     let count = frame.count(level);
     let from = cut(count, place);
     let to = cut(count, place + 1);
-    let mut search = idle(alloc)?;
-    cliques_of(alloc, frame, weights, cliques, level, from, to, &mut search)
+    let mut scratch = Scratch::new(alloc)?;
+    cliques_of(
+        alloc,
+        frame,
+        weights,
+        cliques,
+        level,
+        from,
+        to,
+        &mut scratch,
+    )
 }
 
 // The pieces of a level, in order.
@@ -80,7 +89,10 @@ fn level_in_threads<C: Cost + Send + Sync>(
     cliques: &Cliques<C>,
     level: u32,
 ) -> Result<LevelCliques<C>, AllocError>
-    requires ready { IsReady C.ops frame.now weights.now cliques.now level }
+    requires above { 1 ≤ level }
+    requires below { level ≤ length frame.now.cells.levels }
+    requires weights { AreSmall C.ops frame.now.graph weights.now }
+    requires cliques { AreExact C.ops frame.now weights.now cliques.now (level - 1) }
     ensures { IfOk result (λ rows. IsExactLevel C.ops frame.now weights.now rows level) }
 {
     let pieces = pieces(rt, alloc, frame, weights, cliques, level)?;

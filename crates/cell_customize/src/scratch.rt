@@ -1,9 +1,9 @@
-//! A search that has nothing yet, for those that begin it anew.
+//! What is used again and again: a search, begun anew at one entry after another.
 
 ghost use Rattle.std.specs.Prelude.{◌≡◌, []};
 
 use cost_lists::CostRow;
-use search_graph::{ArcRow, Cost};
+use search_graph::{ArcRow, Cost, Start};
 use std::alloc::{AllocError, Global};
 use step_search::{Hop, Search, Steps};
 
@@ -50,7 +50,19 @@ impl<C: Cost> Steps<C> for Nowhere {
     }
 }
 
-/// A search that has nothing, to be begun anew. It answers the error where memory runs out.
-pub fn idle<C: Cost>(alloc: Global) -> Result<Search<C>, AllocError> {
-    Search::begin(alloc, &Nowhere, &[])
+/// A search, and the list of its one start.
+#[derive(Drop)]
+pub struct Scratch<C: Cost> {
+    pub search: Search<C>,
+    pub starts: Vec<Start<C>>,
+}
+
+impl<C: Cost> Scratch<C> {
+    /// A search that has nothing, to be begun anew. It answers the error where memory runs out.
+    pub fn new(alloc: Global) -> Result<Scratch<C>, AllocError> {
+        let nowhere = Nowhere;
+        let starts = Vec::new(alloc);
+        let search = Search::begin(alloc, &nowhere, starts.as_slice())?;
+        Ok(Scratch { search, starts })
+    }
 }
