@@ -1,3 +1,5 @@
+pub mod Costing
+pub mod Cuts
 pub mod Piling
 pub mod Slices
 pub mod Zipping

@@ -1,9 +1,12 @@
 -- Rows behind rows make a clique, cliques behind cliques a level, and levels on levels exact cliques.
-use Rattle.std.proofs.Common.{◌≡◌, ℕ, ◌+◌, ◌*◌, ◌-◌, ◌<◌, ◌≤◌, inl, inr, Option, Some, List, [], ◌∷◌, ◌++◌, length, length-append, refl, sym, ◌∙◌, ap, subst, arith}
+use Rattle.std.proofs.Common.{◌≡◌, ℕ, ◌+◌, ◌*◌, ◌-◌, ◌<◌, ◌≤◌, inl, inr, Option, Some, List, [], ◌∷◌, ◌++◌, length, map, get_or, length-append, refl, sym, ◌∙◌, ap, subst, arith}
 use Rattle.std.specs.List.{slice_get, slice_range}
 use Rattle.std.proofs.lemmas.Bool.{cases_lt}
-use Rattle.std.proofs.lemmas.Option.{slice_get_within, same_Some}
-use Rattle.list_lemmas.proofs.Gets.{get_some, get_append, get_push, get_pushed}
+use Rattle.std.specs.Option.{option_map}
+use Rattle.std.proofs.lemmas.Option.{slice_get_within, slice_get-map, get_or_from_slice_get, same_Some}
+use Rattle.std.proofs.lemmas.List.{length-map, drop_at, get_or-drop}
+use Rattle.std.proofs.lemmas.List.Elements.{All-append, All-cons, All-map, All-nil}
+use Rattle.list_lemmas.proofs.Gets.{get_is, get_append, get_push, get_pushed}
 use Rattle.search_graph.specs.Costs.{CostOps}
 use Rattle.search_graph.specs.Digraph.{Weighting}
 use Rattle.cell_partition.specs.Partition.{level_at}
@@ -11,13 +14,13 @@ use Rattle.cell_frame.specs.declared.cells.Cell.{Cell}
 use Rattle.cell_frame.specs.Borders.{Framed, Holds, at_cell}
 use Rattle.cell_frame.specs.Cliqued.{Rows, HasRow, IsRow, AreExact}
 use Rattle.cell_frame.specs.Inside.{IsInsideValue}
-use Rattle.cell_customize.specs.Levels.{AreRows, IsClique, IsCliqueOf, AreMade, ArePiled, IsExactLevel}
+use Rattle.cell_customize.specs.Levels.{AreRows, IsClique, IsRowOf, AreMade, IsExactLevel, behind}
 use Rattle.cell_customize.proofs.Slices.{range_in_front, range_behind, range_of_range}
 
-more_times : (m n : ℕ) → m * n + n ≡ (m + 1) * n
+pub more_times : (m n : ℕ) → m * n + n ≡ (m + 1) * n
 more_times m n = grind arith
 
-times_within : (i m n : ℕ) → i < m → i * n + n ≤ m * n
+pub times_within : (i m n : ℕ) → i < m → i * n + n ≤ m * n
 times_within i m n lt = grind arith
 
 -- cells of one level and number are one
@@ -26,6 +29,13 @@ cells_same e f = cc
 
 cell_same : (k : Cell) (level number : ℕ) → k.level ≡ level → k.number ≡ number → record { level = level; number = number } ≡ k
 cell_same k level number e f = cells_same (sym e) (sym f)
+
+-- what stands behind a list
+get_behind : {A : Type 0} (xs ys : List A) (n : ℕ) (x : A) → slice_get ys n ≡ Some x → slice_get (xs ++ ys) (length xs + n) ≡ Some x
+get_behind {A} xs ys n x e =
+    let lt : n < length ys = slice_get_within ys n x e in
+    let lt2 : length xs + n < length (xs ++ ys) = omega (arith, length-append xs ys) in
+    get_is (xs ++ ys) (length xs + n) x lt2 (sym (get_or-drop (length xs) (xs ++ ys) n x) ∙ ap (λ (zs : List A). get_or zs n x) (drop_at xs ys (length xs) refl) ∙ get_or_from_slice_get ys n x x e)
 
 pub get_nothing : {A : Type 0} (xs : List A) (j : ℕ) (x : A) → xs ≡ [] → ¬ (slice_get xs j ≡ Some x)
 get_nothing {A} xs j x e h = let lt : j < length {A = A} [] = slice_get_within [] j x (ap (λ (ys : List A). slice_get ys j) (sym e) ∙ h) in omega arith
@@ -73,36 +83,96 @@ module _ {C : Type 0} (ops : CostOps C) (f : Framed) (w : Weighting C) where
         ];
       }
 
-  pub AreMade-none : (level : ℕ) → AreMade ops f w level [] 0
-  AreMade-none level = record { size = refl; each = λ n values e. let lt : n < length {A = List (Option C)} [] = slice_get_within [] n values e in absurd (omega arith) }
+  -- the clique of one cell
+  one_row : (k : Cell) (clique : List (Option C)) → IsClique ops f w k clique → IsRowOf ops f w k (record { first = 0 ∷ []; values = clique }) 0
+  one_row k clique h i u e =
+      let width : ℕ = length (at_cell f.exits k) in
+      let lt : i < length (at_cell f.entries k) = slice_get_within (at_cell f.entries k) i u e in
+      let le : i * width + width ≤ length clique = subst (λ (l : ℕ). i * width + width ≤ l) (sym h.size) (times_within i (length (at_cell f.entries k)) width lt) in
+      let at : i * width ≡ 0 + i * width = omega arith in
+      (_, record { first = 0; begins = refl; within = omega (arith, le); row_is = ap (λ (n : ℕ). slice_range clique n (n + width)) at }, h.each i u lt e)
 
-  -- the clique of one cell more
-  pub AreMade-push : (level : ℕ) (made : List (List (Option C))) (values : List (Option C)) (m : ℕ) → IsCliqueOf ops f w level m values → AreMade ops f w level made m → AreMade ops f w level (made ++ values ∷ []) (m + 1)
-  AreMade-push level made values m here h = record {
-    size = omega (arith, length-append made (values ∷ []), h.size);
-    each = λ n other e. elim (get_push made values n other e) [
-      | inl q ↦ h.each n other q
-      | inr q ↦ subst (IsCliqueOf ops f w level n) (sym q.1) (subst (λ (a : ℕ). IsCliqueOf ops f w level a values) (sym (q.0 ∙ h.size)) here)
-    ];
+  one_each : (level number : ℕ) (clique : List (Option C)) → IsClique ops f w (record { level = level; number = number }) clique →
+      (n : ℕ) → n < 1 → IsRowOf ops f w (record { level = level; number = number + n }) (record { first = 0 ∷ []; values = clique }) n
+  one_each level number clique h n lt =
+      let none : 0 ≡ n = omega arith in
+      let same : number ≡ number + 0 = omega arith in
+      subst (λ (m : ℕ). IsRowOf ops f w (record { level = level; number = number + m }) (record { first = 0 ∷ []; values = clique }) m) none
+      (subst (λ (m : ℕ). IsRowOf ops f w (record { level = level; number = m }) (record { first = 0 ∷ []; values = clique }) 0) same (one_row (record { level = level; number = number }) clique h))
+
+  AreMade-one : (level number : ℕ) (clique : List (Option C)) → IsClique ops f w (record { level = level; number = number }) clique → AreMade ops f w level number (number + 1) (record { first = 0 ∷ []; values = clique })
+  AreMade-one level number clique h = record {
+    size = refl;
+    within = All-cons (λ first. first ≤ length clique) 0 [] (omega arith) (All-nil (λ first. first ≤ length clique));
+    each = λ n lt. one_each level number clique h n lt;
   }
 
-  -- a part of a clique that is a row is one of the level's rows
-  HasRow-piled : (rows : Rows C) (n i width m first : ℕ) (values : List (Option C)) → i < m → length values ≡ m * width → slice_get rows.first n ≡ Some first → first + length values ≤ length rows.values → values ≡ slice_range rows.values first (first + length values) →
-      HasRow rows n i width (slice_range values (i * width) (i * width + width))
-  HasRow-piled rows n i width m first values lt size begins within is =
-      let le : i * width + width ≤ length values = subst (λ (l : ℕ). i * width + width ≤ l) (sym size) (times_within i m width lt) in
-      record { first = first; begins = begins; within = omega (arith, le, within); row_is = range_of_range rows.values values first (length values) (i * width) width is le }
+  pub AreMade-none : (level from : ℕ) → AreMade ops f w level from from (record { first = []; values = [] })
+  AreMade-none level from = record { size = omega arith; within = All-nil (λ first. first ≤ 0); each = λ n lt. absurd (omega (arith, lt)) }
 
-  -- the cliques of a level's cells, one behind another, are an exact level
-  pub IsExactLevel-piled : (level : ℕ) (made : List (List (Option C))) (rows : Rows C) → AreMade ops f w level made (length (level_at f.cells level)) → ArePiled made rows (length made) → IsExactLevel ops f w rows level
-  IsExactLevel-piled level made rows all piled k i u is_cell e entry =
+  -- what stands behind cliques changes none of their rows
+  HasRow-in_front : (rows more : Rows C) (n i width : ℕ) (row : List (Option C)) → HasRow rows n i width row → HasRow (behind rows more) n i width row
+  HasRow-in_front rows more n i width row h = record {
+    first = h.first;
+    begins = get_append rows.first (map (λ first. length rows.values + first) more.first) n h.first h.begins;
+    within = omega (arith, length-append rows.values more.values, h.within);
+    row_is = h.row_is ∙ sym (range_in_front rows.values more.values (h.first + i * width) width h.within);
+  }
+
+  -- and what stands behind them has its rows there
+  HasRow-behind : (rows more : Rows C) (n i width : ℕ) (row : List (Option C)) → HasRow more n i width row → HasRow (behind rows more) (length rows.first + n) i width row
+  HasRow-behind rows more n i width row h =
+      let up : ℕ → ℕ = λ first. length rows.values + first in
+      let place : slice_get (map up more.first) n ≡ Some (length rows.values + h.first) = slice_get-map up more.first n ∙ ap (option_map up) h.begins in
+      let all : more.values ≡ slice_range (rows.values ++ more.values) (length rows.values) (length rows.values + length more.values) = sym (range_behind rows.values more.values) in
+      let same : length rows.values + (h.first + i * width) ≡ length rows.values + h.first + i * width = omega arith in
+      record {
+        first = length rows.values + h.first;
+        begins = get_behind rows.first (map up more.first) n (length rows.values + h.first) place;
+        within = omega (arith, length-append rows.values more.values, h.within);
+        row_is = h.row_is ∙ range_of_range (rows.values ++ more.values) more.values (length rows.values) (length more.values) (h.first + i * width) width all h.within ∙ ap (λ (a : ℕ). slice_range (rows.values ++ more.values) a (a + width)) same;
+      }
+
+  -- the cliques of cells, and behind them those of the next cells
+  pub AreMade-behind : (level from between to : ℕ) (rows more : Rows C) → AreMade ops f w level from between rows → AreMade ops f w level between to more → AreMade ops f w level from to (behind rows more)
+  AreMade-behind level from between to rows more a b =
+      let up : ℕ → ℕ = λ first. length rows.values + first in
+      let long : length (map up more.first) ≡ length more.first = length-map more.first up in
+      let ends : length (rows.values ++ more.values) ≡ length rows.values + length more.values = length-append rows.values more.values in
+      let count : length (rows.first ++ map up more.first) ≡ length rows.first + length more.first = length-append rows.first (map up more.first) ∙ ap (λ (n : ℕ). length rows.first + n) long in
+      record {
+        size = omega (arith, count, a.size, b.size);
+        within = All-append (λ first. first ≤ length (rows.values ++ more.values)) rows.first (map up more.first)
+            (λ k d lt. let le = a.within k d lt in omega (arith, le, ends))
+            (All-map (λ first. first ≤ length (rows.values ++ more.values)) up more.first (λ k d lt. let le = b.within k d lt in omega (arith, le, ends)));
+        each = λ n lt i u e. elim (cases_lt n (length rows.first)) [
+          | inl less ↦ let r = a.each n less i u e in (r.0, HasRow-in_front rows more n i (length (at_cell f.exits (record { level = level; number = from + n }))) r.0 r.1, r.2)
+          | inr le ↦
+              let number : from + n ≡ between + (n - length rows.first) = omega (arith, le, a.size) in
+              let at : length rows.first + (n - length rows.first) ≡ n = omega (arith, le) in
+              let few : n - length rows.first < length more.first = omega (arith, le, lt, count) in
+              let r : IsRowOf ops f w (record { level = level; number = from + n }) more (n - length rows.first) = subst (λ (x : ℕ). IsRowOf ops f w (record { level = level; number = x }) more (n - length rows.first)) (sym number) (b.each (n - length rows.first) few) in
+              let q = r i u e in
+              (q.0, subst (λ (x : ℕ). HasRow (behind rows more) x i (length (at_cell f.exits (record { level = level; number = from + n }))) q.0) at (HasRow-behind rows more (n - length rows.first) i (length (at_cell f.exits (record { level = level; number = from + n }))) q.0 q.1), q.2)
+        ];
+      }
+
+  -- the clique of one cell more
+  pub AreMade-push : (level from m : ℕ) (first : List ℕ) (values clique : List (Option C)) → IsClique ops f w (record { level = level; number = m }) clique →
+      AreMade ops f w level from m (record { first = first; values = values }) → AreMade ops f w level from (m + 1) (record { first = first ++ length values ∷ []; values = values ++ clique })
+  AreMade-push level from m first values clique here h =
+      let none : length values + 0 ≡ length values = omega arith in
+      subst (λ (n : ℕ). AreMade ops f w level from (m + 1) (record { first = first ++ n ∷ []; values = values ++ clique })) none
+      (AreMade-behind level from m (m + 1) (record { first = first; values = values }) (record { first = 0 ∷ []; values = clique }) h (AreMade-one level m clique here))
+
+  -- the cliques of all cells of a level are an exact level
+  pub IsExactLevel-made : (level : ℕ) (rows : Rows C) → AreMade ops f w level 0 (length (level_at f.cells level)) rows → IsExactLevel ops f w rows level
+  IsExactLevel-made level rows all k i u is_cell e entry =
       let low : k.number < length (level_at f.cells level) = subst (λ (l : ℕ). k.number < length (level_at f.cells l)) e is_cell.2 in
-      let count : length made ≡ length (level_at f.cells level) = all.size in
-      let c = get_some made k.number (omega arith) in
-      let clique : IsClique ops f w k c.0 = subst (λ (z : Cell). IsClique ops f w z c.0) (cell_same k level k.number e refl) (all.each k.number c.0 c.1) in
-      let within : i < length (at_cell f.entries k) = slice_get_within (at_cell f.entries k) i u entry in
-      let p = piled.each k.number c.0 (omega arith) c.1 in
-      (_, HasRow-piled rows k.number i (length (at_cell f.exits k)) (length (at_cell f.entries k)) p.0 c.0 within clique.size p.1 p.2 p.3, clique.each i u within entry)
+      let few : k.number < length rows.first = omega (arith, low, all.size) in
+      let number : 0 + k.number ≡ k.number = omega arith in
+      let r : IsRowOf ops f w k rows k.number = subst (λ (z : Cell). IsRowOf ops f w z rows k.number) (cell_same k level (0 + k.number) e (sym number)) (all.each k.number few) in
+      r i u entry
 
   -- without levels nothing is asked
   pub AreExact-none : AreExact ops f w [] 0
@@ -119,25 +189,3 @@ module _ {C : Type 0} (ops : CostOps C) (f : Framed) (w : Weighting C) where
         let r = exact k i u is_cell le e in
         (r.0, record { rows = r.1.rows; level = get_append cliques (new ∷ []) (k.level - 1) r.1.rows r.1.level; has = r.1.has }, r.2)
   ]
-
-pub ArePiled-none : {C : Type 0} (made : List (List (Option C))) → ArePiled made (record { first = []; values = [] }) 0
-ArePiled-none made = record { size = refl; each = λ n values lt e. absurd (omega arith) }
-
--- one list more
-pub ArePiled-push : {C : Type 0} (made : List (List (Option C))) (first : List ℕ) (all new : List (Option C)) (m : ℕ) → slice_get made m ≡ Some new →
-    ArePiled made (record { first = first; values = all }) m → ArePiled made (record { first = first ++ length all ∷ []; values = all ++ new }) (m + 1)
-ArePiled-push {C} made first all new m at h =
-    let long : length (all ++ new) ≡ length all + length new = length-append all new in record {
-      size = omega (arith, length-append first (length all ∷ []), h.size);
-      each = λ n values lt e. elim (cases_lt n m) [
-        | inl less ↦
-            let b = h.each n values less e in
-            (b.0, get_append first (length all ∷ []) n b.0 b.1, omega (arith, b.2, long), b.3 ∙ sym (range_in_front all new b.0 (length values) b.2))
-        | inr le ↦
-            let same : n ≡ m = omega arith in
-            let here : new ≡ values = same_Some new values (sym at ∙ ap (slice_get made) (sym same) ∙ e) in
-            let begins : slice_get (first ++ length all ∷ []) n ≡ Some (length all) = subst (λ (z : ℕ). slice_get (first ++ length all ∷ []) z ≡ Some (length all)) (h.size ∙ sym same) (get_pushed first (length all)) in
-            let count : length new ≡ length values = ap length here in
-            (length all, begins, omega (arith, long, count), sym here ∙ sym (range_behind all new) ∙ ap (λ (z : ℕ). slice_range (all ++ new) (length all) (length all + z)) count)
-      ];
-    }

@@ -1,8 +1,9 @@
 -- For the functions of this crate alone: the rows of a cell, the cells of a level, and one level more.
-use Rattle.std.specs.Prelude.{◌≡◌, ℕ, ◌+◌, ◌-◌, ◌*◌, ◌<◌, ◌≤◌, List, length, Option, Some}
+use Rattle.std.specs.Prelude.{◌≡◌, ℕ, ◌+◌, ◌-◌, ◌*◌, ◌/◌, ◌<◌, ◌≤◌, List, ◌++◌, length, map, All, Option, Some}
 use Rattle.std.specs.List.{slice_get, slice_range}
 use Rattle.search_graph.specs.Costs.{CostOps}
 use Rattle.search_graph.specs.Digraph.{Weighting}
+use Rattle.cell_partition.specs.Partition.{level_at}
 use Rattle.cell_frame.specs.declared.cells.Cell.{Cell}
 use Rattle.cell_frame.specs.Borders.{Framed, IsCell, at_cell}
 use Rattle.cell_frame.specs.Cliqued.{Rows, HasRow, IsRow, AreExact}
@@ -18,26 +19,40 @@ pub record AreRows {C : Type 0} (ops : CostOps C) (f : Framed) (w : Weighting C)
 abbrev pub IsClique : {C : Type 0} → CostOps C → Framed → Weighting C → Cell → List (Option C) → Type 0
 IsClique ops f w k values = AreRows ops f w k values (length (at_cell f.entries k))
 
--- what the clique of a cell stands on
-pub record IsReady {C : Type 0} (ops : CostOps C) (f : Framed) (w : Weighting C) (cliques : List (Rows C)) (level number : ℕ) : Type 0 where
+-- row i of the n-th of these cliques is that of entry i of cell k
+abbrev pub IsRowOf : {C : Type 0} → CostOps C → Framed → Weighting C → Cell → Rows C → ℕ → Type 0
+IsRowOf {C} ops f w k rows n = (i u : ℕ) → slice_get (at_cell f.entries k) i ≡ Some u →
+    (row : List (Option C)) × HasRow rows n i (length (at_cell f.exits k)) row × IsRow ops f w k u row
+
+-- the cliques of the cells of a level from number `from` on and below `to`, one behind another
+pub record AreMade {C : Type 0} (ops : CostOps C) (f : Framed) (w : Weighting C) (level from to : ℕ) (rows : Rows C) : Type 0 where
+  pub size : from + length rows.first ≡ to
+  pub within : All (λ first. first ≤ length rows.values) rows.first
+  pub each : (n : ℕ) → n < length rows.first → IsRowOf ops f w (record { level = level; number = from + n }) rows n
+
+-- these cliques, and others behind them
+abbrev pub behind : {C : Type 0} → Rows C → Rows C → Rows C
+behind rows more = record { first = rows.first ++ map (λ first. length rows.values + first) more.first; values = rows.values ++ more.values }
+
+-- what the cliques of a level stand on
+pub record IsReady {C : Type 0} (ops : CostOps C) (f : Framed) (w : Weighting C) (cliques : List (Rows C)) (level : ℕ) : Type 0 where
+  pub above : 1 ≤ level
+  pub below : level ≤ length f.cells.levels
   pub small : AreSmall ops f.graph w
-  pub is_cell : IsCell f.cells (record { level = level; number = number })
   pub exact : AreExact ops f w cliques (level - 1)
 
--- the clique of the cell of this number
-abbrev pub IsCliqueOf : {C : Type 0} → CostOps C → Framed → Weighting C → ℕ → ℕ → List (Option C) → Type 0
-IsCliqueOf ops f w level number values = IsClique ops f w (record { level = level; number = number }) values
+-- where piece p of 64 begins, of a level with so many cells
+abbrev pub cut_at : ℕ → ℕ → ℕ
+cut_at count p = p * count / 64
 
--- the cliques of the first m cells of a level
-pub record AreMade {C : Type 0} (ops : CostOps C) (f : Framed) (w : Weighting C) (level : ℕ) (made : List (List (Option C))) (m : ℕ) : Type 0 where
-  pub size : length made ≡ m
-  pub each : (n : ℕ) (values : List (Option C)) → slice_get made n ≡ Some values → IsCliqueOf ops f w level n values
+-- the cliques of the cells of piece p of a level
+abbrev pub IsPiece : {C : Type 0} → CostOps C → Framed → Weighting C → ℕ → ℕ → Rows C → Type 0
+IsPiece ops f w level p rows = AreMade ops f w level (cut_at (length (level_at f.cells level)) p) (cut_at (length (level_at f.cells level)) (p + 1)) rows
 
--- the first m of these lists stand one behind another
-pub record ArePiled {C : Type 0} (made : List (List (Option C))) (rows : Rows C) (m : ℕ) : Type 0 where
-  pub size : length rows.first ≡ m
-  pub each : (n : ℕ) (values : List (Option C)) → n < m → slice_get made n ≡ Some values →
-      (first : ℕ) × (slice_get rows.first n ≡ Some first) × (first + length values ≤ length rows.values) × (values ≡ slice_range rows.values first (first + length values))
+-- the pieces of a level, in their order
+pub record ArePieces {C : Type 0} (ops : CostOps C) (f : Framed) (w : Weighting C) (level : ℕ) (made : List (Rows C)) : Type 0 where
+  pub size : length made ≡ 64
+  pub each : (p : ℕ) (rows : Rows C) → slice_get made p ≡ Some rows → IsPiece ops f w level p rows
 
 -- each row of the level has the least costs inside its cell
 abbrev pub IsExactLevel : {C : Type 0} → CostOps C → Framed → Weighting C → Rows C → ℕ → Type 0

@@ -6,8 +6,9 @@
 #![tactic(auto)]
 
 mod customizing;
-mod levels;
+mod pieces;
 mod rows;
+mod scratch;
 mod side_by_side;
 #[cfg(test)]
 mod tests;

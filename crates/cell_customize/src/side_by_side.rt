@@ -1,47 +1,80 @@
 //! The cells of a level side by side, in as many threads as there are processors.
 
-ghost use Rattle.std.specs.Prelude.{◌≡◌, ◌-◌, ◌≤◌, length, IfOk};
+ghost use Rattle.std.specs.Prelude.{◌≡◌, ◌-◌, ◌<◌, ◌≤◌, length, IfOk};
 ghost use Rattle.cell_partition.specs.Partition.{level_at};
 ghost use Rattle.cell_frame.specs.Cliqued.{AreExact};
 ghost use Rattle.search_graph.specs.Weighted.{AreSmall};
-ghost use Rattle.cell_customize.specs.Levels.{IsReady, IsCliqueOf, AreMade, IsExactLevel};
+ghost use Rattle.cell_customize.specs.Levels.{AreMade, ArePieces, IsExactLevel, IsPiece, IsReady, cut_at};
 
-use crate::levels::piled;
-use crate::rows::clique;
-use cell_frame::{Cell, Cliques, Frame, LevelCliques};
-use cost_lists::CostList;
+use crate::pieces::{Piece, cliques_of};
+use crate::scratch::Scratch;
+use cell_frame::{Cliques, Frame, LevelCliques};
 use rayon::prelude::*;
 use search_graph::{Cost, Weights};
 use std::alloc::{AllocError, Global};
 use std::thread::Threads;
 
-// How many cells one piece of work has at least.
-const LEAST_PIECE: usize = 1;
+// How many pieces the cells of a level are cut into: as many as `rayon` has threads at most. Each piece has a search
+// of its own.
+const PIECES: u32 = 64;
 
-// The clique of each cell of a level, by those of the levels below it.
-fn cliques_of<C: Cost + Send + Sync>(
+// At which cell a piece of a level begins, of as many cells.
+fn cut(count: u32, place: u32) -> u32
+    requires { place ≤ 64 }
+    ensures { result ≡ cut_at count place }
+{
+    (u64::from(place) * u64::from(count) / u64::from(PIECES)) as u32
+}
+
+// The cliques of the cells of one piece of a level, by those of the levels below it.
+fn piece<C: Cost>(
+    alloc: Global,
+    frame: &Frame,
+    weights: &Weights<C>,
+    cliques: &Cliques<C>,
+    level: u32,
+    place: u32,
+) -> Result<Piece<C>, AllocError>
+    requires ready { IsReady C.ops frame.now weights.now cliques.now level }
+    requires place { place < 64 }
+    ensures { IfOk result (IsPiece C.ops frame.now weights.now level place) }
+{
+    let count = frame.count(level);
+    let from = cut(count, place);
+    let to = cut(count, place + 1);
+    let mut scratch = Scratch::new(alloc)?;
+    cliques_of(
+        alloc,
+        frame,
+        weights,
+        cliques,
+        level,
+        from,
+        to,
+        &mut scratch,
+    )
+}
+
+// The pieces of a level, in order.
+fn pieces<C: Cost + Send + Sync>(
     rt: &(impl Threads + Sync),
     alloc: Global,
     frame: &Frame,
     weights: &Weights<C>,
     cliques: &Cliques<C>,
     level: u32,
-) -> Result<Vec<CostList<C>>, AllocError>
-    requires above { 1 ≤ level }
-    requires below { level ≤ length frame.now.cells.levels }
-    requires weights { AreSmall C.ops frame.now.graph weights.now }
-    requires cliques { AreExact C.ops frame.now weights.now cliques.now (level - 1) }
-    ensures { IfOk result (λ made. AreMade C.ops frame.now weights.now level made.items (length (level_at frame.now.cells level))) }
+) -> Result<Vec<Piece<C>>, AllocError>
+    requires ready { IsReady C.ops frame.now weights.now cliques.now level }
+    ensures { IfOk result (λ made. ArePieces C.ops frame.now weights.now level made.items) }
 {
-    let count = frame.count(level);
-    let done: Result<Vec<CostList<C>>, AllocError> = (0..count)
+    let done: Result<Vec<Piece<C>>, AllocError> = (0..PIECES)
         .into_par_iter()
-        .with_min_len(LEAST_PIECE)
+        .with_min_len(1)
         .map(
-            |number: u32| -> Result<CostList<C>, AllocError>
-                requires { IsReady C.ops frame.now weights.now cliques.now level number }
-                ensures { IfOk result (IsCliqueOf C.ops frame.entry.now weights.entry.now level number) }
-            { clique(alloc, frame, weights, cliques, Cell { level, number }) },
+            |place: u32| -> Result<Piece<C>, AllocError>
+                requires { IsReady C.ops frame.now weights.now cliques.now level × (place < 64) }
+                ensures { IfOk result (IsPiece C.ops frame.entry.now weights.entry.now level place) }
+            { piece(alloc, frame, weights, cliques, level, place) },
         )
         .collect(rt, alloc)?;
     done
@@ -62,9 +95,12 @@ fn level_in_threads<C: Cost + Send + Sync>(
     requires cliques { AreExact C.ops frame.now weights.now cliques.now (level - 1) }
     ensures { IfOk result (λ rows. IsExactLevel C.ops frame.now weights.now rows level) }
 {
-    let made = cliques_of(rt, alloc, frame, weights, cliques, level)?;
-    let rows = piled(alloc, made.as_slice())?;
-    Ok(rows)
+    let pieces = pieces(rt, alloc, frame, weights, cliques, level)?;
+    let mut all = Piece::new(alloc);
+    for piece in pieces.as_slice() {
+        all.append(piece)?;
+    }
+    Ok(all.into_level())
 }
 
 /// As `customize`, with the cells of a level side by side in threads.
