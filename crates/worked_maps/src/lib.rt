@@ -1,7 +1,9 @@
-//! Tests over worked maps, of what no clause says: that geometry, networks and metrics come out as their
-//! definitions are meant, and are made where memory is ample.
+//! Tests over worked maps, of what no clause says: that geometry, networks, metrics, cells and what walks cost
+//! inside these come out as their definitions are meant, and are made where memory is ample.
 #![tactic(auto)]
 
+#[cfg(test)]
+mod cells;
 #[cfg(test)]
 mod geometry;
 #[cfg(test)]

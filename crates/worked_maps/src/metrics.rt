@@ -29,8 +29,8 @@ fn streets(alloc: Global) -> Result<Vec<Object>, AllocError> {
     Ok(objects)
 }
 
-// A cost as its duration and its length; `-` where there is none.
-fn cost_told(alloc: Global, cost: Option<DurLen>) -> Result<String, AllocError> {
+/// A cost as its duration and its length; `-` where there is none.
+pub fn cost_told(alloc: Global, cost: Option<DurLen>) -> Result<String, AllocError> {
     match cost {
         Some(cost) => format!(in alloc; "{}/{} ", cost.duration, cost.length),
         None => String::from_str(alloc, "- "),

@@ -1,0 +1,29 @@
+-- A road network cut into cells by where its vertices lie (this project's rule).
+use Rattle.std.specs.Prelude.{◌≡◌, ℕ, ℤ, ◌+ℤ◌, List, map}
+use Rattle.road_base.specs.declared.coordinates.Point.{Point}
+use Rattle.edge_graph.specs.NetworkView.{NetworkView, graph_of, vertices_of}
+use Rattle.edge_graph.specs.Vertex.{Vertex}
+use Rattle.cell_partition.specs.Halving.{IsHalvedBy}
+use Rattle.cell_frame.specs.Borders.{Framed, IsFramed}
+
+-- a network, and a frame
+pub record RoadsView : Type 0 where
+  pub network : NetworkView
+  pub frame : Framed
+
+-- twice the point halfway between two: the sum of both, longitude first, in microdegrees
+abbrev pub midpoint_between : Point → Point → ℤ × ℤ
+midpoint_between from to = (from.lon +ℤ to.lon, from.lat +ℤ to.lat)
+
+abbrev pub midpoint_of : Vertex → ℤ × ℤ
+midpoint_of v = midpoint_between v.from v.to
+
+-- where the vertices of a network lie, in their order
+abbrev pub midpoints_of : NetworkView → List (ℤ × ℤ)
+midpoints_of network = map midpoint_of (vertices_of network)
+
+-- the frame is that of the network's graph: its cells are halved by these limits, and have their entries and exits
+pub record IsFrameOf (network : NetworkView) (limits : List ℕ) (frame : Framed) : Type 0 where
+  pub graph : frame.graph ≡ graph_of network
+  pub cells : IsHalvedBy (midpoints_of network) limits frame.cells
+  pub framed : IsFramed frame

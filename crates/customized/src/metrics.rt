@@ -1,0 +1,135 @@
+//! Metrics of roads, customized whole.
+
+ghost use Rattle.std.specs.Prelude.{◌≡◌, ◌↔◌, IfOk, length};
+ghost use Rattle.cell_frame.specs.Cliqued.{AreExact};
+ghost use Rattle.edge_graph.specs.NetworkView.{graph_of};
+ghost use Rattle.customized.specs.Exact.{ShareRoads, customized_on};
+ghost use Rattle.search_graph.specs.Durations.{durlen_ops};
+ghost use Rattle.search_graph.specs.Weighted.{AreSmall, IsWeighting};
+
+use crate::roads::Roads;
+use crate::under::Under;
+use cell_customize::customize_in_threads;
+use cell_frame::{Cliques, Frame};
+use edge_graph::Network;
+use metric_make::BaseMetric;
+use metric_publish::entry::Kindred;
+use search_graph::DurLen;
+use std::alloc::{AllocError, Global};
+use std::marker::Model;
+use std::thread::Threads;
+
+/// What the vertices and turns of roads cost, with what cheapest walks cost inside each of their cells for
+/// just these costs. Contracts see the costs and the frame; that its cliques are exact for these costs is true
+/// of each metric.
+#[derive(Drop)]
+pub struct Metric {
+    roads: Roads,
+    base: BaseMetric,
+    cliques: Cliques<DurLen>,
+}
+
+impl Model for Metric {
+    ghost use Rattle.customized.specs.Exact.{Customized, IsExact, customized_on};
+
+    ghost Value = { Customized };
+
+    ghost view = { λ m. customized_on m.roads m.base };
+
+    ghost invariant = { λ m. IsExact (customized_on m.roads m.base) m.cliques };
+}
+
+/// Metrics of the same network and frame may stand on one board.
+impl Kindred for Metric {
+    ghost use Rattle.std.specs.Prelude.{refl};
+    ghost use Rattle.customized.specs.Exact.{ShareRoads};
+
+    ghost akin = { ShareRoads };
+
+    ghost itself = { λ x. (refl, refl) };
+}
+
+impl Metric {
+    /// The metric of roads under these costs, which `base` of `metric_make` gives for their network. It
+    /// customizes all cells, those of a level side by side in threads, and answers an error only where memory
+    /// runs out.
+    pub fn make(
+        rt: &(impl Threads + Sync),
+        alloc: Global,
+        roads: &Roads,
+        base: BaseMetric,
+    ) -> Result<Metric, AllocError>
+        requires { IsWeighting durlen_ops (graph_of roads.now.network) base.weights }
+        ensures { IfOk result (λ metric. metric ≡ customized_on roads.now base) }
+    {
+        let roads = roads.copy()?;
+        known_small(&roads, &base);
+        let cliques = customize_in_threads(rt, alloc, roads.frame(), base.weights())?;
+        Ok(Metric {
+            roads,
+            base,
+            cliques,
+        })
+    }
+
+    /// The network.
+    pub fn network(&self) -> &Network
+        ensures { result.now ≡ self.now.road.network }
+    {
+        self.roads.network()
+    }
+
+    /// The frame of its graph.
+    pub fn frame(&self) -> &Frame
+        ensures value { result.now ≡ self.now.frame }
+        ensures graph { self.now.frame.graph ≡ graph_of self.now.road.network }
+    {
+        self.roads.frame()
+    }
+
+    /// What the vertices and turns of the network cost.
+    pub fn base(&self) -> &BaseMetric
+        ensures value { result.now.weights ≡ self.now.road.weights }
+        ensures small { AreSmall durlen_ops self.now.frame.graph self.now.road.weights }
+    {
+        &self.base
+    }
+
+    /// What cheapest walks cost inside the cells of the frame, under just these costs.
+    pub fn cliques(&self) -> &Cliques<DurLen>
+        ensures { AreExact durlen_ops self.now.frame self.now.road.weights result.now (length self.now.frame.cells.levels) }
+    {
+        &self.cliques
+    }
+
+    /// What an answer under this metric needs of it.
+    pub fn under(&self) -> Under<'_>
+        ensures { result ≡ self.now }
+    {
+        Under {
+            network: self.roads.network(),
+            frame: self.roads.frame(),
+            base: &self.base,
+            cliques: &self.cliques,
+        }
+    }
+
+    /// Tells a proof that exactly the metrics of one network and one frame may stand on one board. It does
+    /// nothing.
+    pub fn kin(&self, other: &Metric)
+        ensures { ⟦<Metric as Kindred>⟧.akin self.now other.now ↔ ShareRoads self.now other.now }
+    {
+        let _ = &self.roads;
+        let _ = &other.roads;
+    }
+}
+
+// Tells a proof that the costs of roads are small. It does nothing.
+fn known_small(roads: &Roads, base: &BaseMetric)
+    requires { IsWeighting durlen_ops (graph_of roads.now.network) base.now.weights }
+    ensures { AreSmall durlen_ops roads.now.frame.graph base.now.weights }
+{
+    let _graph = roads.frame();
+    let _few = roads.network().segments();
+    let _units = base.weights();
+}

@@ -1,0 +1,96 @@
+//! Road networks cut into cells.
+
+ghost use Rattle.std.specs.Prelude.{◌≡◌, ◌≤◌, All, IfOk};
+ghost use Rattle.std.specs.List.Sorted.{IsStrictlyIncreasing};
+ghost use Rattle.edge_graph.specs.NetworkView.{graph_of};
+ghost use Rattle.customized.specs.Framing.{IsFrameOf};
+
+use crate::midpoints::midpoints;
+use cell_frame::Frame;
+use cell_partition::{PartitionError, cells};
+use edge_graph::Network;
+use std::alloc::{AllocError, Global};
+use std::marker::Model;
+use std::sync::Arc;
+
+/// A road network with the frame of its graph. Contracts see both.
+#[derive(Drop)]
+pub struct Roads {
+    network: Arc<Network>,
+    frame: Arc<Frame>,
+}
+
+impl Model for Roads {
+    ghost use Rattle.customized.specs.Framing.{RoadsView};
+
+    ghost Value = { RoadsView };
+
+    ghost use Rattle.std.specs.Prelude.{◌≡◌};
+    ghost use Rattle.std.specs.Arc.{arc_value};
+    ghost use Rattle.edge_graph.specs.NetworkView.{graph_of};
+
+    ghost view = { λ r. record { network = arc_value r.network; frame = arc_value r.frame } };
+
+    ghost invariant = { λ r. (arc_value r.frame).graph ≡ graph_of (arc_value r.network) };
+}
+
+impl Roads {
+    /// A network cut into cells by where its vertices lie: those of level 1 have at most as many vertices as
+    /// the first limit, those of the highest level at most as many as the last. It answers an error only where
+    /// memory runs out.
+    pub fn of(alloc: Global, network: Network, limits: &[u32]) -> Result<Roads, AllocError>
+        requires ascending { IsStrictlyIncreasing limits.now }
+        requires some { All (λ limit. 1 ≤ limit) limits.now }
+        ensures network { IfOk result (λ roads. roads.network ≡ network) }
+        ensures frame { IfOk result (λ roads. IsFrameOf network limits.now roads.frame) }
+    {
+        let frame = frame_of(alloc, &network, limits)?;
+        Ok(Roads {
+            network: Arc::new(alloc, network)?,
+            frame: Arc::new(alloc, frame)?,
+        })
+    }
+
+    /// The network.
+    pub fn network(&self) -> &Network
+        ensures { result.now ≡ self.now.network }
+    {
+        &self.network
+    }
+
+    /// The frame of its graph.
+    pub fn frame(&self) -> &Frame
+        ensures value { result.now ≡ self.now.frame }
+        ensures graph { self.now.frame.graph ≡ graph_of self.now.network }
+    {
+        &self.frame
+    }
+
+    /// Roads that share the memory of these. It answers the error where no more can share it.
+    pub fn copy(&self) -> Result<Roads, AllocError>
+        ensures { IfOk result (λ roads. roads ≡ self.now) }
+    {
+        Ok(Roads {
+            network: Arc::try_clone(&self.network)?,
+            frame: Arc::try_clone(&self.frame)?,
+        })
+    }
+}
+
+// The frame of a network's graph, by these limits.
+fn frame_of(alloc: Global, network: &Network, limits: &[u32]) -> Result<Frame, AllocError>
+    requires ascending { IsStrictlyIncreasing limits.now }
+    requires some { All (λ limit. 1 ≤ limit) limits.now }
+    ensures { IfOk result (IsFrameOf network.now limits.now) }
+{
+    let graph = network.graph();
+    let midpoints = midpoints(alloc, network)?;
+    match cells(alloc, &midpoints, limits) {
+        Ok(cells) => {
+            let frame = Frame::of(alloc, graph, cells)?;
+            frame.known();
+            Ok(frame)
+        }
+        Err(PartitionError::Memory(error)) => Err(error),
+    }
+}

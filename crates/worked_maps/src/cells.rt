@@ -1,0 +1,149 @@
+//! The cells of worked towns, and what walks cost inside them; the values are worked out by hand from this
+//! project's rules.
+
+ghost use Rattle.std.specs.Prelude.{◌<◌, ◌≤◌, All, length};
+ghost use Rattle.std.specs.List.Sorted.{IsStrictlyIncreasing};
+ghost use Rattle.cell_frame.specs.Borders.{IsCell, at_cell};
+
+use crate::metrics::cost_told;
+use crate::networks::CAR;
+use crate::towns::{add_nodes, add_way, bend, profile_of};
+use cell_frame::Cell;
+use customized::{Metric, Roads};
+use edge_graph::Network;
+use metric_make::base;
+use road_base::Object;
+use search_graph::DurLen;
+use std::alloc::{AllocError, Global};
+use std::thread::Threads;
+
+// Vertices, each with a blank behind it.
+fn vertices_told(alloc: Global, vertices: &[u32]) -> Result<String, AllocError> {
+    let mut text = String::new(alloc);
+    for v in vertices {
+        text.push_str(format!(in alloc; "{v} ")?.as_str())?;
+    }
+    Ok(text)
+}
+
+// What the walks cost inside a cell from its entry at this place to each exit.
+fn row_told(alloc: Global, metric: &Metric, cell: Cell, i: usize) -> Result<String, AllocError>
+    requires cell { IsCell metric.now.frame.cells cell }
+    requires entry { i < length (at_cell metric.now.frame.entries cell) }
+{
+    let mut text = String::new(alloc);
+    let row = metric.cliques().row(metric.frame(), cell, i);
+    for j in 0..row.len() {
+        text.push_str(cost_told(alloc, row.get(j))?.as_str())?;
+    }
+    Ok(text)
+}
+
+// The entries of a cell, its exits, and what the walks between them cost inside it.
+fn cell_told(alloc: Global, metric: &Metric, cell: Cell) -> Result<String, AllocError>
+    requires { IsCell metric.now.frame.cells cell }
+{
+    let entries = metric.frame().entries(cell);
+    let mut text = vertices_told(alloc, entries)?;
+    text.push_str("to ")?;
+    text.push_str(vertices_told(alloc, metric.frame().exits(cell))?.as_str())?;
+    for i in 0..entries.len() {
+        text.push_str(row_told(alloc, metric, cell, i)?.as_str())?;
+    }
+    Ok(text)
+}
+
+// The cell of each vertex at a level, and what each cell is.
+fn level_told(alloc: Global, metric: &Metric, level: u32) -> Result<String, AllocError>
+    requires above { 1 ≤ level }
+    requires below { level ≤ length metric.now.frame.cells.levels }
+{
+    let mut text = String::new(alloc);
+    for v in 0..metric.frame().graph().vertices() {
+        let number = metric.frame().cell(level, v).number;
+        text.push_str(format!(in alloc; "{number} ")?.as_str())?;
+    }
+    for number in 0..metric.frame().count(level) {
+        text.push_str("| ")?;
+        text.push_str(cell_told(alloc, metric, Cell { level, number })?.as_str())?;
+    }
+    Ok(text)
+}
+
+// All levels, the lowest first.
+fn told(alloc: Global, metric: &Metric) -> Result<String, AllocError> {
+    let mut text = String::new(alloc);
+    for below in 0..metric.frame().levels() {
+        text.push_str(level_told(alloc, metric, below + 1)?.as_str())?;
+        text.push_str("; ")?;
+    }
+    Ok(text)
+}
+
+// The metric of a map by the settings alone, cut into cells by these limits.
+fn customized(
+    rt: &(impl Threads + Sync),
+    alloc: Global,
+    objects: &[Object],
+    limits: &[u32],
+) -> Result<Metric, AllocError>
+    requires ascending { IsStrictlyIncreasing limits.now }
+    requires some { All (λ limit. 1 ≤ limit) limits.now }
+{
+    let Ok(network) = Network::build(alloc, objects, &profile_of(alloc, CAR)?) else {
+        return Err(AllocError);
+    };
+    let roads = Roads::of(alloc, network, limits)?;
+    let base = base(alloc, roads.network())?;
+    Metric::make(rt, alloc, &roads, base)
+}
+
+// A way into a street and out again turns back at its end. Above both streets nothing is entered or left.
+#[test]
+fn a_way_into_a_street_turns_back_at_its_end(rt: HostRuntime) -> Result<(), AllocError> {
+    let alloc = rt.alloc();
+    let streets = "0 0 1 1 | 1 to 0 299/1111 | 2 to 3 299/1111 ; ";
+    let one = customized(&rt, alloc, &bend(alloc, &[])?, &[2])?;
+    assert_eq!(rt; told(alloc, &one)?.as_str(), streets);
+    let two = customized(&rt, alloc, &bend(alloc, &[])?, &[2, 4])?;
+    assert_eq!(rt;
+        told(alloc, &two)?.as_str(),
+        format!(in alloc; "{streets}0 0 0 0 | to ; ")?.as_str()
+    );
+    Ok(())
+}
+
+// A street round a block, one way. Segment 3 lies in the west, segment 1 in the east.
+fn ring(alloc: Global) -> Result<Vec<Object>, AllocError> {
+    let mut objects = Vec::new(alloc);
+    let nodes = [(1, 0, 0), (2, 1000, 0), (3, 1000, 1000), (4, 0, 1000)];
+    add_nodes(alloc, &mut objects, &nodes)?;
+    let oneway = [("highway", "residential"), ("oneway", "yes")];
+    add_way(alloc, &mut objects, 20, &oneway, &[1, 2, 3, 4, 1])?;
+    Ok(objects)
+}
+
+// Each cell is entered and left by one vertex, and to stay there costs nothing.
+#[test]
+fn a_street_round_a_block_is_cut_by_its_segments(rt: HostRuntime) -> Result<(), AllocError> {
+    let alloc = rt.alloc();
+    let ring = customized(&rt, alloc, &ring(alloc)?, &[1, 2])?;
+    assert_eq!(rt;
+        told(alloc, &ring)?.as_str(),
+        "2 3 6 7 4 5 0 1 | 6 to 6 0/0 | to | 0 to 0 0/0 | to | 4 to 4 0/0 | to | 2 to 2 0/0 | to ; 1 1 3 3 2 2 0 0 | 6 to 6 0/0 | 0 to 0 0/0 | 4 to 4 0/0 | 2 to 2 0/0 ; "
+    );
+    Ok(())
+}
+
+// What an answer is given is the metric's own.
+#[test]
+fn an_answer_is_given_the_metrics_own_parts(rt: HostRuntime) -> Result<(), AllocError> {
+    let alloc = rt.alloc();
+    let metric = customized(&rt, alloc, &bend(alloc, &[])?, &[2])?;
+    metric.kin(&metric);
+    let under = metric.under();
+    assert_eq!(rt; (under.network().segments(), under.network().turns()), (2, 4));
+    assert_eq!(rt; under.frame().levels(), 1);
+    assert_eq!(rt; metric.network().segments(), 2);
+    Ok(())
+}
