@@ -1,0 +1,5 @@
+pub mod Coming
+pub mod Ending
+pub mod Exchanges
+pub mod SoFar
+pub mod Taking
