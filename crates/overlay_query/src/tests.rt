@@ -44,21 +44,36 @@ fn by_cell(to: u32, level: u32, number: u32) -> Hop {
     Hop { to, by: Some(cell) }
 }
 
-// The costs of two streets, each driven both ways: to turn back costs 200.
+// What the ends of two streets cost.
+fn street_vertices(alloc: Global) -> Result<CostList<DurLen>, AllocError>
+    ensures { IfOk result (λ costs. (length costs ≡ 4) × All (λ o. ForSome o (λ x. durlen_ops.units x 1)) costs) }
+{
+    let mut costs = CostList::new(alloc);
+    costs.push(Some(cost(99, 1111)))?;
+    costs.push(Some(cost(99, 1111)))?;
+    costs.push(Some(cost(99, 1111)))?;
+    costs.push(Some(cost(99, 1111)))?;
+    Ok(costs)
+}
+
+// What the ways between them cost: to turn back costs 200.
+fn street_arcs(alloc: Global) -> Result<FullCostList<DurLen>, AllocError>
+    ensures { IfOk result (λ costs. (length costs ≡ 4) × All (λ a. durlen_ops.units a 1) costs) }
+{
+    let mut costs = FullCostList::with_capacity(alloc, 4)?;
+    costs.push(cost(0, 0))?;
+    costs.push(cost(0, 0))?;
+    costs.push(cost(200, 0))?;
+    costs.push(cost(200, 0))?;
+    Ok(costs)
+}
+
 fn street_weights(alloc: Global, graph: &Graph) -> Result<Weights<DurLen>, AllocError>
     requires { (graph.now.vertices ≡ 4) × (length graph.now.arcs ≡ 4) }
     ensures { IfOk result (AreSmall durlen_ops graph.now) }
 {
-    let mut vertex = CostList::new(alloc);
-    vertex.push(Some(cost(99, 1111)))?;
-    vertex.push(Some(cost(99, 1111)))?;
-    vertex.push(Some(cost(99, 1111)))?;
-    vertex.push(Some(cost(99, 1111)))?;
-    let mut arc = FullCostList::with_capacity(alloc, 4)?;
-    arc.push(cost(0, 0))?;
-    arc.push(cost(0, 0))?;
-    arc.push(cost(200, 0))?;
-    arc.push(cost(200, 0))?;
+    let vertex = street_vertices(alloc)?;
+    let arc = street_arcs(alloc)?;
     Ok(small_weights(graph, vertex, arc))
 }
 
