@@ -1,7 +1,5 @@
 pub mod Cuts
 pub mod Marks
-pub mod Plain
 pub mod Degrees
 pub mod FifthPiece
 pub mod Numbered
-pub mod Judged

@@ -43,4 +43,6 @@ pub use requests::{NearestOptions, Request, RouteOptions, Service, TableOptions}
 pub use targets::{request, whole_request};
 
 #[cfg(test)]
+mod option_tests;
+#[cfg(test)]
 mod tests;

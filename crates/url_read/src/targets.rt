@@ -4,6 +4,7 @@ ghost use Rattle.std.specs.Prelude.{◌≡◌, ◌≤◌, ℤ, Some, Ok, Err, If
 ghost use Rattle.url_read.specs.Options.{options_of};
 ghost use Rattle.url_read.specs.Refusals.{IsFaultOf, bad_path};
 ghost use Rattle.url_read.specs.Request.{of_pieces, of_service, only_of, request_in, request_of, service_named, whole_request_of, with_degrees, with_values, name_of_service, IsFitting};
+ghost use Rattle.url_read.specs.declared.service_names.ServiceName.TheVariants.{Route};
 
 use crate::coordinates::degrees_in;
 use crate::judging::check_options;
@@ -28,6 +29,7 @@ pub fn request(alloc: Global, target: &[u8]) -> Result<Request, RequestFault>
     ensures request { IfOk result (λ request. request_of target.now ≡ Ok request) }
     ensures least { IfOk result (λ request. 2 ≤ length request.points) }
     ensures most { IfOk result (λ request. length request.points ≤ 500) }
+    ensures route { IfOk result (λ request. name_of_service request.service ≡ Route) }
     ensures fitting { IfOk result IsFitting }
     ensures refusal { IfErr result (IsFaultOf (request_of target.now)) }
 {
