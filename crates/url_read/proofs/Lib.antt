@@ -3,3 +3,11 @@ pub mod Marks
 pub mod Degrees
 pub mod FifthPiece
 pub mod Numbered
+pub mod EachRead
+pub mod LastValues
+pub mod Judged
+pub mod Numbers
+pub mod Suffixes
+pub mod Kept
+pub mod Fitting
+pub mod Chosen

@@ -12,6 +12,7 @@
 mod chosen_lists;
 mod coordinates;
 mod cutting;
+mod decimetres;
 mod entries;
 mod entry_lists;
 mod entry_values;
