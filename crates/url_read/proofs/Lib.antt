@@ -9,5 +9,4 @@ pub mod Judged
 pub mod Numbers
 pub mod Suffixes
 pub mod Kept
-pub mod Fitting
-pub mod Chosen
+pub mod ChosenAmong

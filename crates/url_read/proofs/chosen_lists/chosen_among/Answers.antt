@@ -5,7 +5,7 @@ use Rattle.std.specs.Option.{option_copied}
 use Rattle.std.specs.Str.{bytes_eq}
 use Rattle.url_read.specs.Judging.{chosen_among}
 use Rattle.url_read.specs.declared.option_types.Chosen.TheVariants.{Only}
-use Rattle.url_read.proofs.Chosen.{chosen_among-low, chosen_among-high}
+use Rattle.url_read.proofs.ChosenAmong.{chosen_among-low, chosen_among-high}
 use Rattle.url_read.proofs.chosen_lists.chosen_among.Goals as goal
 
 pub returns-then-are_below : goal.returns-then-are_below
