@@ -34,11 +34,11 @@ bad_count count = record { code = InvalidQuery; message = decimal count ++ codes
 
 -- so many coordinates are too many
 abbrev pub too_many : ℕ → ℕ → Refusal
-too_many count most = record { code = TooBig; message = decimal count ++ codes " coordinates, at most " ++ decimal most }
+too_many count most = record { code = TooBig; message = decimal count ++ (codes " coordinates, at most " ++ decimal most) }
 
 -- so many results are too many
 abbrev pub too_many_results : ℕ → ℕ → Refusal
-too_many_results count most = record { code = TooBig; message = decimal count ++ codes " results, at most " ++ decimal most }
+too_many_results count most = record { code = TooBig; message = decimal count ++ (codes " results, at most " ++ decimal most) }
 
 -- one step after another: the first refusal ends them
 abbrev pub and_then : {A B : Type 0} → Result A Refusal → (A → Result B Refusal) → Result B Refusal

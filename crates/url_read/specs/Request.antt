@@ -89,10 +89,13 @@ abbrev pub overview_refusal : Scope → Service → Option Refusal
 overview_refusal scope service = if has_overview scope service then None else Some (bad_option (codes "overview"))
 
 -- last of the seventh, the overview; eighth, each coordinate is on the Earth
+abbrev pub points_for : Scope → Service → List (ℤ × ℤ) → Result (List Point) Refusal
+points_for scope service degrees =
+    unless (overview_refusal scope service)
+    (and_then (points_at degrees) (λ points. unless (size_refusal service (length points)) (Ok points)))
+
 abbrev pub with_values : Scope → List (ℤ × ℤ) → OptionValues → Result Request Refusal
-with_values scope degrees values =
-    unless (overview_refusal scope values.service)
-    (and_then (points_at degrees) (λ points. unless (size_refusal values.service (length points)) (Ok (request_at values points))))
+with_values scope degrees values = and_then (points_for scope values.service degrees) (λ points. Ok (request_at values points))
 
 -- sixth, there are enough coordinates; seventh, the options
 abbrev pub with_degrees : Scope → ServiceName → List (List ℕ) → List (ℤ × ℤ) → Result Request Refusal
@@ -130,6 +133,13 @@ whole_request_of target = request_in Whole target
 -- of what is answered so far
 abbrev pub request_of : List ℕ → Result Request Refusal
 request_of target = request_in Answered target
+
+-- values with an entry for each of so many coordinates
+pub record HasEach (count : ℕ) (values : OptionValues) : Type 0 where
+  pub radiuses : length values.radiuses ≡ count
+  pub bearings : length values.bearings ≡ count
+  pub approaches : length values.approaches ≡ count
+  pub hints : length values.hints ≡ count
 
 -- a request of so many coordinates as its service may have, with an entry for each
 pub record IsFitting (request : Request) : Type 0 where

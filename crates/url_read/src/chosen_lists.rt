@@ -34,9 +34,13 @@ pub(crate) fn chosen_among(
     if value == ALL {
         return Ok(Some(Chosen::All));
     }
-    match all_read::<u32>(alloc, value)? {
-        Some(indexes) if are_below(&indexes, count) => Ok(Some(Chosen::Only(Indexes::of(indexes)))),
-        _ => Ok(None),
+    let Some(indexes) = all_read::<u32>(alloc, value)? else {
+        return Ok(None);
+    };
+    if are_below(&indexes, count) {
+        Ok(Some(Chosen::Only(Indexes::of(indexes))))
+    } else {
+        Ok(None)
     }
 }
 

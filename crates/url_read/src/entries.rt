@@ -1,6 +1,6 @@
 //! Values that are lists of entries, parted by semicolons.
 
-ghost use Rattle.std.specs.Prelude.{◌≡◌, [], None, Some, IfOk, MatchOption, is_some, option_copied, option_map, replicate};
+ghost use Rattle.std.specs.Prelude.{◌≡◌, [], None, Some, IfOk, IfSome, MatchOption, is_some, length, option_copied, option_map, replicate};
 ghost use Rattle.std.specs.List.{slice_split};
 ghost use Rattle.url_read.specs.Judging.{one_each};
 ghost use Rattle.url_read.specs.Values.{all_read, hint_of};
@@ -49,7 +49,8 @@ pub(crate) fn one_each<E: Entry>(
     count: usize,
     value: Option<&str>,
 ) -> Result<Option<Vec<E>>, AllocError>
-    ensures { IfOk result (λ found. option_map (λ entries. entries.items) found ≡ one_each absent E.read count (option_copied value.entry)) }
+    ensures entries { IfOk result (λ found. option_map (λ entries. entries.items) found ≡ one_each absent E.read count (option_copied value.entry)) }
+    ensures count { IfOk result (λ found. IfSome found (λ entries. length entries.items ≡ count)) }
 {
     let Some(value) = value else {
         return Ok(Some(copies_of(alloc, absent, count)?));
@@ -78,7 +79,8 @@ pub(crate) fn hints_each(
     count: usize,
     value: Option<&str>,
 ) -> Result<Option<Vec<Text>>, AllocError>
-    ensures { IfOk result (λ found. option_map (λ hints. hints.items) found ≡ one_each [] hint_of count (option_copied value.entry)) }
+    ensures hints { IfOk result (λ found. option_map (λ hints. hints.items) found ≡ one_each [] hint_of count (option_copied value.entry)) }
+    ensures count { IfOk result (λ found. IfSome found (λ hints. length hints.items ≡ count)) }
 {
     let Some(value) = value else {
         return Ok(Some(empty_texts(alloc, count)?));

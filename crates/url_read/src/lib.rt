@@ -12,6 +12,7 @@
 mod chosen_lists;
 mod coordinates;
 mod cutting;
+mod decimetres;
 mod entries;
 mod entry_lists;
 mod entry_values;
@@ -42,5 +43,7 @@ pub use refusals::{Refusal, RefusalCode, RequestFault};
 pub use requests::{NearestOptions, Request, RouteOptions, Service, TableOptions};
 pub use targets::{request, whole_request};
 
+#[cfg(test)]
+mod option_tests;
 #[cfg(test)]
 mod tests;

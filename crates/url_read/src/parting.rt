@@ -46,7 +46,7 @@ fn once_if(byte: u8, wanted: u8) -> usize
 
 // A part of a target with its percent escapes read, None where that is not UTF-8.
 pub(crate) fn decoded(alloc: Global, part: &[u8]) -> Result<Option<String>, AllocError>
-    ensures { IfOk result (λ found. MatchOption found (is_utf8 (percent_decode part.now) ≡ false) (λ text. (string_bytes text ≡ percent_decode part.now) × (is_utf8 (percent_decode part.now) ≡ true))) }
+    ensures { IfOk result (λ found. MatchOption found (is_utf8 (percent_decode part.now) ≡ false) (λ text. string_bytes text ≡ percent_decode part.now)) }
 {
     let mut bytes = Vec::new(alloc);
     percent_decode(part).append_to(&mut bytes)?;
@@ -54,4 +54,12 @@ pub(crate) fn decoded(alloc: Global, part: &[u8]) -> Result<Option<String>, Allo
         Ok(text) => Ok(Some(text)),
         Err(_) => Ok(None),
     }
+}
+
+// The characters of a text, which are UTF-8.
+pub(crate) fn characters(text: &String) -> &str
+    ensures same { result.now ≡ string_bytes text.now }
+    ensures utf8 { is_utf8 (string_bytes text.now) ≡ true }
+{
+    text.as_str()
 }

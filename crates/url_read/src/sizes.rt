@@ -1,6 +1,6 @@
 //! How many coordinates a service has, and how many results.
 
-ghost use Rattle.std.specs.Prelude.{◌≡◌, None, OnOk, IfErr};
+ghost use Rattle.std.specs.Prelude.{◌≡◌, ◌≤◌, None, OnOk, IfErr};
 ghost use Rattle.url_read.specs.Request.{fewest, most, is_count, name_of_service, size_refusal, results_refusal};
 ghost use Rattle.url_read.specs.Refusals.{IsRefusalIn};
 
@@ -58,6 +58,7 @@ fn name_of_service(service: &Service) -> ServiceName
 // Whether there are no more coordinates than a service may have, and it is asked for no more results.
 pub(crate) fn check_size(alloc: Global, service: &Service, count: usize) -> Result<(), RequestFault>
     ensures fits { OnOk result (size_refusal service.now count ≡ None) }
+    ensures few { OnOk result (count ≤ most (name_of_service service.now)) }
     ensures refusal { IfErr result (IsRefusalIn (size_refusal service.now count)) }
 {
     let most = most(name_of_service(service));

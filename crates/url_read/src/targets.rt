@@ -1,23 +1,25 @@
 //! A target to its request.
 
-ghost use Rattle.std.specs.Prelude.{◌≡◌, ◌≤◌, ℤ, Some, Ok, Err, IfOk, IfErr, length};
+ghost use Rattle.std.specs.Prelude.{◌≡◌, ◌≤◌, true, Some, Ok, IfOk, IfErr, IfSome, length};
 ghost use Rattle.url_read.specs.Options.{options_of};
-ghost use Rattle.url_read.specs.Refusals.{IsFaultOf, bad_path};
-ghost use Rattle.url_read.specs.Request.{of_pieces, of_service, only_of, request_in, request_of, service_named, whole_request_of, with_degrees, with_values, name_of_service, IsFitting};
+ghost use Rattle.url_read.specs.Refusals.{IsFaultOf};
+ghost use Rattle.url_read.specs.Request.{is_count, most, of_pieces, points_for, only_of, request_in, request_of, service_named, whole_request_of, with_degrees, with_values, name_of_service, HasEach, IsFitting};
+ghost use Rattle.url_read.specs.Scopes.{has_service};
+ghost use Rattle.url_read.specs.declared.service_names.ServiceName.TheVariants.{Route};
 
 use crate::coordinates::degrees_in;
 use crate::judging::check_options;
 use crate::messages::{bad_count, bad_option, bad_path, bad_service, bad_version};
-use crate::parting::{decoded, parted};
+use crate::parting::{characters, decoded, parted};
 use crate::pieces::{Pieces, pieces_of, without_json};
 use crate::points::points_at;
 use crate::refusals::RequestFault;
-use crate::requests::{OptionValues, Request};
+use crate::requests::{OptionValues, Request, Service};
 use crate::scopes::{Scope, has_overview, has_service};
 use crate::service_names::{ServiceName, service_named};
 use crate::sizes::{check_size, is_count};
 use crate::values::values_for;
-use road_base::Points;
+use road_base::{Point, Points};
 use std::alloc::Global;
 
 /// The request of a target of what is answered so far, or its first refusal: as [`whole_request`], but the
@@ -28,6 +30,7 @@ pub fn request(alloc: Global, target: &[u8]) -> Result<Request, RequestFault>
     ensures request { IfOk result (λ request. request_of target.now ≡ Ok request) }
     ensures least { IfOk result (λ request. 2 ≤ length request.points) }
     ensures most { IfOk result (λ request. length request.points ≤ 500) }
+    ensures route { IfOk result (λ request. name_of_service request.service ≡ Route) }
     ensures fitting { IfOk result IsFitting }
     ensures refusal { IfErr result (IsFaultOf (request_of target.now)) }
 {
@@ -61,9 +64,11 @@ pub fn whole_request(alloc: Global, target: &[u8]) -> Result<Request, RequestFau
 }
 
 // The request of a target of a part of the API, or its first refusal.
+#[tactic(auto, unfolding(crate::specs::Request::request_in))]
 fn request_in(alloc: Global, scope: Scope, target: &[u8]) -> Result<Request, RequestFault>
     ensures request { IfOk result (λ request. request_in scope target.now ≡ Ok request) }
     ensures fitting { IfOk result IsFitting }
+    ensures answered { IfOk result (λ request. has_service scope (name_of_service request.service) ≡ true) }
     ensures refusal { IfErr result (IsFaultOf (request_in scope target.now)) }
 {
     let (path, query) = parted(target);
@@ -73,10 +78,10 @@ fn request_in(alloc: Global, scope: Scope, target: &[u8]) -> Result<Request, Req
     let Some(query) = decoded(alloc, query)? else {
         return Err(RequestFault::Refused(bad_path(alloc)?));
     };
-    let Some(pieces) = pieces_of(path.as_str()) else {
+    let Some(pieces) = pieces_of(characters(&path)) else {
         return Err(RequestFault::Refused(bad_path(alloc)?));
     };
-    request_of_pieces(alloc, scope, pieces, query.as_str())
+    request_of_pieces(alloc, scope, pieces, characters(&query))
 }
 
 // The request of the pieces of a path and of a query.
@@ -88,6 +93,7 @@ fn request_of_pieces(
 ) -> Result<Request, RequestFault>
     ensures request { IfOk result (λ request. of_pieces scope (Some (record { service = pieces.entry.service.now; version = pieces.entry.version.now; coordinates = pieces.entry.coordinates.now })) query.now ≡ Ok request) }
     ensures fitting { IfOk result IsFitting }
+    ensures answered { IfOk result (λ request. has_service scope (name_of_service request.service) ≡ true) }
     ensures refusal { IfErr result (IsFaultOf (of_pieces scope (Some (record { service = pieces.entry.service.now; version = pieces.entry.version.now; coordinates = pieces.entry.coordinates.now })) query.now)) }
 {
     let Some(service) = service_in(scope, pieces.service) else {
@@ -105,7 +111,8 @@ fn request_of_pieces(
 
 // The service of a name, None where there is none or it is not answered.
 fn service_in(scope: Scope, name: &str) -> Option<ServiceName>
-    ensures { result ≡ only_of scope (service_named name.now) }
+    ensures service { result ≡ only_of scope (service_named name.now) }
+    ensures answered { IfSome result (λ service. has_service scope service ≡ true) }
 {
     let service = service_named(name)?;
     if has_service(scope, service) {
@@ -125,6 +132,7 @@ fn request_at(
 ) -> Result<Request, RequestFault>
     ensures request { IfOk result (λ request. with_degrees scope service (options_of query.now) degrees.now ≡ Ok request) }
     ensures fitting { IfOk result IsFitting }
+    ensures name { IfOk result (λ request. name_of_service request.service ≡ service) }
     ensures refusal { IfErr result (IsFaultOf (with_degrees scope service (options_of query.now) degrees.now)) }
 {
     let count = degrees.len();
@@ -136,21 +144,21 @@ fn request_at(
     request_with(alloc, scope, values, degrees)
 }
 
-// The request of these values of options at these longitudes and latitudes.
+// The request of these values of options at these longitudes and latitudes, of which there are enough.
 fn request_with(
     alloc: Global,
     scope: Scope,
     values: OptionValues,
     degrees: &[(i64, i64)],
 ) -> Result<Request, RequestFault>
+    requires enough { is_count (name_of_service values.service) (length degrees.now) ≡ true }
+    requires each { HasEach (length degrees.now) values }
     ensures request { IfOk result (λ request. with_values scope degrees.now values ≡ Ok request) }
+    ensures fitting { IfOk result IsFitting }
+    ensures name { IfOk result (λ request. name_of_service request.service ≡ name_of_service values.service) }
     ensures refusal { IfErr result (IsFaultOf (with_values scope degrees.now values)) }
 {
-    if !has_overview(scope, &values.service) {
-        return Err(RequestFault::Refused(bad_option(alloc, "overview")?));
-    }
-    let points = points_at(alloc, degrees)?;
-    check_size(alloc, &values.service, points.len())?;
+    let points = points_for(alloc, scope, &values.service, degrees)?;
     Ok(Request {
         points: Points::of(points),
         service: values.service,
@@ -163,4 +171,24 @@ fn request_with(
         snapping: values.snapping,
         since: values.since,
     })
+}
+
+// The points at these longitudes and latitudes, of which there are not too many for the service.
+fn points_for(
+    alloc: Global,
+    scope: Scope,
+    service: &Service,
+    degrees: &[(i64, i64)],
+) -> Result<Vec<Point>, RequestFault>
+    ensures points { IfOk result (λ points. points_for scope service.now degrees.now ≡ Ok points.items) }
+    ensures count { IfOk result (λ points. length points.items ≡ length degrees.now) }
+    ensures few { IfOk result (λ points. length points.items ≤ most (name_of_service service.now)) }
+    ensures refusal { IfErr result (IsFaultOf (points_for scope service.now degrees.now)) }
+{
+    if !has_overview(scope, service) {
+        return Err(RequestFault::Refused(bad_option(alloc, "overview")?));
+    }
+    let points = points_at(alloc, degrees)?;
+    check_size(alloc, service, points.len())?;
+    Ok(points)
 }

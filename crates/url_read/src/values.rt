@@ -1,11 +1,15 @@
 //! The values of all options of a request.
 
-ghost use Rattle.std.specs.Prelude.{◌≡◌, ℕ, List, Option, None, Some, Ok, IfOk, IfErr, length};
+ghost use Rattle.std.specs.Prelude.{◌≡◌, Ok, IfOk, IfErr, codes, false, length};
 ghost use Rattle.url_read.specs.Judging.{hints_for, radiuses_for, bearings_for, approaches_for, chosen_for, route_options, table_options, nearest_options, service_for, values_for};
 ghost use Rattle.url_read.specs.Options.{options_of, read_or};
-ghost use Rattle.url_read.specs.Values.{truth_of};
+ghost use Rattle.url_read.specs.Values.{truth_of, alternatives_of, route_annotations_of, every_annotation, geometries_of, overview_of, continue_straight_of};
+ghost use Rattle.url_read.specs.declared.option_types.Alternatives.TheVariants as alternatives;
+ghost use Rattle.url_read.specs.declared.option_types.Geometries.TheVariants.{Polyline};
+ghost use Rattle.url_read.specs.declared.option_types.Overview.TheVariants as overview;
+ghost use Rattle.url_read.specs.declared.option_types.ContinueStraight.TheVariants as straight;
 ghost use Rattle.url_read.specs.Refusals.{IsFaultOf};
-ghost use Rattle.url_read.specs.Request.{name_of_service};
+ghost use Rattle.url_read.specs.Request.{name_of_service, HasEach};
 
 use crate::chosen_lists::chosen_among;
 use crate::entries::{hints_each, one_each};
@@ -13,7 +17,8 @@ use crate::entry_lists::{Approaches, Bearings, Hints, Radiuses};
 use crate::last_values::last_value_of;
 use crate::messages::bad_option;
 use crate::option_types::{
-    Alternatives, Chosen, ContinueStraight, Geometries, Overview, Snapping, TableAnnotations,
+    Alternatives, Chosen, ContinueStraight, Geometries, Overview, RouteAnnotations, Snapping,
+    TableAnnotations,
 };
 use crate::option_values::{
     alternatives_of, continue_straight_of, every_annotation, geometries_of, number_of, overview_of,
@@ -38,6 +43,8 @@ pub(crate) fn values_for(
     query: &str,
 ) -> Result<OptionValues, RequestFault>
     ensures values { IfOk result (λ values. values_for service count (options_of query.now) ≡ Ok values) }
+    ensures name { IfOk result (λ values. name_of_service values.service ≡ service) }
+    ensures each { IfOk result (HasEach count) }
     ensures refusal { IfErr result (IsFaultOf (values_for service count (options_of query.now))) }
 {
     let hints = hints_for(alloc, count, query)?;
@@ -73,6 +80,7 @@ fn truth_or(default: bool, name: &str, query: &str) -> bool
 
 fn hints_for(alloc: Global, count: usize, query: &str) -> Result<Hints, RequestFault>
     ensures hints { IfOk result (λ hints. hints_for count (options_of query.now) ≡ Ok hints) }
+    ensures count { IfOk result (λ hints. length hints ≡ count) }
     ensures refusal { IfErr result (IsFaultOf (hints_for count (options_of query.now))) }
 {
     match hints_each(alloc, count, last_value_of("hints", query))? {
@@ -83,6 +91,7 @@ fn hints_for(alloc: Global, count: usize, query: &str) -> Result<Hints, RequestF
 
 fn radiuses_for(alloc: Global, count: usize, query: &str) -> Result<Radiuses, RequestFault>
     ensures radiuses { IfOk result (λ radiuses. radiuses_for count (options_of query.now) ≡ Ok radiuses) }
+    ensures count { IfOk result (λ radiuses. length radiuses ≡ count) }
     ensures refusal { IfErr result (IsFaultOf (radiuses_for count (options_of query.now))) }
 {
     match one_each(alloc, None, count, last_value_of("radiuses", query))? {
@@ -93,6 +102,7 @@ fn radiuses_for(alloc: Global, count: usize, query: &str) -> Result<Radiuses, Re
 
 fn bearings_for(alloc: Global, count: usize, query: &str) -> Result<Bearings, RequestFault>
     ensures bearings { IfOk result (λ bearings. bearings_for count (options_of query.now) ≡ Ok bearings) }
+    ensures count { IfOk result (λ bearings. length bearings ≡ count) }
     ensures refusal { IfErr result (IsFaultOf (bearings_for count (options_of query.now))) }
 {
     match one_each(alloc, None, count, last_value_of("bearings", query))? {
@@ -103,6 +113,7 @@ fn bearings_for(alloc: Global, count: usize, query: &str) -> Result<Bearings, Re
 
 fn approaches_for(alloc: Global, count: usize, query: &str) -> Result<Approaches, RequestFault>
     ensures approaches { IfOk result (λ approaches. approaches_for count (options_of query.now) ≡ Ok approaches) }
+    ensures count { IfOk result (λ approaches. length approaches ≡ count) }
     ensures refusal { IfErr result (IsFaultOf (approaches_for count (options_of query.now))) }
 {
     match one_each(alloc, None, count, last_value_of("approaches", query))? {
@@ -133,23 +144,53 @@ fn route_options(query: &str) -> RouteOptions
     ensures { result ≡ route_options (options_of query.now) }
 {
     RouteOptions {
-        alternatives: last_value_of("alternatives", query)
-            .and_then(alternatives_of)
-            .unwrap_or(Alternatives::Off),
+        alternatives: alternatives_in(query),
         steps: truth_or(false, "steps", query),
-        annotations: last_value_of("annotations", query)
-            .and_then(route_annotations_of)
-            .unwrap_or(every_annotation(false)),
-        geometries: last_value_of("geometries", query)
-            .and_then(geometries_of)
-            .unwrap_or(Geometries::Polyline),
-        overview: last_value_of("overview", query)
-            .and_then(overview_of)
-            .unwrap_or(Overview::Simplified),
-        continue_straight: last_value_of("continue_straight", query)
-            .and_then(continue_straight_of)
-            .unwrap_or(ContinueStraight::Default),
+        annotations: route_annotations_in(query),
+        geometries: geometries_in(query),
+        overview: overview_in(query),
+        continue_straight: continue_straight_in(query),
     }
+}
+
+fn alternatives_in(query: &str) -> Alternatives
+    ensures { result ≡ read_or alternatives.Off alternatives_of (codes "alternatives") (options_of query.now) }
+{
+    last_value_of("alternatives", query)
+        .and_then(alternatives_of)
+        .unwrap_or(Alternatives::Off)
+}
+
+fn route_annotations_in(query: &str) -> RouteAnnotations
+    ensures { result ≡ read_or (every_annotation false) route_annotations_of (codes "annotations") (options_of query.now) }
+{
+    last_value_of("annotations", query)
+        .and_then(route_annotations_of)
+        .unwrap_or(every_annotation(false))
+}
+
+fn geometries_in(query: &str) -> Geometries
+    ensures { result ≡ read_or Polyline geometries_of (codes "geometries") (options_of query.now) }
+{
+    last_value_of("geometries", query)
+        .and_then(geometries_of)
+        .unwrap_or(Geometries::Polyline)
+}
+
+fn overview_in(query: &str) -> Overview
+    ensures { result ≡ read_or overview.Simplified overview_of (codes "overview") (options_of query.now) }
+{
+    last_value_of("overview", query)
+        .and_then(overview_of)
+        .unwrap_or(Overview::Simplified)
+}
+
+fn continue_straight_in(query: &str) -> ContinueStraight
+    ensures { result ≡ read_or straight.Default continue_straight_of (codes "continue_straight") (options_of query.now) }
+{
+    last_value_of("continue_straight", query)
+        .and_then(continue_straight_of)
+        .unwrap_or(ContinueStraight::Default)
 }
 
 fn table_options(alloc: Global, count: usize, query: &str) -> Result<TableOptions, RequestFault>

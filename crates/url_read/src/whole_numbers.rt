@@ -1,6 +1,8 @@
 //! Whole numbers in the values of options.
 
 ghost use Rattle.std.specs.Prelude.{◌≡◌};
+ghost use Rattle.std.specs.Char.{is_ascii_digit};
+ghost use Rattle.std.specs.List.{list_all};
 ghost use Rattle.decimal_text.specs.Numeral.{is_numeral};
 ghost use Rattle.url_read.specs.Values.{number_up_to, short_number_of, since_of};
 
@@ -43,5 +45,12 @@ fn digits_in(text: &str) -> Option<u32>
 pub(crate) fn is_numeral(bytes: &[u8]) -> bool
     ensures { result ≡ is_numeral bytes.now }
 {
-    !bytes.is_empty() && bytes.iter().all(|b| b.is_ascii_digit())
+    !bytes.is_empty() && are_digits(bytes)
+}
+
+// Whether each of these bytes is a digit.
+fn are_digits(bytes: &[u8]) -> bool
+    ensures { result ≡ list_all (λ b. is_ascii_digit b) bytes.now }
+{
+    bytes.iter().all(|b| b.is_ascii_digit())
 }
