@@ -1,5 +1,5 @@
 -- Lists of the terminals' cells, and a search by halves in them.
-use Rattle.std.proofs.Common.{◌≡◌, ℕ, zero, suc, ◌+◌, ◌-◌, ◌<◌, ◌≤◌, inl, inr, Bool, true, false, nat_eq, All, List, [], ◌∷◌, ◌++◌, map, take, length, get_or, Some, Ok, Err, arith, refl, sym, ◌∙◌, ap, subst}
+use Rattle.std.proofs.Common.{◌≡◌, ℕ, zero, suc, ◌+◌, ◌-◌, ◌<◌, ◌≤◌, inl, inr, Bool, true, false, nat_eq, List, [], ◌∷◌, ◌++◌, map, take, length, get_or, Some, Ok, Err, arith, refl, sym, ◌∙◌, ap, subst}
 use Rattle.std.specs.List.{slice_get, list_any}
 use Rattle.std.specs.List.Sorted.{IsPermutation, IsSorted, IsBinarySearchResult}
 use Rattle.std.specs.Ordering.{nat_cmp}

@@ -2,7 +2,6 @@
 use Rattle.std.proofs.Common.{sym}
 use Rattle.list_lemmas.proofs.Gets.{get_is}
 use Rattle.overlay_query.specs.PackLaws.{walk_below, walk_some}
-use Rattle.overlay_query.specs.Query.{query_space}
 use Rattle.overlay_query.proofs.Finding.{AreStarts-query, NoneBetween-query}
 use Rattle.overlay_query.proofs.Packing.{IsPackedLeast-from}
 use Rattle.overlay_query.proofs.query.find.Goals as goal

@@ -1,5 +1,5 @@
 -- The number is looked for among those of the terminals' cells.
-use Rattle.std.proofs.Common.{◌≡◌, ◌-◌, ◌<◌, length, arith, sym, ◌∙◌}
+use Rattle.std.proofs.Common.{◌-◌, ◌<◌, length, arith, sym, ◌∙◌}
 use Rattle.list_lemmas.proofs.Gets.{get_is}
 use Rattle.cell_partition.specs.Partition.{level_at, number_of}
 use Rattle.overlay_query.proofs.TerminalLists.{cells_of_level, any_found, any_missed}
