@@ -84,9 +84,18 @@ fn turns_back(rt: &impl Abort, frame: &Frame, weights: &Weights<DurLen>, cliques
     requires { AreExact durlen_ops frame.now weights.now cliques.now (length frame.now.cells.levels) }
 {
     let there_and_back = Some(cost(299, 1111));
-    assert_eq!(rt; only_value(rt, frame, weights, cliques, 1, 1), Some(cost(0, 0)));
-    assert_eq!(rt; only_value(rt, frame, weights, cliques, 2, 1), there_and_back);
-    assert_eq!(rt; only_value(rt, frame, weights, cliques, 2, 2), there_and_back);
+    assert_eq!(rt;
+        only_value(rt, frame, weights, cliques, 1, 1),
+        Some(cost(0, 0))
+    );
+    assert_eq!(rt;
+        only_value(rt, frame, weights, cliques, 2, 1),
+        there_and_back
+    );
+    assert_eq!(rt;
+        only_value(rt, frame, weights, cliques, 2, 2),
+        there_and_back
+    );
 }
 
 // Two streets that meet at a corner, each driven both ways.
