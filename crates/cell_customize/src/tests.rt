@@ -54,19 +54,20 @@ fn weights(alloc: Global, graph: &Graph) -> Result<Weights<DurLen>, AllocError>
     Ok(small_weights(graph, vertex, arc))
 }
 
-// What it costs inside a cell of level 1 from an entry to the one exit.
+// What it costs inside a cell of this level from an entry to the one exit.
 fn only_value(
     rt: &impl Abort,
     frame: &Frame,
     weights: &Weights<DurLen>,
     cliques: &Cliques<DurLen>,
+    level: u32,
     entry: u32,
 ) -> Option<DurLen>
     requires { AreExact durlen_ops frame.now weights.now cliques.now (length frame.now.cells.levels) }
 {
     let _ = weights;
-    assert!(rt; frame.levels() == 2 && entry < frame.graph().vertices());
-    let cell = frame.cell(1, entry);
+    assert!(rt; level >= 1 && level <= frame.levels() && entry < frame.graph().vertices());
+    let cell = frame.cell(level, entry);
     match frame.entry(cell, entry) {
         None => None,
         Some(i) => {
@@ -77,13 +78,24 @@ fn only_value(
     }
 }
 
-// A way into a street and out again turns back at its end.
+// A way into a street and out again turns back at its end. Each way of a street is a cell of level 1, in which nothing is
+// paid, and the street is one of level 2.
 fn turns_back(rt: &impl Abort, frame: &Frame, weights: &Weights<DurLen>, cliques: &Cliques<DurLen>)
     requires { AreExact durlen_ops frame.now weights.now cliques.now (length frame.now.cells.levels) }
 {
     let there_and_back = Some(cost(299, 1111));
-    assert_eq!(rt; only_value(rt, frame, weights, cliques, 1), there_and_back);
-    assert_eq!(rt; only_value(rt, frame, weights, cliques, 2), there_and_back);
+    assert_eq!(rt;
+        only_value(rt, frame, weights, cliques, 1, 1),
+        Some(cost(0, 0))
+    );
+    assert_eq!(rt;
+        only_value(rt, frame, weights, cliques, 2, 1),
+        there_and_back
+    );
+    assert_eq!(rt;
+        only_value(rt, frame, weights, cliques, 2, 2),
+        there_and_back
+    );
 }
 
 // Two streets that meet at a corner, each driven both ways.
@@ -92,7 +104,7 @@ fn two_streets(rt: &impl Abort, alloc: Global) -> Result<Frame, Fail>
 {
     let graph = Graph::of(alloc, 4, &[(0, 2), (3, 1), (1, 0), (2, 3)]).expect(rt, "a graph");
     let midpoints = [(0, 1000), (0, 1000), (1000, 2000), (1000, 2000)];
-    let streets = cells(alloc, &midpoints, &[2, 4])?;
+    let streets = cells(alloc, &midpoints, &[1, 2])?;
     let frame = Frame::of(alloc, &graph, streets)?;
     Ok(frame)
 }

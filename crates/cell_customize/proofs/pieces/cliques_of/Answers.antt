@@ -1,6 +1,5 @@
 -- Each turn has the clique of one cell more.
-use Rattle.std.proofs.Common.{◌≡◌}
-use Rattle.cell_customize.proofs.Piling.{AreMade-none, AreMade-push}
+use Rattle.cell_customize.proofs.Piling.{AreMade-push}
 use Rattle.cell_customize.proofs.pieces.cliques_of.Goals as goal
 
 pub loop-number-preserved : goal.loop-number-preserved

@@ -1,5 +1,5 @@
 -- The one start is an entry, so the inside can be searched from it.
-use Rattle.std.proofs.Common.{◌≡◌, ◌∷◌, [], ◌∙◌}
+use Rattle.std.proofs.Common.{◌∙◌}
 use Rattle.cell_customize.specs.InnerLaws.{AreStarts-inner, one_is}
 use Rattle.cell_customize.proofs.rows.begin_at.Goals as goal
 

@@ -1,6 +1,5 @@
 -- Each turn has one piece more; all are the whole level.
 use Rattle.std.proofs.Common.{◌≡◌, ℕ, ◌+◌, [], Some, length, sym, ◌∙◌, ap, subst, arith}
-use Rattle.std.specs.List.{slice_get}
 use Rattle.std.proofs.lemmas.Option.{slice_get-get_or}
 use Rattle.cell_partition.specs.Partition.{level_at}
 use Rattle.cell_customize.specs.Levels.{AreMade, IsReady, cut_at}

@@ -1,5 +1,4 @@
 -- A piece ends where the next begins.
-use Rattle.std.proofs.Common.{◌≡◌}
 use Rattle.cell_customize.proofs.Cuts.{cut_rises, cut_within}
 use Rattle.cell_customize.proofs.side_by_side.piece.Goals as goal
 

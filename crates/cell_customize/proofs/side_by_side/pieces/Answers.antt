@@ -1,5 +1,5 @@
 -- The cells of each piece are ready, and the results stand to the pieces one by one.
-use Rattle.std.proofs.Common.{◌≡◌, ◌<◌, ◌∙◌}
+use Rattle.std.proofs.Common.{◌<◌, ◌∙◌}
 use Rattle.rayon.specs.Numbers.{nat_range}
 use Rattle.rayon.proofs.ToStd.{nat_range-All}
 use Rattle.cell_customize.specs.Levels.{IsReady, IsPiece}
