@@ -60,8 +60,8 @@ module _ {C : Type 0} {ops : CostOps C} (laws : CostLaws ops) (f : Framed) (w : 
   leaves = (inner.framed.exits k exit inner.is_cell).1 shortcut.1.2
 
   -- from an entry to itself nothing is paid, by no hop
-  pub opens_same : entry ≡ exit → Opens ops f w entry exit (Some k) []
-  opens_same e s by =
+  pub opens_nothing : entry ≡ exit → Opens ops f w entry exit (Some k) []
+  opens_nothing e s by =
       let at : IsBy ops f w entry entry (Some k) s = subst (λ (x : ℕ). IsBy ops f w entry x (Some k) s) (sym e) by in
       let nothing : IsLeastInside ops f.graph w (Holds f.cells k) entry entry ops.zero = stays laws f w cliques k inner entry among at.3.leads.opens.0 at.3.leads.opens.1 in
       (sym e, sym (least_same laws f w inner.small k entry entry s ops.zero at nothing))

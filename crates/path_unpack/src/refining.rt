@@ -56,7 +56,7 @@ fn refined<C: Cost>(
     ensures stand { IfOk result (λ finer. StandFor C.ops overlay.now.frame.now overlay.now.weights.now first hops.now finer.items) }
     ensures low { IfOk result (λ finer. AreUpTo (level - 1) finer.items) }
 {
-    let mut finer = Vec::new(alloc);
+    let mut finer = Vec::with_capacity(alloc, hops.len())?;
     let mut at = first;
     for hop in hops {
         push_finer(alloc, overlay, search, level, at, *hop, &mut finer)?;

@@ -17,7 +17,7 @@ use std::alloc::{AllocError, Global};
 fn vertices(alloc: Global, first: u32, hops: &[Hop], last: u32) -> Result<Vec<u32>, AllocError>
     ensures { IfOk result (λ walk. walk.items ≡ first ∷ (map (λ h. h.to) hops.now ++ last ∷ [])) }
 {
-    let mut walk = Vec::new(alloc);
+    let mut walk = Vec::with_capacity(alloc, hops.len() + 2)?;
     walk.push(first)?;
     for hop in hops {
         walk.push(hop.to)?;
