@@ -14,10 +14,10 @@
 mod opening;
 mod overlay;
 mod refining;
-mod unpacking;
-mod walks;
 #[cfg(test)]
 mod tests;
+mod unpacking;
+mod walks;
 
 pub use unpacking::unpack;
 pub use walks::least_from;

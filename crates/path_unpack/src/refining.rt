@@ -81,14 +81,7 @@ pub fn arcs_of<C: Cost>(
     let mut finer = Vec::from_slice(alloc, hops)?;
     let mut level = overlay.frame.levels();
     while level > 0 {
-        finer = refined(
-            alloc,
-            overlay,
-            &mut search,
-            level,
-            first,
-            finer.as_slice(),
-        )?;
+        finer = refined(alloc, overlay, &mut search, level, first, finer.as_slice())?;
         level -= 1;
     }
     Ok(finer)

@@ -183,7 +183,11 @@ fn compare(
     match (&found[0], &plain[0]) {
         (Some(found), Some(plain)) => {
             assert_eq!(rt; found.cost, plain.cost, "from {from} to {to}");
-            assert_eq!(rt; found.walk.as_slice(), plain.walk.as_slice(), "from {from} to {to}");
+            assert_eq!(rt;
+                found.walk.as_slice(),
+                plain.walk.as_slice(),
+                "from {from} to {to}"
+            );
         }
         (found, plain) => {
             assert_eq!(rt; found.is_some(), plain.is_some(), "from {from} to {to}")
