@@ -340,35 +340,32 @@ fn an_option_that_is_not_given_has_its_default(rt: HostRuntime) {
 }
 
 #[test]
-fn a_table_and_a_nearest_have_options_of_their_own(rt: HostRuntime) {
-    let Service::Table(table) = asked(
-        &rt,
-        rt.alloc(),
-        b"/table/v1/car/0,0;0,1?sources=1;0;1&annotations=distance",
-    )
-    .service
-    else {
+fn a_table_has_options_of_its_own(rt: HostRuntime) {
+    let target = b"/table/v1/car/0,0;0,1?sources=1;0;1&annotations=distance";
+    let asked = asked(&rt, rt.alloc(), target);
+    let Service::Table(own) = asked.service else {
         panic!(rt; "a table");
     };
-    let Chosen::Only(sources) = table.sources else {
-        panic!(rt; "some sources");
-    };
-    assert_eq!(rt; sources.as_slice(), [1, 0, 1].as_slice());
-    assert!(rt; matches!(table.destinations, Chosen::All));
     let distance = TableAnnotations {
         duration: false,
         distance: true,
     };
-    assert_eq!(rt; table.annotations, distance);
-    let Service::Nearest(nearest) = asked(
-        &rt,
-        rt.alloc(),
-        b"/nearest/v1/car/0,0?number=3&number=099",
-    ).service
-    else {
+    assert_eq!(rt; own.annotations, distance);
+    assert!(rt; matches!(own.destinations, Chosen::All));
+    match own.sources {
+        Chosen::Only(sources) => assert_eq!(rt; sources.as_slice(), [1, 0, 1].as_slice()),
+        Chosen::All => panic!(rt; "some sources"),
+    }
+}
+
+#[test]
+fn a_nearest_has_a_number(rt: HostRuntime) {
+    let target = b"/nearest/v1/car/0,0?number=3&number=099";
+    let asked = asked(&rt, rt.alloc(), target);
+    let Service::Nearest(own) = asked.service else {
         panic!(rt; "places");
     };
-    assert_eq!(rt; nearest.number, 99);
+    assert_eq!(rt; own.number, 99);
 }
 
 #[test]
