@@ -343,7 +343,7 @@ fn an_option_that_is_not_given_has_its_default(rt: HostRuntime) {
 fn a_table_has_options_of_its_own(rt: HostRuntime) {
     let target = b"/table/v1/car/0,0;0,1?sources=1;0;1&annotations=distance";
     let asked = asked(&rt, rt.alloc(), target);
-    let Service::Table(own) = asked.service else {
+    let Service::Table(own) = &asked.service else {
         panic!(rt; "a table");
     };
     let distance = TableAnnotations {
@@ -352,7 +352,7 @@ fn a_table_has_options_of_its_own(rt: HostRuntime) {
     };
     assert_eq!(rt; own.annotations, distance);
     assert!(rt; matches!(own.destinations, Chosen::All));
-    match own.sources {
+    match &own.sources {
         Chosen::Only(sources) => assert_eq!(rt; sources.as_slice(), [1, 0, 1].as_slice()),
         Chosen::All => panic!(rt; "some sources"),
     }
