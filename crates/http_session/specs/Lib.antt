@@ -1,5 +1,6 @@
 pub mod Coming
 pub mod Ending
 pub mod Exchanges
+pub mod FrontLaws
 pub mod SoFar
 pub mod Taking

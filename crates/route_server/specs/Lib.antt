@@ -1,5 +1,8 @@
+pub mod CutLaws
+pub mod EndLaws
 pub mod QueryRule
 pub mod Replying
+pub mod RouteSessions
 pub mod Seats
 pub mod SeatLaws
 pub mod Sessions

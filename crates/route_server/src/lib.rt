@@ -11,8 +11,13 @@
 #![tactic(auto)]
 
 mod answering;
+mod route_connections;
 mod serving;
 
 pub use answering::{Answering, Said};
 pub use http_session::Ended;
+pub use route_connections::serve_connection;
 pub use serving::serve_with;
+
+#[cfg(test)]
+mod tests;

@@ -1,0 +1,69 @@
+//! Query connections over the metrics of one road network.
+
+ghost use Rattle.std.specs.Prelude.{◌≡◌};
+ghost use Rattle.road_io.specs.Views.{IsFreshConn};
+ghost use Rattle.road_places.specs.RoadMetric.{RoadMetric};
+ghost use Rattle.snap_index.specs.Ends.{all_ends};
+ghost use Rattle.route_server.specs.RouteSessions.{IsRouteSession, IsRouteTranscript};
+ghost use Rattle.route_server.specs.Seats.{seat_state};
+
+use crate::answering::{Answering, Said};
+use crate::serving::serve_with;
+use http_session::Ended;
+use metric_publish::held::Held;
+use metric_publish::meaning::Reading;
+use reply_core::{Metric, answer};
+use road_io::{Conn, Gate};
+use snap_index::Grid;
+use std::alloc::{AllocError, Global};
+
+/// The answers of `reply_core`, by the grid of a road network.
+#[derive(Clone, Copy)]
+struct Replier<'a> {
+    grid: &'a Grid,
+}
+
+impl<'a> Answering<Metric> for Replier<'a> {
+    ghost use Rattle.std.specs.Prelude.{◌≡◌};
+    ghost use Rattle.snap_index.specs.Ends.{all_ends};
+    ghost use Rattle.route_server.specs.RouteSessions.{IsSaid};
+
+    ghost fits = { λ replier road. replier.grid.now ≡ all_ends road.network.segments };
+
+    ghost says = { IsSaid };
+
+    fn answer(
+        &self,
+        alloc: Global,
+        held: &Held<Metric>,
+        target: &[u8],
+    ) -> Result<Said, AllocError> {
+        match answer(alloc, held, self.grid, target) {
+            Ok(answer) => Ok(Said {
+                status: answer.status,
+                body: answer.text,
+            }),
+            Err(_) => Err(AllocError),
+        }
+    }
+}
+
+/// Serves a query connection to its end, as [`serve_with`] does, with the answers of `reply_core` under the
+/// metrics that the seat enters. The grid is that of the network which all these metrics share.
+///
+/// [`serve_with`]: crate::serve_with
+pub fn serve_connection<S: Reading<Metric>, G: Gate, C: Conn>(
+    alloc: Global,
+    id: u32,
+    seat: &mut S,
+    gate: &G,
+    grid: &Grid,
+    conn: &mut C,
+) -> Ended
+    requires fits { (road : RoadMetric) → S.kin seat.old road → grid.now ≡ all_ends road.network.segments }
+    ensures session { IsRouteSession (seat_state (S.seen seat.old) (S.learned seat.old) (S.reads seat.old)) (seat_state (S.seen seat.new) (S.learned seat.new) (S.reads seat.new)) (C.state conn.old) (C.state conn.new) result }
+    ensures transcript { IsFreshConn (C.state conn.old) → IsRouteTranscript (S.seen seat.new) (C.state conn.new) result }
+    ensures kin_stays { (road : RoadMetric) → S.kin seat.new road → S.kin seat.old road }
+{
+    serve_with(alloc, id, seat, gate, &Replier { grid }, conn)
+}
