@@ -1,4 +1,3 @@
-pub mod Inner
 pub mod Piling
 pub mod Slices
 pub mod Zipping

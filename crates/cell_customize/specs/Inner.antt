@@ -1,4 +1,4 @@
--- For the functions of this crate alone: a search inside one cell.
+-- A search inside one cell, over the cells one level down: by it cells are customized, and shortcuts unpacked.
 use Rattle.std.specs.Prelude.{◌-◌, List}
 use Rattle.search_graph.specs.Costs.{CostOps}
 use Rattle.search_graph.specs.Digraph.{Weighting}

@@ -2,7 +2,7 @@
 use Rattle.std.proofs.Common.{◌≢◌, ℕ, subst}
 use Rattle.cell_frame.specs.Borders.{Holds}
 use Rattle.cell_frame.specs.Inside.{IsInsideValue}
-use Rattle.cell_customize.proofs.Inner.{inside_least, inside_none}
+use Rattle.cell_customize.specs.InnerLaws.{inside_least, inside_none}
 use Rattle.cell_customize.proofs.rows.inside.Goals as goal
 
 pub returns-in-None-clause-value : goal.returns-in-None-clause-value

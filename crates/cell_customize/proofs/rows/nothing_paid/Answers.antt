@@ -2,7 +2,7 @@
 use Rattle.std.proofs.Common.{sym, ◌∙◌, subst}
 use Rattle.cell_frame.specs.Borders.{Holds}
 use Rattle.cell_frame.specs.Inside.{IsLeastInside}
-use Rattle.cell_customize.proofs.Inner.{stays, closed_none, entry_weighed}
+use Rattle.cell_customize.specs.InnerLaws.{stays, closed_none, entry_weighed}
 use Rattle.cell_customize.proofs.rows.nothing_paid.Goals as goal
 
 pub vertex-requires : goal.vertex-requires

@@ -3,7 +3,7 @@ use Rattle.std.proofs.Common.{◌≡◌, ◌∷◌, [], get_or, length, length-a
 use Rattle.std.proofs.lemmas.Option.{slice_get-get_or}
 use Rattle.cell_frame.specs.Borders.{Holds}
 use Rattle.cell_frame.specs.Inside.{IsInsideValue}
-use Rattle.cell_customize.proofs.Inner.{AreStarts-inner, one_is}
+use Rattle.cell_customize.specs.InnerLaws.{AreStarts-inner, one_is}
 use Rattle.cell_customize.proofs.Piling.{get_nothing, one_more, row_from}
 use Rattle.cell_customize.proofs.rows.row.Goals as goal
 

@@ -1,4 +1,4 @@
--- What a search inside a cell finds is the least cost inside it.
+-- Laws of a search inside a cell: what it finds from an entry to an exit is the least cost inside the cell.
 use Rattle.std.proofs.Common.{◌≡◌, ◌≢◌, ℕ, ◌-◌, ◌<◌, ◌≤◌, inl, inr, Option, Some, None, List, [], ◌∷◌, length, refl, sym, ◌∙◌, subst, arith}
 use Rattle.std.specs.List.{Contains, slice_get}
 use Rattle.std.proofs.lemmas.Option.{same_Some}

@@ -1,0 +1,5 @@
+pub mod Answers
+pub mod Packed
+pub mod PackLaws
+pub mod Query
+pub mod TerminalCells
