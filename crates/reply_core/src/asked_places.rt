@@ -59,6 +59,7 @@ fn asked_at(request: &Request, number: usize) -> (Point, Filter)
     (coordinate, filter_of(radius, bearing))
 }
 
+// The element of this number.
 fn element<T: Copy>(list: &[T], number: usize) -> T
     requires { number < length list.now }
     ensures { slice_get list.now number ≡ Some result }
@@ -76,6 +77,7 @@ fn filter_of(radius: Option<u64>, bearing: Option<Bearing>) -> Filter
     }
 }
 
+// A bearing as the heading of a filter.
 fn heading_of(bearing: Option<Bearing>) -> Option<Heading>
     ensures { result ≡ option_map heading_of bearing }
 {
