@@ -1,9 +1,11 @@
 -- How an answer comes from its parts.
-use Rattle.std.proofs.Common.{◌≡◌, ℕ, ◌*◌, ◌/◌, List, sym, ap, ap₂, refl, ◌∙◌, arith}
+use Rattle.std.proofs.Common.{◌≡◌, ℕ, ◌*◌, ◌/◌, List, length, sym, ap, ap₂, refl, ◌∙◌, arith}
 use Rattle.std.specs.Prelude.{Option, Some, None, Result, Ok, Err, OnOk, option_map}
-use Rattle.std.specs.List.{AllZip, slice_get}
-use Rattle.std.proofs.lemmas.Option.{same_Some}
-use Rattle.list_lemmas.proofs.Fronts.{all_zip-each, all_zip-first}
+use Rattle.std.specs.List.{AllZip, slice_get, zip}
+use Rattle.std.proofs.lemmas.List.{length-map}
+use Rattle.std.proofs.lemmas.Option.{same_Some, slice_get-map}
+use Rattle.std.proofs.lemmas.Slice.Zip.{length-zip}
+use Rattle.list_lemmas.proofs.Fronts.{all_zip-each, all_zip-first, slice_get-zip}
 use Rattle.road_base.specs.declared.coordinates.Point.{Point}
 use Rattle.road_base.specs.declared.segments.Place.{Place}
 use Rattle.geo_integer.specs.Position.{Position, position_of}
@@ -12,8 +14,12 @@ use Rattle.geo_integer.specs.Project.{position_at}
 use Rattle.edge_graph.specs.Segment.{Segment}
 use Rattle.road_places.specs.Places.{IsPlaceOn}
 use Rattle.road_places.specs.RoadMetric.{RoadMetric}
-use Rattle.snap_index.specs.Snapped.{spot_on}
+use Rattle.snap_index.specs.Nearest.{spot_on}
+use Rattle.snap_index.specs.declared.filters.Filter.{Filter}
+use Rattle.url_read.specs.declared.option_types.Bearing.{Bearing}
+use Rattle.url_read.specs.declared.requests.Request.{Request}
 use Rattle.reply_core.specs.Answers.{waypoint_of, waypoint_on}
+use Rattle.reply_core.specs.Asked.{asked_in, filter_of, filters_of}
 use Rattle.reply_core.specs.Lacks.{StandsFor}
 use Rattle.reply_core.specs.Texts.{waypoint_text}
 
@@ -52,12 +58,29 @@ waypoint-is segments coordinate place point name distance (Some x) is at named f
     ∙ sym (ap (λ (o : Option Segment). waypoint_on o (position_of coordinate) place.at) is)
 
 -- the place stands for the coordinate, and lies on the network
-abbrev pub IsFoundFor : RoadMetric → Point → Place → Type 0
-IsFoundFor road coordinate place = StandsFor road coordinate place × IsPlaceOn road.network place
+abbrev pub IsFoundFor : RoadMetric → Point × Filter → Place → Type 0
+IsFoundFor road asked place = StandsFor road asked place × IsPlaceOn road.network place
 
-module _ (road : RoadMetric) (coordinates : List Point) (places : List Place) (h : AllZip (IsFoundFor road) coordinates places) where
-  pub are-snapped : AllZip (StandsFor road) coordinates places
-  are-snapped = all_zip-each (IsFoundFor road) (StandsFor road) (λ c p k. k.0) coordinates places h
+module _ (road : RoadMetric) (asked : List (Point × Filter)) (places : List Place) (h : AllZip (IsFoundFor road) asked places) where
+  pub are-snapped : AllZip (StandsFor road) asked places
+  are-snapped = all_zip-each (IsFoundFor road) (StandsFor road) (λ c p k. k.0) asked places h
 
   pub are-placed : (k : ℕ) (place : Place) → slice_get places k ≡ Some place → IsPlaceOn road.network place
-  are-placed k place at = let of = all_zip-first (IsFoundFor road) coordinates places k place h at in of.1.1
+  are-placed k place at = let of = all_zip-first (IsFoundFor road) asked places k place h at in of.1.1
+
+-- there are as many coordinates with filters as there are coordinates
+pub asked-count : (request : Request) → length request.radiuses ≡ length request.points → length request.bearings ≡ length request.points → length (asked_in request) ≡ length request.points
+asked-count request radiuses bearings =
+    let pairs = length-zip request.radiuses request.bearings in
+    let filters = length-map (zip request.radiuses request.bearings) filter_of in
+    let all = length-zip request.points (filters_of request.radiuses request.bearings) in
+    omega (arith, pairs, filters, all, radiuses, bearings)
+
+-- the coordinate of a number has the radius and the bearing of this number
+pub asked-at : (request : Request) (k : ℕ) (point : Point) (radius : Option ℕ) (bearing : Option Bearing)
+    → slice_get request.points k ≡ Some point → slice_get request.radiuses k ≡ Some radius → slice_get request.bearings k ≡ Some bearing → slice_get (asked_in request) k ≡ Some (point, filter_of (radius, bearing))
+asked-at request k point radius bearing p r b =
+    let pair : slice_get (zip request.radiuses request.bearings) k ≡ Some (radius, bearing) = slice_get-zip request.radiuses request.bearings k radius bearing r b in
+    let filter : slice_get (filters_of request.radiuses request.bearings) k ≡ Some (filter_of (radius, bearing)) =
+    slice_get-map filter_of (zip request.radiuses request.bearings) k ∙ ap (option_map filter_of) pair in
+    slice_get-zip request.points (filters_of request.radiuses request.bearings) k point (filter_of (radius, bearing)) p filter

@@ -1,6 +1,7 @@
 -- What an answer to a target, or to a line, is, over a road network under one metric that was published under
 -- a number. The cases exclude each other and leave nothing out: the line is of no form; the target is refused;
--- a coordinate has no place; a leg has no permitted walk; there is a least route.
+-- the request asks for a higher number; a coordinate has no place; a leg has no permitted walk; there is a
+-- least route.
 use Rattle.std.specs.Prelude.{◌≡◌, ℕ, ◌⊎◌, List, [], map, Option, Some, None, Result, Ok, Err}
 use Rattle.std.proofs.Common.{inl, inr, refl}
 use Rattle.std.specs.List.{AllZip, slice_get, zip}
@@ -17,15 +18,15 @@ use Rattle.url_read.specs.declared.requests.Request.{Request}
 use Rattle.road_places.specs.RoadMetric.{RoadMetric}
 use Rattle.road_places.specs.declared.walks.Route.{Route}
 use Rattle.road_walks.specs.Legs.{AreAlong, AreLeastRoutes}
-use Rattle.snap_index.specs.Snapped.{spot_on}
-use Rattle.reply_core.specs.Lacks.{IsLack, StandsFor}
+use Rattle.snap_index.specs.Nearest.{spot_on}
+use Rattle.reply_core.specs.Asked.{asked_in}
+use Rattle.reply_core.specs.Lacks.{IsLack, IsRecent, StandsFor}
 use Rattle.reply_core.specs.Request.{target_of}
-use Rattle.reply_core.specs.Texts.{bad_request_text, found_text, lack_text, refusal_text, waypoint_text}
+use Rattle.reply_core.specs.Texts.{bad_request_text, found_text, lack_code, lack_text, refusal_text, waypoint_text}
 use Rattle.reply_core.specs.declared.answers.Answer.{Answer}
 use Rattle.reply_core.specs.declared.answers.Code.{Code}
 use Rattle.reply_core.specs.declared.answers.Code.TheVariants as code
 use Rattle.reply_core.specs.declared.lacks.Lack.{Lack}
-use Rattle.reply_core.specs.declared.lacks.Lack.TheVariants as lack
 
 -- what the reply tells of a coordinate's place, which lies on this segment: how far it lies from the
 -- coordinate, its way's name, and where it lies
@@ -51,11 +52,6 @@ pub known_status : (kind : Code) → (status_of kind ≡ 200) ⊎ (status_of kin
 known_status code.Ok = inl refl
 known_status _ = inr refl
 
--- the code of an answer to a request that lacks this
-abbrev pub lack_code : Lack → Code
-lack_code (lack.Segment number) = code.NoSegment
-lack_code (lack.Route number) = code.NoRoute
-
 -- an answer of this code and text, without places and walks
 pub record Refuses (answer : Answer) (kind : Code) (body : List ℕ) : Type 0 where
   pub code : answer.code ≡ kind
@@ -65,26 +61,27 @@ pub record Refuses (answer : Answer) (kind : Code) (body : List ℕ) : Type 0 wh
   pub text : answer.text ≡ body
 
 -- what the request lacks is told
-pub record SaysLack (road : RoadMetric) (number : ℕ) (coordinates : List Point) (answer : Answer) : Type 0 where
+pub record SaysLack (road : RoadMetric) (number : ℕ) (request : Request) (answer : Answer) : Type 0 where
   pub what : Lack
-  pub is_lack : IsLack road coordinates what
+  pub is_lack : IsLack road number request what
   pub refuses : Refuses answer (lack_code what) (lack_text number what)
 
--- the places of the coordinates, a permitted walk along each leg, of which none could cost less, and the text
--- of exactly these
-pub record SaysRoute (road : RoadMetric) (number : ℕ) (coordinates : List Point) (answer : Answer) : Type 0 where
+-- the metric is recent enough; the places of the coordinates, a permitted walk along each leg, of which none
+-- could cost less, and the text of exactly these
+pub record SaysRoute (road : RoadMetric) (number : ℕ) (request : Request) (answer : Answer) : Type 0 where
+  pub recent : IsRecent number request
   pub code : answer.code ≡ code.Ok
   pub status : answer.status ≡ 200
-  pub snapped : AllZip (StandsFor road) coordinates answer.places
+  pub snapped : AllZip (StandsFor road) (asked_in request) answer.places
   pub routes : List Route
   pub along : AreAlong road answer.places routes
   pub least : AreLeastRoutes road answer.places routes
   pub walks : answer.walks ≡ map (λ route. route.walk) routes
-  pub text : answer.text ≡ found_text number (map (λ route. route.cost) routes) (waypoints_of road.network.segments coordinates answer.places)
+  pub text : answer.text ≡ found_text number request.skip_waypoints (map (λ route. route.cost) routes) (waypoints_of road.network.segments request.points answer.places)
 
--- the answer to a request for a route through these coordinates
-abbrev pub IsRouteReply : RoadMetric → ℕ → List Point → Answer → Type 0
-IsRouteReply road number coordinates answer = SaysLack road number coordinates answer ⊎ SaysRoute road number coordinates answer
+-- the answer to a request for a route
+abbrev pub IsRouteReply : RoadMetric → ℕ → Request → Answer → Type 0
+IsRouteReply road number request answer = SaysLack road number request answer ⊎ SaysRoute road number request answer
 
 -- the code of the answer to a target that is refused
 abbrev pub code_of : RefusalCode → Code
@@ -98,7 +95,7 @@ code_of refused.TooBig = code.TooBig
 
 -- the answer to a request, or to the target that was refused
 abbrev pub IsRequestAnswer : RoadMetric → ℕ → Result Request Refusal → Answer → Type 0
-IsRequestAnswer road number (Ok request) answer = IsRouteReply road number request.points answer
+IsRequestAnswer road number (Ok request) answer = IsRouteReply road number request answer
 IsRequestAnswer road number (Err refusal) answer = Refuses answer (code_of refusal.code) (refusal_text (code_of refusal.code) refusal.message)
 
 -- the answer is one to the target

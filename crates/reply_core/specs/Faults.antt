@@ -1,20 +1,33 @@
 -- The crate's own: what it tells where a request gets no route.
-use Rattle.std.specs.Prelude.{List}
+use Rattle.std.specs.Prelude.{ℕ, List}
 use Rattle.road_base.specs.declared.coordinates.Point.{Point}
+use Rattle.url_read.specs.declared.requests.Request.{Request}
 use Rattle.road_places.specs.RoadMetric.{RoadMetric}
 use Rattle.road_walks.specs.declared.leg_faults.LegFault.{LegFault}
 use Rattle.road_walks.specs.declared.leg_faults.LegFault.TheVariants as leg
-use Rattle.reply_core.specs.Lacks.{IsLack}
+use Rattle.snap_index.specs.declared.filters.Filter.{Filter}
+use Rattle.reply_core.specs.Lacks.{IsLack, IsStray}
 use Rattle.reply_core.specs.declared.lacks.Lack.TheVariants as lack
+use Rattle.reply_core.specs.declared.lacks.PlaceFault.{PlaceFault}
+use Rattle.reply_core.specs.declared.lacks.PlaceFault.TheVariants as place
 use Rattle.reply_core.specs.declared.lacks.RouteFault.{RouteFault}
 use Rattle.reply_core.specs.declared.lacks.RouteFault.TheVariants as fault
 
--- what a fault tells; want of memory tells nothing
-abbrev pub IsRouteFault : RoadMetric → List Point → RouteFault → Type 0
-IsRouteFault road coordinates (fault.Lacks what) = IsLack road coordinates what
-IsRouteFault road coordinates fault.Memory = Unit {0}
+-- what a fault tells of the coordinates; want of memory tells nothing
+abbrev pub IsPlaceFault : RoadMetric → List (Point × Filter) → PlaceFault → Type 0
+IsPlaceFault road asked (place.NoPlace coordinate) = IsStray road asked coordinate
+IsPlaceFault road asked place.Memory = Unit {0}
 
--- a fault of the legs as one of the request
-abbrev pub fault_of : LegFault → RouteFault
-fault_of (leg.NoWalk number) = fault.Lacks (lack.Route number)
-fault_of leg.Memory = fault.Memory
+-- and what one tells of the request
+abbrev pub IsRouteFault : RoadMetric → ℕ → Request → RouteFault → Type 0
+IsRouteFault road number request (fault.Lacks what) = IsLack road number request what
+IsRouteFault road number request fault.Memory = Unit {0}
+
+-- a fault of the places, and one of the legs, as one of the request
+abbrev pub place_fault : PlaceFault → RouteFault
+place_fault (place.NoPlace coordinate) = fault.Lacks (lack.Segment coordinate)
+place_fault place.Memory = fault.Memory
+
+abbrev pub leg_fault : LegFault → RouteFault
+leg_fault (leg.NoWalk number) = fault.Lacks (lack.Route number)
+leg_fault leg.Memory = fault.Memory

@@ -1,39 +1,52 @@
--- What a request for a route lacks under a metric.
-use Rattle.std.specs.Prelude.{ℕ, List}
+-- What a request for a route lacks under a metric that was published under a number. Of several that are
+-- lacking the first is told: a number that is high enough, a place, a walk.
+use Rattle.std.specs.Prelude.{◌≡◌, ℕ, ◌<◌, ◌≤◌, List}
 use Rattle.std.specs.List.{AllZip}
 use Rattle.road_base.specs.declared.coordinates.Point.{Point}
 use Rattle.road_base.specs.declared.segments.Place.{Place}
 use Rattle.geo_integer.specs.Position.{position_of}
+use Rattle.url_read.specs.declared.requests.Request.{Request}
 use Rattle.road_places.specs.RoadMetric.{RoadMetric}
 use Rattle.road_walks.specs.FirstFailure.{IsFirstFailure}
 use Rattle.road_walks.specs.Legs.{IsBrokenLeg}
 use Rattle.snap_index.specs.Snapped.{IsSnapped, HasNoPlace}
+use Rattle.snap_index.specs.declared.filters.Filter.{Filter}
+use Rattle.reply_core.specs.Asked.{asked_in}
 use Rattle.reply_core.specs.declared.lacks.Lack.{Lack}
 use Rattle.reply_core.specs.declared.lacks.Lack.TheVariants as lack
 
+-- the metric of this number is no older than the request asks
+abbrev pub IsRecent : ℕ → Request → Type 0
+IsRecent number request = request.since ≤ number
+
+-- the request asks for this number, which is above that of the metric
+abbrev pub IsAhead : ℕ → Request → ℕ → Type 0
+IsAhead number request since = (since ≡ request.since) × (number < since)
+
 -- the place stands for the coordinate
-abbrev pub StandsFor : RoadMetric → Point → Place → Type 0
-StandsFor road coordinate place = IsSnapped road.network.segments road.weights (position_of coordinate) place
+abbrev pub StandsFor : RoadMetric → Point × Filter → Place → Type 0
+StandsFor road asked place = IsSnapped road.network.segments road.weights asked.1 (position_of asked.0) place
 
 -- some place does
-abbrev pub HasPlace : RoadMetric → Point → Type 0
-HasPlace road coordinate = (place : Place) × StandsFor road coordinate place
+abbrev pub HasPlace : RoadMetric → Point × Filter → Type 0
+HasPlace road asked = (place : Place) × StandsFor road asked place
 
 -- none does
-abbrev pub LacksPlace : RoadMetric → Point → Type 0
-LacksPlace road coordinate = HasNoPlace road.network.segments road.weights
+abbrev pub LacksPlace : RoadMetric → Point × Filter → Type 0
+LacksPlace road asked = HasNoPlace road.network.segments road.weights asked.1 (position_of asked.0)
 
 -- the coordinate of this number is the first that has no place
-abbrev pub IsStray : RoadMetric → List Point → ℕ → Type 0
-IsStray road coordinates number = IsFirstFailure (HasPlace road) (LacksPlace road) coordinates number
+abbrev pub IsStray : RoadMetric → List (Point × Filter) → ℕ → Type 0
+IsStray road asked number = IsFirstFailure (HasPlace road) (LacksPlace road) asked number
 
 -- each coordinate has a place, and the leg of this number between these is the first without a permitted walk
-pub record IsBroken (road : RoadMetric) (coordinates : List Point) (number : ℕ) : Type 0 where
+pub record IsBroken (road : RoadMetric) (asked : List (Point × Filter)) (number : ℕ) : Type 0 where
   pub places : List Place
-  pub snapped : AllZip (StandsFor road) coordinates places
+  pub snapped : AllZip (StandsFor road) asked places
   pub first : IsBrokenLeg road places number
 
--- what a request for a route through these coordinates lacks
-abbrev pub IsLack : RoadMetric → List Point → Lack → Type 0
-IsLack road coordinates (lack.Segment number) = IsStray road coordinates number
-IsLack road coordinates (lack.Route number) = IsBroken road coordinates number
+-- what a request lacks under the metric of a number
+abbrev pub IsLack : RoadMetric → ℕ → Request → Lack → Type 0
+IsLack road number request (lack.Ahead since) = IsAhead number request since
+IsLack road number request (lack.Segment coordinate) = IsRecent number request × IsStray road (asked_in request) coordinate
+IsLack road number request (lack.Route leg) = IsRecent number request × IsBroken road (asked_in request) leg

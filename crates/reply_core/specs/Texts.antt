@@ -1,5 +1,5 @@
 -- The texts of replies (OSRM's HTTP API, version 1; what it leaves open is this project's rule).
-use Rattle.std.specs.Prelude.{ℕ, zero, suc, ◌/◌, ◌%◌, ℤ, pos, negsuc, List, [], ◌++◌, codes, map, sum_by, unsigned_abs}
+use Rattle.std.specs.Prelude.{ℕ, zero, suc, ◌/◌, ◌%◌, ℤ, pos, negsuc, Bool, true, false, List, [], ◌∷◌, ◌++◌, codes, map, sum_by, unsigned_abs}
 use Rattle.std.specs.Fmt.{decimal}
 use Rattle.std.specs.List.{join_with_byte}
 use Rattle.std.specs.Str.{byte}
@@ -68,25 +68,40 @@ unfoldable pub route_text : List DurLen → List ℕ
 route_text costs =
     codes "{" ++ (totals_text (sum_by (λ cost. cost.length) costs) (sum_by (λ cost. cost.duration) costs) ++ (codes ",\"weight_name\":\"duration\",\"legs\":[" ++ (listed (map leg_text costs) ++ codes "]}")))
 
--- the reply with a route of legs that cost so much, and with these waypoints
-unfoldable pub found_text : ℕ → List DurLen → List (List ℕ) → List ℕ
-found_text number costs waypoints =
-    codes "{\"code\":\"Ok\",\"data_version\":\"" ++ (decimal number ++ (codes "\",\"routes\":[" ++ (route_text costs ++ (codes "],\"waypoints\":[" ++ (listed waypoints ++ codes "]}")))))
+-- a list of these values
+abbrev pub array_text : List (List ℕ) → List ℕ
+array_text values = codes "[" ++ (listed values ++ codes "]")
 
--- the coordinate of this number has no place
-unfoldable pub no_segment_text : ℕ → ℕ → List ℕ
-no_segment_text number coordinate =
-    codes "{\"code\":\"NoSegment\",\"data_version\":\"" ++ (decimal number ++ (codes "\",\"message\":\"coordinate " ++ (decimal coordinate ++ codes "\"}")))
+-- a member of an object: its key, and the text of its value
+abbrev pub member_text : List ℕ × List ℕ → List ℕ
+member_text (key, value) = codes "\"" ++ (key ++ (codes "\":" ++ value))
 
--- the leg of this number has no walk
-unfoldable pub no_route_text : ℕ → ℕ → List ℕ
-no_route_text number leg =
-    codes "{\"code\":\"NoRoute\",\"data_version\":\"" ++ (decimal number ++ (codes "\",\"message\":\"leg " ++ (decimal leg ++ codes "\"}")))
+-- members behind another one
+abbrev pub more_members : List (List ℕ × List ℕ) → List ℕ
+more_members [] = []
+more_members (member ∷ members) = codes "," ++ (member_text member ++ more_members members)
 
--- what a request lacks, under a metric of this number
-abbrev pub lack_text : ℕ → Lack → List ℕ
-lack_text number (lack.Segment coordinate) = no_segment_text number coordinate
-lack_text number (lack.Route leg) = no_route_text number leg
+-- an object of these members, in their order
+abbrev pub object_text : List (List ℕ × List ℕ) → List ℕ
+object_text members = codes "{" ++ (listed (map member_text members) ++ codes "}")
+
+-- a member that may be left out
+abbrev pub unless : Bool → List ℕ × List ℕ → List (List ℕ × List ℕ)
+unless true member = []
+unless false member = member ∷ []
+
+-- a word that needs no escapes
+abbrev pub word_text : List ℕ → List ℕ
+word_text word = codes "\"" ++ (word ++ codes "\"")
+
+-- the number of the metric that a reply is made under
+abbrev pub version_member : ℕ → List ℕ × List ℕ
+version_member number = (codes "data_version", word_text (decimal number))
+
+-- the reply with a route of legs that cost so much, and with these waypoints, unless they are skipped
+unfoldable pub found_text : ℕ → Bool → List DurLen → List (List ℕ) → List ℕ
+found_text number skip costs waypoints =
+    object_text ((codes "code", word_text (codes "Ok")) ∷ version_member number ∷ (codes "routes", array_text (route_text costs ∷ [])) ∷ unless skip (codes "waypoints", array_text waypoints))
 
 -- a code as replies write it
 abbrev pub code_text : Code → List ℕ
@@ -98,9 +113,32 @@ code_text code.InvalidOptions = codes "InvalidOptions"
 code_text code.InvalidQuery = codes "InvalidQuery"
 code_text code.InvalidValue = codes "InvalidValue"
 code_text code.TooBig = codes "TooBig"
+code_text code.AheadOfData = codes "AheadOfData"
 code_text code.NoSegment = codes "NoSegment"
 code_text code.NoRoute = codes "NoRoute"
 code_text code.BadRequest = codes "BadRequest"
+
+-- the code of an answer to a request that lacks this
+abbrev pub lack_code : Lack → Code
+lack_code (lack.Ahead since) = code.AheadOfData
+lack_code (lack.Segment coordinate) = code.NoSegment
+lack_code (lack.Route leg) = code.NoRoute
+
+-- what it is, and its number
+abbrev pub lack_word : Lack → List ℕ
+lack_word (lack.Ahead since) = codes "since"
+lack_word (lack.Segment coordinate) = codes "coordinate"
+lack_word (lack.Route leg) = codes "leg"
+
+abbrev pub lack_count : Lack → ℕ
+lack_count (lack.Ahead since) = since
+lack_count (lack.Segment coordinate) = coordinate
+lack_count (lack.Route leg) = leg
+
+-- what a request lacks, under a metric of this number
+unfoldable pub lack_text : ℕ → Lack → List ℕ
+lack_text number what =
+    object_text ((codes "code", word_text (code_text (lack_code what))) ∷ version_member number ∷ (codes "message", word_text (lack_word what ++ (codes " " ++ decimal (lack_count what)))) ∷ [])
 
 -- a refusal that no metric has part in
 unfoldable pub refusal_text : Code → List ℕ → List ℕ

@@ -5,7 +5,7 @@ use crate::answers::{Answer, Code, ReplyFault};
 use crate::metrics::Metric;
 use edge_graph::Network;
 use metric_make::base;
-use metric_publish::held::Held;
+use metric_publish::local_board::LocalBoard;
 use road_base::{Ids, Node, Object, Point, Tags, Way};
 use snap_index::Grid;
 use std::alloc::Global;
@@ -92,16 +92,25 @@ fn network_of(alloc: Global, town: Town) -> Result<Network, ReplyFault> {
     }
 }
 
-// The answer to a target or to a line, under a metric of this number.
+// The answer to a target or to a line, under a metric of number 7.
 fn ask(rt: &HostRuntime, town: Town, asked: Asked<'_>) -> Result<Answer, ReplyFault> {
+    ask_at(rt, town, 7, asked)
+}
+
+// The answer under the metric that a board is opened with, at this number.
+fn ask_at(
+    rt: &HostRuntime,
+    town: Town,
+    number: u32,
+    asked: Asked<'_>,
+) -> Result<Answer, ReplyFault> {
     let alloc = rt.alloc();
     let network = network_of(alloc, town)?;
     let grid = Grid::of(alloc, &network)?;
     let base = base(alloc, &network)?;
-    let held = Held {
-        number: 7,
-        value: Arc::new(alloc, Metric::make(Arc::new(alloc, network)?, base))?,
-    };
+    let metric = Metric::make(Arc::new(alloc, network)?, base);
+    let board = LocalBoard::of(alloc, Arc::new(alloc, metric)?, number)?;
+    let held = board.enter()?;
     match asked {
         Asked::Target(target) => answer(alloc, &held, &grid, target.as_bytes()),
         Asked::Line(line) => line_answer(alloc, &held, &grid, line),
@@ -178,6 +187,134 @@ fn the_first_place_or_leg_that_fails_is_told(rt: HostRuntime) -> Result<(), Repl
         assert_eq!(rt; answer.status, 400);
         assert_eq!(rt; answer.text.as_str(), text);
         assert_eq!(rt; answer.places.as_slice().len(), 0);
+    }
+    Ok(())
+}
+
+#[test]
+fn a_radius_and_a_bearing_choose_segments(rt: HostRuntime) -> Result<(), ReplyFault> {
+    let near = "/route/v1/car/0.0001,0;0.001,0.001?overview=false";
+    let first = "/route/v1/car/0,0;0.001,0.001?overview=false";
+    for (target, options, code) in [
+        (near, "&radiuses=0;unlimited", Code::NoSegment),
+        (near, "&radiuses=11.0;unlimited", Code::NoSegment),
+        (near, "&radiuses=11.1;unlimited", Code::Ok),
+        (first, "&radiuses=0;unlimited", Code::Ok),
+        (first, "&bearings=45,10;", Code::NoSegment),
+        (first, "&bearings=350,10;", Code::Ok),
+        (first, "&bearings=351,10;100,10", Code::Ok),
+        (first, "&bearings=349,10;", Code::NoSegment),
+        (first, "&bearings=180,0;270,0", Code::Ok),
+        (first, "&radiuses=0;&bearings=180,0;", Code::Ok),
+        (near, "&radiuses=11.1;&bearings=180,0;", Code::Ok),
+    ] {
+        let mut asked = String::from_str(rt.alloc(), target)?;
+        asked.push_str(options)?;
+        let answer = ask(&rt, CORNER, Asked::Target(asked.as_str()))?;
+        assert_eq!(rt; answer.code, code, "{options}");
+        if code == Code::NoSegment {
+            assert_eq!(rt;
+                answer.text.as_str(),
+                "{\"code\":\"NoSegment\",\"data_version\":\"7\",\"message\":\"coordinate 0\"}"
+            );
+        }
+    }
+    Ok(())
+}
+
+#[test]
+fn each_coordinate_has_a_filter_of_its_own(rt: HostRuntime) -> Result<(), ReplyFault> {
+    // the corner lies on both streets, and the second one alone leads east
+    for (options, segment, text) in [
+        (
+            "bearings=;90,0",
+            1,
+            "\"distance\":0.0,\"name\":\"\",\"location\":[0.000000,0.001000]}]",
+        ),
+        (
+            "bearings=;0,0",
+            0,
+            "\"distance\":0.0,\"name\":\"\",\"location\":[0.000000,0.001000]}]",
+        ),
+    ] {
+        let mut asked = String::from_str(rt.alloc(), "/route/v1/car/0,0;0,0.001?overview=false&")?;
+        asked.push_str(options)?;
+        let answer = ask(&rt, CORNER, Asked::Target(asked.as_str()))?;
+        assert_eq!(rt; answer.places.as_slice().len(), 2);
+        let mut last = 9;
+        for place in answer.places.as_slice() {
+            last = place.segment;
+        }
+        assert_eq!(rt; last, segment);
+        assert!(rt; answer.text.as_str().contains(text));
+    }
+    let answer = ask(
+        &rt,
+        CORNER,
+        Asked::Target("/route/v1/car/0,0;0.0001,0?overview=false&radiuses=;0"),
+    )?;
+    assert_eq!(rt;
+        answer.text.as_str(),
+        "{\"code\":\"NoSegment\",\"data_version\":\"7\",\"message\":\"coordinate 1\"}"
+    );
+    Ok(())
+}
+
+#[test]
+fn options_without_effect(rt: HostRuntime) -> Result<(), ReplyFault> {
+    let plain = ask(
+        &rt,
+        CORNER,
+        Asked::Target("/route/v1/car/0,0;0.001,0.001?overview=false"),
+    )?;
+    let hinted = ask(
+        &rt,
+        CORNER,
+        Asked::Target("/route/v1/car/0,0;0.001,0.001?overview=false&hints=;"),
+    )?;
+    assert_eq!(rt; hinted.text.as_str(), plain.text.as_str());
+    Ok(())
+}
+
+#[test]
+fn waypoints_are_skipped_where_it_is_asked_for(rt: HostRuntime) -> Result<(), ReplyFault> {
+    let target = Asked::Target("/route/v1/car/0,0;0.001,0.001?overview=false&skip_waypoints=true");
+    let answer = ask(&rt, CORNER, target)?;
+    assert_eq!(rt; answer.places.as_slice().len(), 2);
+    assert_eq!(rt;
+        answer.text.as_str(),
+        "{\"code\":\"Ok\",\"data_version\":\"7\",\"routes\":[{\"distance\":222.2,\"duration\":19.8,\"weight\":19.8,\"weight_name\":\"duration\",\"legs\":[{\"distance\":222.2,\"duration\":19.8,\"weight\":19.8,\"summary\":\"\",\"steps\":[]}]}]}"
+    );
+    Ok(())
+}
+
+#[test]
+fn a_request_ahead_of_the_metric_is_told_so(rt: HostRuntime) -> Result<(), ReplyFault> {
+    let target = Asked::Target("/route/v1/car/0,0;0.001,0.001?overview=false&since=5");
+    let early = ask_at(&rt, CORNER, 4, target)?;
+    assert_eq!(rt; early.status, 400);
+    assert_eq!(rt;
+        early.text.as_str(),
+        "{\"code\":\"AheadOfData\",\"data_version\":\"4\",\"message\":\"since 5\"}"
+    );
+    let due = ask_at(&rt, CORNER, 5, target)?;
+    assert_eq!(rt; due.code, Code::Ok);
+    // it comes before a coordinate without a place
+    let nowhere = ask_at(&rt, DESERT, 4, target)?;
+    assert_eq!(rt; nowhere.code, Code::AheadOfData);
+    Ok(())
+}
+
+#[test]
+fn a_route_has_500_coordinates_at_most(rt: HostRuntime) -> Result<(), ReplyFault> {
+    for (count, code) in [(500, Code::Ok), (501, Code::TooBig)] {
+        let mut many = String::from_str(rt.alloc(), "/route/v1/car/0,0")?;
+        for _ in 1..count {
+            many.push_str(";0,0")?;
+        }
+        many.push_str("?overview=false")?;
+        let answer = ask(&rt, CORNER, Asked::Target(many.as_str()))?;
+        assert_eq!(rt; answer.code, code);
     }
     Ok(())
 }

@@ -21,8 +21,9 @@ use url_read::{Refusal, RefusalCode, RequestFault, request};
 const LONGEST_LINE: usize = 8192;
 
 /// The answer to a target under what was published: a refusal with status 400 for a target that is no request,
-/// for the first coordinate that has no place, or for the first leg that has no permitted walk, else a least
-/// route with status 200. The grid is that of the metric's network.
+/// for a request that asks for a higher number, for the first coordinate that has no place, or for the first leg
+/// that has no permitted walk, the first that applies; else a least route with status 200. The grid is that of
+/// the metric's network.
 ///
 /// It answers `Memory` only where memory runs out.
 pub fn answer(
@@ -78,7 +79,7 @@ fn target_answer(
             metric.base(),
             number,
             grid,
-            request.points.as_slice(),
+            &request,
         ),
         Err(RequestFault::Refused(refusal)) => Ok(refused(alloc, refusal)?),
         Err(RequestFault::Memory) => Err(ReplyFault::Memory),

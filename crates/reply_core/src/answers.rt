@@ -45,7 +45,9 @@ pub enum Code {
     InvalidValue,
     /// There are too many coordinates.
     TooBig,
-    /// A coordinate has no place, since no segment may be driven along.
+    /// The request asks for a metric of a higher number.
+    AheadOfData,
+    /// A coordinate has no place, since no segment that may be driven along is of its bearing and in its radius.
     NoSegment,
     /// No permitted walk leads along a leg.
     NoRoute,

@@ -3,8 +3,8 @@
 //!
 //! [`answer`] and [`line_answer`] do all of it, and `specs/Answers` says what they answer, by cases. `specs/`
 //! has the definitions, to be read in this order: `Request` (which lines have a target; what a target asks
-//! for is told by `url_read`), `Lacks` (what a request may lack under a metric), `Texts` (the bytes) and
-//! `Answers`. Where a coordinate stands on the roads is told by `snap_index`, which walks are permitted and what
+//! for is told by `url_read`), `Asked` (the coordinates with their filters), `Lacks` (what a request may lack
+//! under a metric), `Texts` (the bytes) and `Answers`. Where a coordinate stands on the roads is told by `snap_index`, which walks are permitted and what
 //! they cost by `road_places`, which of them are least by `road_walks`. Coordinates are microdegrees, lengths
 //! decimetres, durations deciseconds.
 //!
@@ -14,6 +14,7 @@
 
 mod answering;
 mod answers;
+mod asked_places;
 mod lacks;
 mod metrics;
 mod number_texts;

@@ -1,11 +1,11 @@
 //! The texts of replies, in the form of OSRM's HTTP API, version 1. Each call writes behind what stands in
 //! a text; after an error, which is want of memory, the text is of no use.
 
-ghost use Rattle.std.specs.Prelude.{◌≡◌, ℕ, ◌*◌, ◌^◌, ◌<◌, ◌≤◌, ◌++◌, Some, IfOk, OnOk, length, map, string_bytes, sum_by};
+ghost use Rattle.std.specs.Prelude.{◌≡◌, ℕ, ◌*◌, ◌^◌, ◌<◌, ◌≤◌, ◌++◌, Some, IfOk, OnOk, codes, length, map, string_bytes, sum_by};
 ghost use Rattle.std.specs.List.{slice_get};
 ghost use Rattle.reply_core.specs.Answers.{waypoint_of, waypoints_of};
 ghost use Rattle.road_places.specs.Places.{IsPlaceOn};
-ghost use Rattle.reply_core.specs.Texts.{code_text, comma_before, found_text, json_text, lack_text, leg_text, listed, location_text, no_route_text, no_segment_text, refusal_text, route_text, totals_text, waypoint_text};
+ghost use Rattle.reply_core.specs.Texts.{array_text, code_text, comma_before, found_text, json_text, lack_text, leg_text, listed, location_text, more_members, refusal_text, route_text, totals_text, unless, waypoint_text};
 
 use crate::answers::Code;
 use crate::lacks::Lack;
@@ -17,6 +17,7 @@ use road_places::Route;
 use search_graph::DurLen;
 use serde_json::Value;
 use std::alloc::{AllocError, Global};
+use url_read::Request;
 
 /// The reply to a line of no form.
 pub const BAD_REQUEST: &str = "{\"code\":\"BadRequest\"}";
@@ -187,21 +188,43 @@ fn push_waypoints(
     Ok(())
 }
 
-/// The reply with a route of these legs through coordinates that are snapped to these places, under a metric
-/// of this number.
+// The waypoints as a further member of an object, unless the request skips them.
+fn push_waypoints_member(
+    alloc: Global,
+    out: &mut String,
+    network: &Network,
+    request: &Request,
+    places: &[Place],
+) -> Result<(), AllocError>
+    requires few { length network.now.segments < 2 ^ 30 }
+    requires as_many { length places.now ≡ length request.now.points }
+    requires placed { (k : ℕ) (place : Place) → slice_get places.now k ≡ Some place → IsPlaceOn network.now place }
+    ensures { OnOk result (string_bytes out.new ≡ string_bytes out.old ++ more_members (unless request.now.skip_waypoints (codes "waypoints", array_text (waypoints_of network.now.segments request.now.points places.now)))) }
+{
+    if request.skip_waypoints {
+        return Ok(());
+    }
+    push_text(out, ",\"waypoints\":[")?;
+    push_waypoints(alloc, out, network, request.points.as_slice(), places)?;
+    push_text(out, "]")?;
+    Ok(())
+}
+
+/// The reply to a request with a route of these legs through its coordinates, which are snapped to these
+/// places, under a metric of this number.
 pub fn found_text(
     alloc: Global,
     network: &Network,
     number: u32,
-    coordinates: &[Point],
+    request: &Request,
     places: &[Place],
     routes: &[Route],
 ) -> Result<String, AllocError>
     requires few { length network.now.segments < 2 ^ 30 }
-    requires as_many { length places.now ≡ length coordinates.now }
+    requires as_many { length places.now ≡ length request.now.points }
     requires placed { (k : ℕ) (place : Place) → slice_get places.now k ≡ Some place → IsPlaceOn network.now place }
     requires legs { length routes.now < 2 ^ 32 }
-    ensures { IfOk result (λ text. string_bytes text ≡ found_text number (map (λ route. route.cost) routes.now) (waypoints_of network.now.segments coordinates.now places.now)) }
+    ensures { IfOk result (λ text. string_bytes text ≡ found_text number request.now.skip_waypoints (map (λ route. route.cost) routes.now) (waypoints_of network.now.segments request.now.points places.now)) }
 {
     let mut out = String::new(alloc);
     write!(
@@ -209,9 +232,9 @@ pub fn found_text(
         "{{\"code\":\"Ok\",\"data_version\":\"{number}\",\"routes\":["
     )?;
     push_route(&mut out, routes)?;
-    push_text(&mut out, "],\"waypoints\":[")?;
-    push_waypoints(alloc, &mut out, network, coordinates, places)?;
-    push_text(&mut out, "]}")?;
+    push_text(&mut out, "]")?;
+    push_waypoints_member(alloc, &mut out, network, request, places)?;
+    push_text(&mut out, "}")?;
     Ok(out)
 }
 
@@ -219,30 +242,13 @@ pub fn found_text(
 pub fn lack_text(alloc: Global, number: u32, lack: Lack) -> Result<String, AllocError>
     ensures { IfOk result (λ text. string_bytes text ≡ lack_text number lack) }
 {
-    match lack {
-        Lack::Segment(coordinate) => no_segment_text(alloc, number, coordinate),
-        Lack::Route(leg) => no_route_text(alloc, number, leg),
-    }
-}
-
-// The coordinate of this number, from 0, has no place.
-#[tactic(auto, unfolding(crate::specs::Texts::no_segment_text))]
-fn no_segment_text(alloc: Global, number: u32, coordinate: u32) -> Result<String, AllocError>
-    ensures { IfOk result (λ text. string_bytes text ≡ no_segment_text number coordinate) }
-{
-    format!(in alloc;
-        "{{\"code\":\"NoSegment\",\"data_version\":\"{number}\",\"message\":\"coordinate {coordinate}\"}}"
-    )
-}
-
-// The leg of this number, from 0, has no walk.
-#[tactic(auto, unfolding(crate::specs::Texts::no_route_text))]
-fn no_route_text(alloc: Global, number: u32, leg: u32) -> Result<String, AllocError>
-    ensures { IfOk result (λ text. string_bytes text ≡ no_route_text number leg) }
-{
-    format!(in alloc;
-        "{{\"code\":\"NoRoute\",\"data_version\":\"{number}\",\"message\":\"leg {leg}\"}}"
-    )
+    let (code, word, count) = (code_text(lack.code()), lack.word(), lack.count());
+    let mut out = String::new(alloc);
+    write!(
+        out,
+        "{{\"code\":\"{code}\",\"data_version\":\"{number}\",\"message\":\"{word} {count}\"}}"
+    )?;
+    Ok(out)
 }
 
 /// A refusal that no metric has part in.
@@ -268,6 +274,7 @@ fn code_text(kind: Code) -> &'static str
         Code::InvalidQuery => "InvalidQuery",
         Code::InvalidValue => "InvalidValue",
         Code::TooBig => "TooBig",
+        Code::AheadOfData => "AheadOfData",
         Code::NoSegment => "NoSegment",
         Code::NoRoute => "NoRoute",
         Code::BadRequest => "BadRequest",

@@ -1,2 +1,4 @@
 pub mod EndLemmas
+pub mod Farther
 pub mod SnapLemmas
+pub mod Turns

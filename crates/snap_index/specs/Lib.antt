@@ -1,3 +1,5 @@
 pub mod Candidates
 pub mod Ends
+pub mod Kept
+pub mod Nearest
 pub mod Snapped

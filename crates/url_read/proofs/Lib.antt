@@ -1,7 +1,12 @@
 pub mod Cuts
 pub mod Marks
-pub mod Plain
 pub mod Degrees
 pub mod FifthPiece
 pub mod Numbered
+pub mod EachRead
+pub mod LastValues
 pub mod Judged
+pub mod Numbers
+pub mod Suffixes
+pub mod Kept
+pub mod ChosenAmong

@@ -1,10 +1,12 @@
--- The options of a target, `name=value` parted by `&` (OSRM's HTTP API, version 1). So far there is one,
--- `overview=false`, and each target has it.
-use Rattle.std.specs.Prelude.{ℕ, Bool, true, false, ◌==◌, ◌&&◌, not, List, [], length, codes, bytes_eq, Option, Some, None, if◌then◌else◌}
-use Rattle.std.specs.List.{before_first, after_first, find, list_any, slice_split}
+-- The options of a query, `name=value` parted by `&`, and which of them each service has (OSRM's HTTP API,
+-- version 1; that of a repeated option the last counts is this project's rule).
+use Rattle.std.specs.Prelude.{ℕ, Bool, true, false, ◌==◌, ◌&&◌, ◌||◌, List, [], ◌∷◌, length, codes, bytes_eq, Option, Some, None, is_some, unwrap_or, option_and_then, if◌then◌else◌}
+use Rattle.std.specs.Option.{option_or}
+use Rattle.std.specs.List.{before_first, after_first, slice_split}
 use Rattle.std.specs.Str.{byte}
-use Rattle.url_read.specs.Refusals.{bad_option}
-use Rattle.url_read.specs.declared.refusals.Refusal.{Refusal}
+use Rattle.url_read.specs.Values.{truth_of, all_read, radius_of, bearing_of, approach_of, hint_of, snapping_of, since_of, number_of, alternatives_of, route_annotations_of, geometries_of, overview_of, continue_straight_of, table_annotations_of, chosen_of}
+use Rattle.url_read.specs.declared.service_names.ServiceName.{ServiceName}
+use Rattle.url_read.specs.declared.service_names.ServiceName.TheVariants.{Route, Table, Nearest}
 
 -- the options of a query; an empty query has none, but an empty piece of a query is an option
 abbrev pub options_of : List ℕ → List (List ℕ)
@@ -17,19 +19,57 @@ name_of option = before_first (λ b. b == byte "=") option
 abbrev pub value_of : List ℕ → List ℕ
 value_of option = after_first (λ b. b == byte "=") option
 
-abbrev pub is_overview : List ℕ → Bool
-is_overview option = bytes_eq (name_of option) (codes "overview")
+-- the value of an option of this name
+abbrev pub value_named : List ℕ → List ℕ → Option (List ℕ)
+value_named name option = if bytes_eq (name_of option) name then Some (value_of option) else None
 
--- the option is known, and its value is one that it may have; a value that is lacking is not the empty one
-abbrev pub is_known : List ℕ → Bool
-is_known option = list_any (λ b. b == byte "=") option && (is_overview option && bytes_eq (value_of option) (codes "false"))
+-- the value of the last option of this name, None where there is none
+abbrev pub last_value_of : List ℕ → List (List ℕ) → Option (List ℕ)
+last_value_of name [] = None
+last_value_of name (option ∷ more) = option_or (last_value_of name more) (value_named name option)
 
--- the refusal for the first option that is not known, or else where `overview` does not stand in the query
-abbrev pub refused_for : Option (List ℕ) → Bool → Option Refusal
-refused_for (Some option) has_overview = Some (bad_option (name_of option))
-refused_for None true = None
-refused_for None false = Some (bad_option (codes "overview"))
+-- what the last value of a name stands for, or what stands for it where there is none
+abbrev pub read_or : {A : Type 0} → A → (List ℕ → Option A) → List ℕ → List (List ℕ) → A
+read_or default read name options = unwrap_or (option_and_then read (last_value_of name options)) default
 
--- what refuses the options of a query, if anything does: each option is read, from the left
-abbrev pub options_refusal : List ℕ → Option Refusal
-options_refusal query = refused_for (find (λ option. not (is_known option)) (options_of query)) (list_any is_overview (options_of query))
+-- an option of all services, of its grammar
+abbrev pub is_common : List ℕ → List ℕ → Bool
+is_common name value =
+    if bytes_eq name (codes "radiuses") then is_some (all_read radius_of value)
+    else (if bytes_eq name (codes "bearings") then is_some (all_read bearing_of value)
+    else (if bytes_eq name (codes "approaches") then is_some (all_read approach_of value)
+    else (if bytes_eq name (codes "hints") then true
+    else (if bytes_eq name (codes "generate_hints") then is_some (truth_of value)
+    else (if bytes_eq name (codes "skip_waypoints") then is_some (truth_of value)
+    else (if bytes_eq name (codes "snapping") then is_some (snapping_of value)
+    else (if bytes_eq name (codes "since") then is_some (since_of value)
+    else false)))))))
+
+-- of `route` alone
+abbrev pub is_of_route : List ℕ → List ℕ → Bool
+is_of_route name value =
+    if bytes_eq name (codes "alternatives") then is_some (alternatives_of value)
+    else (if bytes_eq name (codes "steps") then is_some (truth_of value)
+    else (if bytes_eq name (codes "annotations") then is_some (route_annotations_of value)
+    else (if bytes_eq name (codes "geometries") then is_some (geometries_of value)
+    else (if bytes_eq name (codes "overview") then is_some (overview_of value)
+    else (if bytes_eq name (codes "continue_straight") then is_some (continue_straight_of value)
+    else false)))))
+
+-- of `table` alone
+abbrev pub is_of_table : List ℕ → List ℕ → Bool
+is_of_table name value =
+    if bytes_eq name (codes "sources") then is_some (chosen_of value)
+    else (if bytes_eq name (codes "destinations") then is_some (chosen_of value)
+    else (if bytes_eq name (codes "annotations") then is_some (table_annotations_of value)
+    else false))
+
+-- of `nearest` alone
+abbrev pub is_of_nearest : List ℕ → List ℕ → Bool
+is_of_nearest name value = if bytes_eq name (codes "number") then is_some (number_of value) else false
+
+-- an option of a service, of its grammar
+abbrev pub is_of : ServiceName → List ℕ → List ℕ → Bool
+is_of Route name value = is_common name value || is_of_route name value
+is_of Table name value = is_common name value || is_of_table name value
+is_of Nearest name value = is_common name value || is_of_nearest name value

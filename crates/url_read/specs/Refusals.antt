@@ -1,5 +1,5 @@
 -- How a target is refused: a code, and a message that names the place of the fault.
-use Rattle.std.specs.Prelude.{◌≡◌, ℕ, List, ◌++◌, codes, Option, Some, Result, Err}
+use Rattle.std.specs.Prelude.{◌≡◌, ℕ, List, ◌++◌, codes, Option, Some, None, Result, Ok, Err}
 use Rattle.std.specs.Fmt.{decimal}
 use Rattle.url_read.specs.declared.refusals.RefusalCode.TheVariants.{InvalidUrl, InvalidService, InvalidVersion, InvalidOptions, InvalidQuery, InvalidValue, TooBig}
 use Rattle.url_read.specs.declared.refusals.Refusal.{Refusal}
@@ -28,13 +28,31 @@ bad_coordinate number = record { code = InvalidQuery; message = codes "coordinat
 abbrev pub out_of_range : ℕ → Refusal
 out_of_range number = record { code = InvalidValue; message = codes "coordinate " ++ decimal number }
 
--- so many coordinates are too few
-abbrev pub too_few : ℕ → Refusal
-too_few count = record { code = InvalidQuery; message = decimal count ++ codes " coordinates" }
+-- so many coordinates are too few, or are not the one that there has to be
+abbrev pub bad_count : ℕ → Refusal
+bad_count count = record { code = InvalidQuery; message = decimal count ++ codes " coordinates" }
 
--- or too many
-abbrev pub too_many : ℕ → Refusal
-too_many count = record { code = TooBig; message = decimal count ++ codes " coordinates, at most 500" }
+-- so many coordinates are too many
+abbrev pub too_many : ℕ → ℕ → Refusal
+too_many count most = record { code = TooBig; message = decimal count ++ (codes " coordinates, at most " ++ decimal most) }
+
+-- so many results are too many
+abbrev pub too_many_results : ℕ → ℕ → Refusal
+too_many_results count most = record { code = TooBig; message = decimal count ++ (codes " results, at most " ++ decimal most) }
+
+-- one step after another: the first refusal ends them
+abbrev pub and_then : {A B : Type 0} → Result A Refusal → (A → Result B Refusal) → Result B Refusal
+and_then (Ok x) next = next x
+and_then (Err refusal) next = Err refusal
+
+abbrev pub unless : {A : Type 0} → Option Refusal → Result A Refusal → Result A Refusal
+unless None next = next
+unless (Some refusal) next = Err refusal
+
+-- what is there, or else a refusal
+abbrev pub or_else : {A : Type 0} → Option A → Refusal → Result A Refusal
+or_else (Some x) refusal = Ok x
+or_else None refusal = Err refusal
 
 -- the fault is the refusal that the definition gives, or want of memory
 abbrev pub IsFaultOf : {A : Type 0} → Result A Refusal → RequestFault → Type 0

@@ -1,8 +1,8 @@
 -- How a target is parted into a path and a query, and the path into pieces (RFC 3986; that parentheses
 -- keep a `?` from ending the path is this project's rule, since polylines are written between them).
-use Rattle.std.specs.Prelude.{ℕ, ◌+◌, Bool, ◌==◌, ◌&&◌, ◌||◌, not, List, [], ◌∷◌, length, take, drop, slice_index, Option, Some, None, if◌then◌else◌}
-use Rattle.std.specs.List.{count_by, find, list_any, range_with_len, slice_split}
-use Rattle.std.specs.Str.{byte, is_utf8}
+use Rattle.std.specs.Prelude.{ℕ, ◌+◌, ◌-◌, Bool, ◌==◌, ◌&&◌, ◌||◌, not, List, [], ◌∷◌, length, take, drop, codes, nat_eq, slice_index, Option, Some, None, if◌then◌else◌}
+use Rattle.std.specs.List.{count_by, ends_with, find, range_with_len, slice_split}
+use Rattle.std.specs.Str.{byte}
 
 -- how often a byte stands in a text
 abbrev pub count_of : ℕ → List ℕ → ℕ
@@ -26,9 +26,9 @@ abbrev pub query_at : Option ℕ → List ℕ → List ℕ
 query_at None target = []
 query_at (Some mark) target = drop (mark + 1) target
 
--- the part is text in UTF-8 without percent escapes, which are not read yet
-abbrev pub is_plain : List ℕ → Bool
-is_plain part = is_utf8 part && not (list_any (λ b. b == byte "%") part)
+-- coordinates without the `.json` at their end, if there is one
+abbrev pub without_json : List ℕ → List ℕ
+without_json coordinates = if ends_with nat_eq coordinates (codes ".json") then take (length coordinates - 5) coordinates else coordinates
 
 -- the pieces of a path that the request is read from
 pub record Pieces : Type 0 where

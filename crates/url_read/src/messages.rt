@@ -1,7 +1,7 @@
 //! The refusals of targets, with their messages.
 
 ghost use Rattle.std.specs.Prelude.{◌≡◌, IfOk, string_bytes};
-ghost use Rattle.url_read.specs.Refusals.{bad_path, bad_service, bad_version, bad_option, bad_coordinate, out_of_range, too_few, too_many};
+ghost use Rattle.url_read.specs.Refusals.{bad_path, bad_service, bad_version, bad_option, bad_coordinate, out_of_range, bad_count, too_many, too_many_results};
 
 use crate::refusals::{Refusal, RefusalCode};
 use road_base::Text;
@@ -40,7 +40,7 @@ pub(crate) fn bad_version(alloc: Global, name: &str) -> Result<Refusal, AllocErr
     Ok(refused(RefusalCode::InvalidVersion, message))
 }
 
-// The option of this name is unknown, not of its form, or lacking.
+// The option of this name is not one of the service, not of its form, or does not fit the coordinates.
 pub(crate) fn bad_option(alloc: Global, name: &str) -> Result<Refusal, AllocError>
     ensures { IfOk result (λ refusal. refusal ≡ bad_option name.now) }
 {
@@ -64,18 +64,26 @@ pub(crate) fn out_of_range(alloc: Global, number: usize) -> Result<Refusal, Allo
     Ok(refused(RefusalCode::InvalidValue, message))
 }
 
-// So many coordinates are too few.
-pub(crate) fn too_few(alloc: Global, count: usize) -> Result<Refusal, AllocError>
-    ensures { IfOk result (λ refusal. refusal ≡ too_few count) }
+// So many coordinates are too few, or are not the one that there has to be.
+pub(crate) fn bad_count(alloc: Global, count: usize) -> Result<Refusal, AllocError>
+    ensures { IfOk result (λ refusal. refusal ≡ bad_count count) }
 {
     let message = format!(in alloc; "{count} coordinates")?;
     Ok(refused(RefusalCode::InvalidQuery, message))
 }
 
 // So many coordinates are too many.
-pub(crate) fn too_many(alloc: Global, count: usize) -> Result<Refusal, AllocError>
-    ensures { IfOk result (λ refusal. refusal ≡ too_many count) }
+pub(crate) fn too_many(alloc: Global, count: usize, most: usize) -> Result<Refusal, AllocError>
+    ensures { IfOk result (λ refusal. refusal ≡ too_many count most) }
 {
-    let message = format!(in alloc; "{count} coordinates, at most 500")?;
+    let message = format!(in alloc; "{count} coordinates, at most {most}")?;
+    Ok(refused(RefusalCode::TooBig, message))
+}
+
+// So many results are too many.
+pub(crate) fn too_many_results(alloc: Global, count: u32, most: u32) -> Result<Refusal, AllocError>
+    ensures { IfOk result (λ refusal. refusal ≡ too_many_results count most) }
+{
+    let message = format!(in alloc; "{count} results, at most {most}")?;
     Ok(refused(RefusalCode::TooBig, message))
 }

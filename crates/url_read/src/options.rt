@@ -1,68 +1,95 @@
-//! The options of a target.
+//! One option, its name and its value.
 
-ghost use Rattle.std.specs.Prelude.{◌≡◌, None, OnOk, IfOk, IfErr};
-ghost use Rattle.url_read.specs.Options.{options_refusal, refused_for, is_known, is_overview, name_of};
-ghost use Rattle.url_read.specs.Refusals.{IsRefusalIn};
+ghost use Rattle.std.specs.Prelude.{◌≡◌, option_copied};
+ghost use Rattle.url_read.specs.Options.{name_of, value_named, is_common, is_of_route, is_of_table, is_of_nearest, is_of};
 
+use crate::chosen_lists::is_chosen;
 use crate::cutting::cut;
-use crate::messages::bad_option;
-use crate::refusals::RequestFault;
-use std::alloc::Global;
+use crate::entries::are_read;
+use crate::option_types::{Approach, Bearing};
+use crate::option_values::{
+    alternatives_of, continue_straight_of, geometries_of, number_of, overview_of,
+    route_annotations_of, since_of, snapping_of, table_annotations_of, truth_of,
+};
+use crate::service_names::ServiceName;
 
-const OVERVIEW: &str = "overview";
-
-// Reads the options of a query: the first that is not known is refused, and then a query without the
-// overview.
-pub(crate) fn check_options(alloc: Global, query: &str) -> Result<(), RequestFault>
-    ensures known { OnOk result (options_refusal query.now ≡ None) }
-    ensures refusal { IfErr result (IsRefusalIn (options_refusal query.now)) }
-{
-    if !has_overview(alloc, query)? {
-        return Err(RequestFault::Refused(bad_option(alloc, OVERVIEW)?));
-    }
-    Ok(())
-}
-
-// Whether the overview is among the options of a query, if all are known, or else the first that is not.
-fn has_overview(alloc: Global, query: &str) -> Result<bool, RequestFault>
-    ensures known { IfOk result (λ has_overview. options_refusal query.now ≡ refused_for None has_overview) }
-    ensures refusal { IfErr result (IsRefusalIn (options_refusal query.now)) }
-{
-    if query.is_empty() {
-        return Ok(false);
-    }
-    let mut has_overview = false;
-    for option in query.split('&') {
-        if !is_known(option) {
-            return Err(RequestFault::Refused(bad_option(alloc, name_of(option))?));
-        }
-        has_overview |= is_overview(option);
-    }
-    Ok(has_overview)
-}
-
-// Whether an option is known and has a value of its own.
-fn is_known(option: &str) -> bool
-    ensures { result ≡ is_known option.now }
+// The value of an option of this name, None where it has another.
+pub(crate) fn value_named<'a>(name: &str, option: &'a str) -> Option<&'a str>
+    ensures { option_copied result ≡ value_named name.now option.now }
 {
     match cut(option, '=') {
-        Some((name, value)) => name == OVERVIEW && value == "false",
-        None => false,
+        Some((its_name, value)) if its_name == name => Some(value),
+        None if option == name => Some(""),
+        _ => None,
     }
-}
-
-fn is_overview(option: &str) -> bool
-    ensures { result ≡ is_overview option.now }
-{
-    name_of(option) == OVERVIEW
 }
 
 // What stands before the first `=`, or all.
-fn name_of(option: &str) -> &str
+pub(crate) fn name_of(option: &str) -> &str
     ensures { result.now ≡ name_of option.now }
 {
     match cut(option, '=') {
         Some((name, _)) => name,
         None => option,
+    }
+}
+
+// Whether a service has an option of this name, and the value is of its grammar.
+pub(crate) fn is_of(service: ServiceName, name: &str, value: &str) -> bool
+    ensures { result ≡ is_of service name.now value.now }
+{
+    is_common(name, value)
+        || match service {
+            ServiceName::Route => is_of_route(name, value),
+            ServiceName::Table => is_of_table(name, value),
+            ServiceName::Nearest => is_of_nearest(name, value),
+        }
+}
+
+fn is_common(name: &str, value: &str) -> bool
+    ensures { result ≡ is_common name.now value.now }
+{
+    match name {
+        "radiuses" => are_read::<Option<u64>>(value),
+        "bearings" => are_read::<Option<Bearing>>(value),
+        "approaches" => are_read::<Option<Approach>>(value),
+        "hints" => true,
+        "generate_hints" | "skip_waypoints" => truth_of(value).is_some(),
+        "snapping" => snapping_of(value).is_some(),
+        "since" => since_of(value).is_some(),
+        _ => false,
+    }
+}
+
+fn is_of_route(name: &str, value: &str) -> bool
+    ensures { result ≡ is_of_route name.now value.now }
+{
+    match name {
+        "alternatives" => alternatives_of(value).is_some(),
+        "steps" => truth_of(value).is_some(),
+        "annotations" => route_annotations_of(value).is_some(),
+        "geometries" => geometries_of(value).is_some(),
+        "overview" => overview_of(value).is_some(),
+        "continue_straight" => continue_straight_of(value).is_some(),
+        _ => false,
+    }
+}
+
+fn is_of_table(name: &str, value: &str) -> bool
+    ensures { result ≡ is_of_table name.now value.now }
+{
+    match name {
+        "sources" | "destinations" => is_chosen(value),
+        "annotations" => table_annotations_of(value).is_some(),
+        _ => false,
+    }
+}
+
+fn is_of_nearest(name: &str, value: &str) -> bool
+    ensures { result ≡ is_of_nearest name.now value.now }
+{
+    match name {
+        "number" => number_of(value).is_some(),
+        _ => false,
     }
 }

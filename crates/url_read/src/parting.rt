@@ -1,7 +1,12 @@
 //! A target parted into its path and its query.
 
-ghost use Rattle.std.specs.Prelude.{◌≡◌, ◌<◌, ◌==◌, true, false, MatchOption, IfSome, cond, length};
-ghost use Rattle.url_read.specs.Target.{mark_of, path_at, query_at, is_plain};
+ghost use Rattle.std.specs.Prelude.{◌≡◌, ◌<◌, ◌==◌, true, false, MatchOption, IfOk, IfSome, cond, length, string_bytes};
+ghost use Rattle.std.specs.Str.{is_utf8};
+ghost use Rattle.percent_encoding.specs.Percent.{percent_decode};
+ghost use Rattle.url_read.specs.Target.{mark_of, path_at, query_at};
+
+use percent_encoding::percent_decode;
+use std::alloc::{AllocError, Global};
 
 // The path of a target, and its query.
 pub(crate) fn parted(target: &[u8]) -> (&[u8], &[u8])
@@ -39,15 +44,22 @@ fn once_if(byte: u8, wanted: u8) -> usize
     if byte == wanted { 1 } else { 0 }
 }
 
-// A part of a target as text, None where it has a percent escape or is not UTF-8.
-pub(crate) fn plain_text(part: &[u8]) -> Option<&str>
-    ensures { MatchOption result (is_plain part.now ≡ false) (λ text. (text.now ≡ part.now) × (is_plain part.now ≡ true)) }
+// A part of a target with its percent escapes read, None where that is not UTF-8.
+pub(crate) fn decoded(alloc: Global, part: &[u8]) -> Result<Option<String>, AllocError>
+    ensures { IfOk result (λ found. MatchOption found (is_utf8 (percent_decode part.now) ≡ false) (λ text. string_bytes text ≡ percent_decode part.now)) }
 {
-    if part.contains(&b'%') {
-        return None;
+    let mut bytes = Vec::new(alloc);
+    percent_decode(part).append_to(&mut bytes)?;
+    match String::from_utf8(bytes) {
+        Ok(text) => Ok(Some(text)),
+        Err(_) => Ok(None),
     }
-    match std::str::from_utf8(part) {
-        Ok(text) => Some(text),
-        Err(_) => None,
-    }
+}
+
+// The characters of a text, which are UTF-8.
+pub(crate) fn characters(text: &String) -> &str
+    ensures same { result.now ≡ string_bytes text.now }
+    ensures utf8 { is_utf8 (string_bytes text.now) ≡ true }
+{
+    text.as_str()
 }

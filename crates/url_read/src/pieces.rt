@@ -1,7 +1,7 @@
 //! The pieces of a path.
 
 ghost use Rattle.std.specs.Prelude.{◌≡◌, Some, None, MatchOption, ◌||◌};
-ghost use Rattle.url_read.specs.Target.{pieces_of, is_empty};
+ghost use Rattle.url_read.specs.Target.{pieces_of, is_empty, without_json};
 
 use crate::cutting::cut;
 
@@ -37,4 +37,11 @@ pub(crate) fn pieces_of(path: &str) -> Option<Pieces<'_>>
         version,
         coordinates,
     })
+}
+
+// Coordinates without the `.json` at their end, if there is one.
+pub(crate) fn without_json(coordinates: &str) -> &str
+    ensures { result.now ≡ without_json coordinates.now }
+{
+    coordinates.strip_suffix(".json").unwrap_or(coordinates)
 }

@@ -1,9 +1,83 @@
 //! What a target asks for.
 
+use crate::entry_lists::{Approaches, Bearings, Hints, Radiuses};
+use crate::option_types::{
+    Alternatives, Chosen, ContinueStraight, Geometries, Overview, RouteAnnotations, Snapping,
+    TableAnnotations,
+};
 use road_base::Points;
 
-/// A request for a route through these points in their order, of which a target has 2 to 500.
+/// A request: its coordinates, and the value of each option that a target of its service may have, the default
+/// where the target has none.
 #[derive(Drop, Debug)]
 pub struct Request {
     pub points: Points,
+    /// The service that is asked, with its own options.
+    pub service: Service,
+    /// How far each coordinate may be moved; one for each.
+    pub radiuses: Radiuses,
+    /// From where each is passed; one for each.
+    pub bearings: Bearings,
+    /// How each is reached; one for each.
+    pub approaches: Approaches,
+    /// One for each coordinate; they have no effect.
+    pub hints: Hints,
+    /// Whether hints are asked for.
+    pub generate_hints: bool,
+    /// Whether the reply leaves out its waypoints.
+    pub skip_waypoints: bool,
+    pub snapping: Snapping,
+    /// The least number that the metric of the reply may have.
+    pub since: u32,
+}
+
+/// A service with the options that it alone has.
+#[derive(Drop, Debug)]
+pub enum Service {
+    /// The least route through all coordinates in their order.
+    Route(RouteOptions),
+    /// The costs from each of some coordinates to each of some.
+    Table(TableOptions),
+    /// The places on roads next to one coordinate.
+    Nearest(NearestOptions),
+}
+
+/// The options of `route`.
+#[derive(Clone, Copy, Drop, Debug)]
+pub struct RouteOptions {
+    pub alternatives: Alternatives,
+    pub steps: bool,
+    pub annotations: RouteAnnotations,
+    pub geometries: Geometries,
+    pub overview: Overview,
+    pub continue_straight: ContinueStraight,
+}
+
+/// The options of `table`.
+#[derive(Drop, Debug)]
+pub struct TableOptions {
+    pub sources: Chosen,
+    pub destinations: Chosen,
+    pub annotations: TableAnnotations,
+}
+
+/// The options of `nearest`.
+#[derive(Clone, Copy, Drop, Debug)]
+pub struct NearestOptions {
+    /// How many places are asked for, at least 1.
+    pub number: u32,
+}
+
+// The values of all options of a request.
+#[derive(Drop, Debug)]
+pub(crate) struct OptionValues {
+    pub(crate) service: Service,
+    pub(crate) radiuses: Radiuses,
+    pub(crate) bearings: Bearings,
+    pub(crate) approaches: Approaches,
+    pub(crate) hints: Hints,
+    pub(crate) generate_hints: bool,
+    pub(crate) skip_waypoints: bool,
+    pub(crate) snapping: Snapping,
+    pub(crate) since: u32,
 }

@@ -1,101 +1,194 @@
 //! A target to its request.
 
-ghost use Rattle.std.specs.Prelude.{◌≡◌, ◌≤◌, Some, Ok, Err, IfOk, IfErr, MatchOption, length};
-ghost use Rattle.url_read.specs.Refusals.{IsFaultOf, bad_path};
-ghost use Rattle.url_read.specs.Request.{of_pieces, request_of, with_degrees};
+ghost use Rattle.std.specs.Prelude.{◌≡◌, ◌≤◌, true, Some, Ok, IfOk, IfErr, IfSome, length};
+ghost use Rattle.url_read.specs.Options.{options_of};
+ghost use Rattle.url_read.specs.Refusals.{IsFaultOf};
+ghost use Rattle.url_read.specs.Request.{is_count, most, of_pieces, points_for, only_of, request_in, request_of, service_named, whole_request_of, with_degrees, with_values, name_of_service, HasEach, IsFitting};
+ghost use Rattle.url_read.specs.Scopes.{has_service};
+ghost use Rattle.url_read.specs.declared.service_names.ServiceName.TheVariants.{Route};
 
 use crate::coordinates::degrees_in;
-use crate::messages::{bad_option, bad_path, bad_service, bad_version, too_few, too_many};
-use crate::options::check_options;
-use crate::parting::{parted, plain_text};
-use crate::pieces::{Pieces, pieces_of};
+use crate::judging::check_options;
+use crate::messages::{bad_count, bad_option, bad_path, bad_service, bad_version};
+use crate::parting::{characters, decoded, parted};
+use crate::pieces::{Pieces, pieces_of, without_json};
 use crate::points::points_at;
 use crate::refusals::RequestFault;
-use crate::requests::Request;
-use road_base::Points;
+use crate::requests::{OptionValues, Request, Service};
+use crate::scopes::{Scope, has_overview, has_service};
+use crate::service_names::{ServiceName, service_named};
+use crate::sizes::{check_size, is_count};
+use crate::values::values_for;
+use road_base::{Point, Points};
 use std::alloc::Global;
 
-/// The fewest coordinates of a route.
-const FEWEST: usize = 2;
-
-/// The most coordinates of a route.
-const MOST: usize = 500;
-
-/// The request of a target, `/route/v1/PROFILE/COORDINATES?overview=false`, or its first refusal.
-///
-/// The path ends before the first `?` that has as many `(` as `)` before it. Coordinates are parted by
-/// `;`, each a longitude and a latitude in decimal degrees with a comma between; six digits after the
-/// point are kept, and a seventh rounds. A request has 2 to 500 of them, within 180 degrees of longitude
-/// and 90 of latitude either way, and the profile may be any text.
-///
-/// Refusals come in this order: `InvalidUrl` with the message `path` for a `%`, what isn't UTF-8, or a path
-/// that isn't four nonempty pieces, each behind a slash; `InvalidService` with `service NAME`;
-/// `InvalidVersion` with `version NAME`; `InvalidOptions` with `option format` for coordinates that end in
-/// `.flatbuffers`; `InvalidQuery` with `coordinate I`, counted from 0, for the first that isn't of its form,
-/// then with `N coordinates` for fewer than 2; `InvalidOptions` with `option NAME` for the first option from
-/// the left that isn't `overview=false`, then with `option overview` where the query has no options;
-/// `InvalidValue` with `coordinate I` for the first out of range; `TooBig` with
-/// `N coordinates, at most 500`. Want of memory may come at any time.
+/// The request of a target of what is answered so far, or its first refusal: as [`whole_request`], but the
+/// services `table` and `nearest` are refused as unknown ones are, `steps=true` and `annotations` other than
+/// `false` as options that aren't of their grammar, and last of all options, before the coordinates' ranges,
+/// `overview` where its last value isn't `false`.
 pub fn request(alloc: Global, target: &[u8]) -> Result<Request, RequestFault>
     ensures request { IfOk result (λ request. request_of target.now ≡ Ok request) }
     ensures least { IfOk result (λ request. 2 ≤ length request.points) }
     ensures most { IfOk result (λ request. length request.points ≤ 500) }
+    ensures route { IfOk result (λ request. name_of_service request.service ≡ Route) }
+    ensures fitting { IfOk result IsFitting }
     ensures refusal { IfErr result (IsFaultOf (request_of target.now)) }
 {
-    let Some((pieces, query)) = parts_of(target) else {
-        return Err(RequestFault::Refused(bad_path(alloc)?));
-    };
-    request_in(alloc, pieces, query)
+    request_in(alloc, Scope::Answered, target)
 }
 
-// The pieces of the path of a target, and its query, None where the target is of another form.
-#[tactic(auto, unfolding(crate::specs::Request::request_of))]
-fn parts_of(target: &[u8]) -> Option<(Pieces<'_>, &str)>
-    ensures { MatchOption result (request_of target.now ≡ Err bad_path) (λ found. request_of target.now ≡ of_pieces (Some (record { service = found.0.service.now; version = found.0.version.now; coordinates = found.0.coordinates.now })) found.1.now) }
+/// The request of a target, `/{service}/v1/{profile}/{coordinates}[.json]?{name}={value}&..`, or its first refusal.
+///
+/// The path ends before the first `?` that has as many `(` as `)` before it; then percent escapes are read in path
+/// and query. Coordinates are parted by `;`, each a longitude and a latitude in decimal degrees with a comma
+/// between; six digits after the point are kept, and a seventh rounds. A route has 2 to 500 of them, a table 1 to
+/// 100, `nearest` one, within 180 degrees of longitude and 90 of latitude either way. The profile may be any text.
+/// Of an option that is given more than once the last counts, and each is judged.
+///
+/// Refusals come in this order: `InvalidUrl` with the message `path` for what isn't UTF-8, or a path that isn't
+/// four nonempty pieces, each behind a slash; `InvalidService` with `service NAME`; `InvalidVersion` with
+/// `version NAME`; `InvalidOptions` with `option format` for coordinates that end in `.flatbuffers`;
+/// `InvalidQuery` with `coordinate I`, counted from 0, for the first that isn't of its form, then with
+/// `N coordinates` for too few, or for `nearest` not one; `InvalidOptions` with `option NAME` for the first option
+/// from the left that its service doesn't have or that isn't of its grammar, then for the first of `hints`,
+/// `radiuses`, `bearings`, `approaches`, `sources` and `destinations` that has another number of entries than there
+/// are coordinates, or a number of a coordinate that isn't there; `InvalidValue` with `coordinate I` for the first
+/// out of range; `TooBig` with `N coordinates, at most M`, then with `N results, at most 100`. Want of memory may
+/// come at any time.
+pub fn whole_request(alloc: Global, target: &[u8]) -> Result<Request, RequestFault>
+    ensures request { IfOk result (λ request. whole_request_of target.now ≡ Ok request) }
+    ensures fitting { IfOk result IsFitting }
+    ensures refusal { IfErr result (IsFaultOf (whole_request_of target.now)) }
+{
+    request_in(alloc, Scope::Whole, target)
+}
+
+// The request of a target of a part of the API, or its first refusal.
+#[tactic(auto, unfolding(crate::specs::Request::request_in))]
+fn request_in(alloc: Global, scope: Scope, target: &[u8]) -> Result<Request, RequestFault>
+    ensures request { IfOk result (λ request. request_in scope target.now ≡ Ok request) }
+    ensures fitting { IfOk result IsFitting }
+    ensures answered { IfOk result (λ request. has_service scope (name_of_service request.service) ≡ true) }
+    ensures refusal { IfErr result (IsFaultOf (request_in scope target.now)) }
 {
     let (path, query) = parted(target);
-    let path = plain_text(path)?;
-    let query = plain_text(query)?;
-    let pieces = pieces_of(path)?;
-    Some((pieces, query))
+    let Some(path) = decoded(alloc, path)? else {
+        return Err(RequestFault::Refused(bad_path(alloc)?));
+    };
+    let Some(query) = decoded(alloc, query)? else {
+        return Err(RequestFault::Refused(bad_path(alloc)?));
+    };
+    let Some(pieces) = pieces_of(characters(&path)) else {
+        return Err(RequestFault::Refused(bad_path(alloc)?));
+    };
+    request_of_pieces(alloc, scope, pieces, characters(&query))
 }
 
 // The request of the pieces of a path and of a query.
-fn request_in(alloc: Global, pieces: Pieces<'_>, query: &str) -> Result<Request, RequestFault>
-    ensures request { IfOk result (λ request. of_pieces (Some (record { service = pieces.entry.service.now; version = pieces.entry.version.now; coordinates = pieces.entry.coordinates.now })) query.now ≡ Ok request) }
-    ensures least { IfOk result (λ request. 2 ≤ length request.points) }
-    ensures most { IfOk result (λ request. length request.points ≤ 500) }
-    ensures refusal { IfErr result (IsFaultOf (of_pieces (Some (record { service = pieces.entry.service.now; version = pieces.entry.version.now; coordinates = pieces.entry.coordinates.now })) query.now)) }
+fn request_of_pieces(
+    alloc: Global,
+    scope: Scope,
+    pieces: Pieces<'_>,
+    query: &str,
+) -> Result<Request, RequestFault>
+    ensures request { IfOk result (λ request. of_pieces scope (Some (record { service = pieces.entry.service.now; version = pieces.entry.version.now; coordinates = pieces.entry.coordinates.now })) query.now ≡ Ok request) }
+    ensures fitting { IfOk result IsFitting }
+    ensures answered { IfOk result (λ request. has_service scope (name_of_service request.service) ≡ true) }
+    ensures refusal { IfErr result (IsFaultOf (of_pieces scope (Some (record { service = pieces.entry.service.now; version = pieces.entry.version.now; coordinates = pieces.entry.coordinates.now })) query.now)) }
 {
-    if pieces.service != "route" {
+    let Some(service) = service_in(scope, pieces.service) else {
         return Err(RequestFault::Refused(bad_service(alloc, pieces.service)?));
-    }
+    };
     if pieces.version != "v1" {
         return Err(RequestFault::Refused(bad_version(alloc, pieces.version)?));
     }
     if pieces.coordinates.as_bytes().ends_with(b".flatbuffers") {
         return Err(RequestFault::Refused(bad_option(alloc, "format")?));
     }
-    let degrees = degrees_in(alloc, pieces.coordinates)?;
-    request_at(alloc, &degrees, query)
+    let degrees = degrees_in(alloc, without_json(pieces.coordinates))?;
+    request_at(alloc, scope, service, &degrees, query)
 }
 
-// The request for a route through these longitudes and latitudes, with the options of a query.
-fn request_at(alloc: Global, degrees: &[(i64, i64)], query: &str) -> Result<Request, RequestFault>
-    ensures request { IfOk result (λ request. with_degrees query.now degrees.now ≡ Ok request) }
-    ensures least { IfOk result (λ request. 2 ≤ length request.points) }
-    ensures most { IfOk result (λ request. length request.points ≤ 500) }
-    ensures refusal { IfErr result (IsFaultOf (with_degrees query.now degrees.now)) }
+// The service of a name, None where there is none or it is not answered.
+fn service_in(scope: Scope, name: &str) -> Option<ServiceName>
+    ensures service { result ≡ only_of scope (service_named name.now) }
+    ensures answered { IfSome result (λ service. has_service scope service ≡ true) }
 {
-    if degrees.len() < FEWEST {
-        return Err(RequestFault::Refused(too_few(alloc, degrees.len())?));
+    let service = service_named(name)?;
+    if has_service(scope, service) {
+        Some(service)
+    } else {
+        None
     }
-    check_options(alloc, query)?;
-    let points = points_at(alloc, degrees)?;
-    if points.len() > MOST {
-        return Err(RequestFault::Refused(too_many(alloc, points.len())?));
+}
+
+// The request of a service at these longitudes and latitudes, with the options of a query.
+fn request_at(
+    alloc: Global,
+    scope: Scope,
+    service: ServiceName,
+    degrees: &[(i64, i64)],
+    query: &str,
+) -> Result<Request, RequestFault>
+    ensures request { IfOk result (λ request. with_degrees scope service (options_of query.now) degrees.now ≡ Ok request) }
+    ensures fitting { IfOk result IsFitting }
+    ensures name { IfOk result (λ request. name_of_service request.service ≡ service) }
+    ensures refusal { IfErr result (IsFaultOf (with_degrees scope service (options_of query.now) degrees.now)) }
+{
+    let count = degrees.len();
+    if !is_count(service, count) {
+        return Err(RequestFault::Refused(bad_count(alloc, count)?));
     }
+    check_options(alloc, scope, service, query)?;
+    let values = values_for(alloc, service, count, query)?;
+    request_with(alloc, scope, values, degrees)
+}
+
+// The request of these values of options at these longitudes and latitudes, of which there are enough.
+fn request_with(
+    alloc: Global,
+    scope: Scope,
+    values: OptionValues,
+    degrees: &[(i64, i64)],
+) -> Result<Request, RequestFault>
+    requires enough { is_count (name_of_service values.service) (length degrees.now) ≡ true }
+    requires each { HasEach (length degrees.now) values }
+    ensures request { IfOk result (λ request. with_values scope degrees.now values ≡ Ok request) }
+    ensures fitting { IfOk result IsFitting }
+    ensures name { IfOk result (λ request. name_of_service request.service ≡ name_of_service values.service) }
+    ensures refusal { IfErr result (IsFaultOf (with_values scope degrees.now values)) }
+{
+    let points = points_for(alloc, scope, &values.service, degrees)?;
     Ok(Request {
         points: Points::of(points),
+        service: values.service,
+        radiuses: values.radiuses,
+        bearings: values.bearings,
+        approaches: values.approaches,
+        hints: values.hints,
+        generate_hints: values.generate_hints,
+        skip_waypoints: values.skip_waypoints,
+        snapping: values.snapping,
+        since: values.since,
     })
+}
+
+// The points at these longitudes and latitudes, of which there are not too many for the service.
+fn points_for(
+    alloc: Global,
+    scope: Scope,
+    service: &Service,
+    degrees: &[(i64, i64)],
+) -> Result<Vec<Point>, RequestFault>
+    ensures points { IfOk result (λ points. points_for scope service.now degrees.now ≡ Ok points.items) }
+    ensures count { IfOk result (λ points. length points.items ≡ length degrees.now) }
+    ensures few { IfOk result (λ points. length points.items ≤ most (name_of_service service.now)) }
+    ensures refusal { IfErr result (IsFaultOf (points_for scope service.now degrees.now)) }
+{
+    if !has_overview(scope, service) {
+        return Err(RequestFault::Refused(bad_option(alloc, "overview")?));
+    }
+    let points = points_at(alloc, degrees)?;
+    check_size(alloc, service, points.len())?;
+    Ok(points)
 }

@@ -19,7 +19,7 @@ fn is_refused(rt: &HostRuntime, target: &[u8], code: RefusalCode, message: &[u8]
 
 #[test]
 fn the_first_refusal_of_a_target_is_told(rt: HostRuntime) {
-    let cases: [(&[u8], RefusalCode, &[u8]); 44] = [
+    let cases: [(&[u8], RefusalCode, &[u8]); 54] = [
         (b"", InvalidUrl, b"path"),
         (b"route/v1/car/0,0;0,0", InvalidUrl, b"path"),
         (b"/route/v1/car", InvalidUrl, b"path"),
@@ -27,9 +27,17 @@ fn the_first_refusal_of_a_target_is_told(rt: HostRuntime) {
         (b"/route/v1/car/0,0;0,0/", InvalidUrl, b"path"),
         (b"/match/v2/car/0,0/x", InvalidUrl, b"path"),
         (b"/a%ff/v1/car/0,0", InvalidUrl, b"path"),
-        (b"/route/v1/car/0,0;0,0?a=%41", InvalidUrl, b"path"),
         (b"/match/v1/\xff/0,0", InvalidUrl, b"path"),
         (b"/match/v1/car/0,0?\xff", InvalidUrl, b"path"),
+        (b"/match/v1/car/0,0?%e9", InvalidUrl, b"path"),
+        (b"/route/v1/car%2f0,0;0,0/x", InvalidUrl, b"path"),
+        (
+            b"/rou%74e/v1/car/0%2C0;0,0?%66oo=1",
+            InvalidOptions,
+            b"option foo",
+        ),
+        (b"/a+b/v1/car/0,0", InvalidService, b"service a+b"),
+        (b"/a%2/v1/car/0,0", InvalidService, b"service a%2"),
         (
             b"/match/v1/car/(?overview=false",
             InvalidService,
@@ -73,7 +81,7 @@ fn the_first_refusal_of_a_target_is_told(rt: HostRuntime) {
         ),
         (b"/route/v1/car/0,0;x,0", InvalidQuery, b"coordinate 1"),
         (
-            b"/route/v1/car/0,0;0,0.json?overview=false",
+            b"/route/v1/car/0,0;0,0.json.json?overview=false",
             InvalidQuery,
             b"coordinate 1",
         ),
@@ -128,9 +136,39 @@ fn the_first_refusal_of_a_target_is_told(rt: HostRuntime) {
             b"option overview",
         ),
         (
-            b"/route/v1/car/0,0;0,0?overview=full&overview=false",
+            b"/route/v1/car/0,0;0,0?overview=false&overview=full",
             InvalidOptions,
             b"option overview",
+        ),
+        (
+            b"/route/v1/car/0,0;0,0?overview=full&foo=1",
+            InvalidOptions,
+            b"option foo",
+        ),
+        (
+            b"/route/v1/car/0,0;0,0?overview=full&hints=a",
+            InvalidOptions,
+            b"option hints",
+        ),
+        (
+            b"/route/v1/car/0,0;0,0?steps=true&steps=false&overview=false",
+            InvalidOptions,
+            b"option steps",
+        ),
+        (
+            b"/route/v1/car/0,0;0,0?annotations=nodes&overview=false",
+            InvalidOptions,
+            b"option annotations",
+        ),
+        (
+            b"/route/v1/car/0,0;0,0.001?overview=false&bearings=361,10;",
+            InvalidOptions,
+            b"option bearings",
+        ),
+        (
+            b"/route/v1/car/200,0;0,0?overview=false&foo=1",
+            InvalidOptions,
+            b"option foo",
         ),
         (
             b"/route/v1/car/0,0;0,0?b=1&a=1&overview=false",

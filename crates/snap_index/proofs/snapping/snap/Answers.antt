@@ -1,22 +1,25 @@
-use Rattle.std.proofs.Common.{◌∙◌, length}
+use Rattle.std.proofs.Common.{◌≡◌, true, length}
 use Rattle.geo_integer.specs.Position.{position_of}
-use Rattle.list_lemmas.proofs.Gets.{get_some}
-use Rattle.snap_index.proofs.EndLemmas.{line-at}
-use Rattle.snap_index.proofs.SnapLemmas.{candidate-is, first-of_none, placed-is, snapped-is}
+use Rattle.snap_index.proofs.SnapLemmas.{none_headed, out_of_reach, placed-is, snapped-is}
 use Rattle.snap_index.proofs.snapping.snap.Goals as goal
 
-pub nearest-requires-clause-first : goal.nearest-requires-clause-first
-nearest-requires-clause-first c =
-    let segments = c.args.network.now.segments in
-    let from = position_of c.args.from in
-    let s = c.in_ok-segment.segment in
-    let line = c.index-lines-segment.result in
-    let x = get_some segments s c.in_ok-segment.ensures.0 in
-    let at = line-at segments c.ends-lines.result.now s line x.0 (c.ends-lines.ensures ∙ c.requires.grid) x.1 c.index-lines-segment.is in
-    first-of_none segments c.args.base.now.weights from s c.candidate_on-first.result (candidate-is segments from s line x.0 c.candidate_on-first.result x.1 at c.candidate_on-first.ensures) c.in_ok-segment.ensures.1
+-- no segment has an open direction of the heading
+pub returns-in_err-best-clause-value : goal.returns-in_err-best-clause-value
+returns-in_err-best-clause-value c =
+    let none = none_headed c.args.network.now.segments c.args.base.now.weights c.args.filter (position_of c.args.from) c.in_err-best.ensures in
+    rw c.from_residual.ensures none
 
-pub returns-clause-value : goal.returns-clause-value
-returns-clause-value c = snapped-is c.args.network.now.segments c.args.base.now.weights (position_of c.args.from) c.nearest.result c.nearest.ensures
+-- the first is in reach
+pub returns-then-is_in_reach-clause-value : goal.returns-then-is_in_reach-clause-value
+returns-then-is_in_reach-clause-value c =
+    snapped-is c.args.network.now.segments c.args.base.now.weights c.args.filter (position_of c.args.from) c.in_ok-best.best c.in_ok-best.ensures (c.is_in_reach.ensures.0 c.if-is_in_reach.true)
 
-pub returns-clause-placed : goal.returns-clause-placed
-returns-clause-placed c = placed-is c.args.network.now.segments c.args.base.now.weights (position_of c.args.from) (length c.args.network.now.segments) c.nearest.result c.nearest.ensures
+pub returns-then-is_in_reach-clause-placed : goal.returns-then-is_in_reach-clause-placed
+returns-then-is_in_reach-clause-placed c =
+    placed-is c.args.network.now.segments c.args.base.now.weights c.args.filter.heading (position_of c.args.from) (length c.args.network.now.segments) c.in_ok-best.best c.in_ok-best.ensures
+
+-- or it isn't, and nothing is
+pub returns-else-is_in_reach-clause-value : goal.returns-else-is_in_reach-clause-value
+returns-else-is_in_reach-clause-value c =
+    out_of_reach c.args.network.now.segments c.args.base.now.weights c.args.filter (position_of c.args.from) c.in_ok-best.best c.in_ok-best.ensures
+    (λ h. let in_reach : c.is_in_reach.result ≡ true = c.is_in_reach.ensures.1 h in let away = c.if-is_in_reach.false in cc)

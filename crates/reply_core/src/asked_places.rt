@@ -1,0 +1,86 @@
+//! The places of what a request asks for.
+
+ghost use Rattle.std.specs.Prelude.{◌≡◌, ℕ, ◌*◌, ◌^◌, ◌<◌, ◌≤◌, Some, IfOk, IfErr, length, option_map};
+ghost use Rattle.std.specs.List.{AllZip, slice_get};
+ghost use Rattle.road_places.specs.Places.{IsPlaceOn};
+ghost use Rattle.road_places.specs.RoadMetric.{road_of};
+ghost use Rattle.snap_index.specs.Ends.{all_ends};
+ghost use Rattle.reply_core.specs.Asked.{asked_in, filter_of, heading_of};
+ghost use Rattle.reply_core.specs.Faults.{IsPlaceFault};
+ghost use Rattle.reply_core.specs.Lacks.{StandsFor};
+
+use crate::lacks::PlaceFault;
+use edge_graph::Network;
+use metric_make::BaseMetric;
+use road_base::{Place, Point};
+use snap_index::{Filter, Grid, Heading, snap};
+use std::alloc::Global;
+use url_read::{Bearing, Request};
+
+// The places of a request's coordinates, or the first coordinate that has none.
+pub(crate) fn places_of(
+    alloc: Global,
+    network: &Network,
+    base: &BaseMetric,
+    grid: &Grid,
+    request: &Request,
+) -> Result<Vec<Place>, PlaceFault>
+    requires vertices { 2 * length network.now.segments ≤ length base.now.weights.vertex }
+    requires grid { grid.now ≡ all_ends network.now.segments }
+    requires few { length request.now.points < 2 ^ 32 }
+    requires radiuses { length request.now.radiuses ≡ length request.now.points }
+    requires bearings { length request.now.bearings ≡ length request.now.points }
+    ensures snapped { IfOk result (λ places. AllZip (StandsFor (road_of network.now base.now)) (asked_in request.now) places.items) }
+    ensures placed { IfOk result (λ places. (k : ℕ) (place : _) → slice_get places.items k ≡ Some place → IsPlaceOn network.now place) }
+    ensures err { IfErr result (IsPlaceFault (road_of network.now base.now) (asked_in request.now)) }
+{
+    let count = request.points.as_slice().len();
+    let mut places = Vec::with_capacity(alloc, count)?;
+    for number in 0..count {
+        let (coordinate, filter) = asked_at(request, number);
+        match snap(network, grid, base, coordinate, filter) {
+            Some(place) => places.push(place)?,
+            None => return Err(PlaceFault::NoPlace(number as u32)),
+        }
+    }
+    Ok(places)
+}
+
+// The coordinate of this number, and its filter.
+fn asked_at(request: &Request, number: usize) -> (Point, Filter)
+    requires number { number < length request.now.points }
+    requires radiuses { length request.now.radiuses ≡ length request.now.points }
+    requires bearings { length request.now.bearings ≡ length request.now.points }
+    ensures { slice_get (asked_in request.now) number ≡ Some result }
+{
+    let coordinate = element(request.points.as_slice(), number);
+    let radius = element(request.radiuses.as_slice(), number);
+    let bearing = element(request.bearings.as_slice(), number);
+    (coordinate, filter_of(radius, bearing))
+}
+
+// The element of this number.
+fn element<T: Copy>(list: &[T], number: usize) -> T
+    requires { number < length list.now }
+    ensures { slice_get list.now number ≡ Some result }
+{
+    list[number]
+}
+
+// The filter of a radius in decimetres and a bearing.
+fn filter_of(radius: Option<u64>, bearing: Option<Bearing>) -> Filter
+    ensures { result ≡ filter_of (radius, bearing) }
+{
+    Filter {
+        radius,
+        heading: heading_of(bearing),
+    }
+}
+
+// A bearing as the heading of a filter.
+fn heading_of(bearing: Option<Bearing>) -> Option<Heading>
+    ensures { result ≡ option_map heading_of bearing }
+{
+    let Bearing { value, range } = bearing?;
+    Some(Heading { value, range })
+}
