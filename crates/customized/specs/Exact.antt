@@ -19,11 +19,11 @@ pub record Customized : Type 0 where
 abbrev pub customized_on : RoadsView → MetricView → Customized
 customized_on roads base = record { road = road_of roads.network base; frame = roads.frame }
 
--- The frame is over the network's graph, whose costs are small, and in all levels the cliques are the least costs inside
--- the cells under just these costs.
+-- The frame is over the network's graph, the costs are small, and in all levels the cliques are the least costs inside the
+-- cells under just these costs.
 pub record IsExact (m : Customized) (cliques : List (Rows DurLen)) : Type 0 where
   pub graph : m.frame.graph ≡ graph_of m.road.network
-  pub small : AreSmall durlen_ops m.frame.graph m.road.weights
+  pub small : AreSmall durlen_ops (graph_of m.road.network) m.road.weights
   pub exact : AreExact durlen_ops m.frame m.road.weights cliques (length m.frame.cells.levels)
 
 -- the two are of one network and one frame

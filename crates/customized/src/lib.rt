@@ -12,5 +12,5 @@ mod roads;
 mod under;
 
 pub use metrics::Metric;
-pub use roads::Roads;
+pub use roads::{Roads, SERVER_LIMITS};
 pub use under::Under;

@@ -90,7 +90,7 @@ impl Metric {
     /// What the vertices and turns of the network cost.
     pub fn base(&self) -> &BaseMetric
         ensures value { result.now.weights ≡ self.now.road.weights }
-        ensures small { AreSmall durlen_ops self.now.frame.graph self.now.road.weights }
+        ensures small { AreSmall durlen_ops (graph_of self.now.road.network) self.now.road.weights }
     {
         &self.base
     }
@@ -127,7 +127,8 @@ impl Metric {
 // Tells a proof that the costs of roads are small. It does nothing.
 fn known_small(roads: &Roads, base: &BaseMetric)
     requires { IsWeighting durlen_ops (graph_of roads.now.network) base.now.weights }
-    ensures { AreSmall durlen_ops roads.now.frame.graph base.now.weights }
+    ensures network { AreSmall durlen_ops (graph_of roads.now.network) base.now.weights }
+    ensures frame { AreSmall durlen_ops roads.now.frame.graph base.now.weights }
 {
     let _graph = roads.frame();
     let _few = roads.network().segments();

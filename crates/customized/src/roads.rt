@@ -13,6 +13,10 @@ use std::alloc::{AllocError, Global};
 use std::marker::Model;
 use std::sync::Arc;
 
+/// How many vertices the cells of each level have at most, the lowest level first, where a server cuts its
+/// network.
+pub const SERVER_LIMITS: [u32; 4] = [256, 4096, 65536, 1048576];
+
 /// A road network with the frame of its graph. Contracts see both.
 #[derive(Drop)]
 pub struct Roads {

@@ -52,7 +52,7 @@ impl<'a> Under<'a> {
     /// What the vertices and turns of the network cost.
     pub fn base(&self) -> &BaseMetric
         ensures value { result.now.weights ≡ self.now.road.weights }
-        ensures small { AreSmall durlen_ops self.now.frame.graph self.now.road.weights }
+        ensures small { AreSmall durlen_ops (graph_of self.now.road.network) self.now.road.weights }
     {
         self.base
     }

@@ -1,8 +1,11 @@
 //! Whole answers over small towns.
 
+ghost use Rattle.std.specs.Prelude.{◌≤◌, All};
+ghost use Rattle.std.specs.List.Sorted.{IsStrictlyIncreasing};
+
 use crate::answering::{answer, line_answer};
 use crate::answers::{Answer, Code, ReplyFault};
-use crate::metrics::Metric;
+use customized::{Metric, Roads, SERVER_LIMITS};
 use edge_graph::Network;
 use metric_make::base;
 use metric_publish::local_board::LocalBoard;
@@ -10,6 +13,7 @@ use road_base::{Ids, Node, Object, Point, Tags, Way};
 use snap_index::Grid;
 use std::alloc::Global;
 use std::sync::Arc;
+use std::thread::Threads;
 use way_profile::Profile;
 
 const SETTINGS: &[u8] =
@@ -93,22 +97,42 @@ fn network_of(alloc: Global, town: Town) -> Result<Network, ReplyFault> {
 }
 
 // The answer to a target or to a line, under a metric of number 7.
-fn ask(rt: &HostRuntime, town: Town, asked: Asked<'_>) -> Result<Answer, ReplyFault> {
-    ask_at(rt, town, 7, asked)
+fn ask(
+    rt: &(impl Threads + Sync),
+    alloc: Global,
+    town: Town,
+    asked: Asked<'_>,
+) -> Result<Answer, ReplyFault> {
+    ask_at(rt, alloc, town, 7, asked)
 }
 
 // The answer under the metric that a board is opened with, at this number.
 fn ask_at(
-    rt: &HostRuntime,
+    rt: &(impl Threads + Sync),
+    alloc: Global,
     town: Town,
     number: u32,
     asked: Asked<'_>,
 ) -> Result<Answer, ReplyFault> {
-    let alloc = rt.alloc();
-    let network = network_of(alloc, town)?;
-    let grid = Grid::of(alloc, &network)?;
-    let base = base(alloc, &network)?;
-    let metric = Metric::make(Arc::new(alloc, network)?, base);
+    ask_over(rt, alloc, town, &SERVER_LIMITS, number, asked)
+}
+
+// The answer over a network that is cut into cells by these limits.
+fn ask_over(
+    rt: &(impl Threads + Sync),
+    alloc: Global,
+    town: Town,
+    limits: &[u32],
+    number: u32,
+    asked: Asked<'_>,
+) -> Result<Answer, ReplyFault>
+    requires ascending { IsStrictlyIncreasing limits.now }
+    requires some { All (λ limit. 1 ≤ limit) limits.now }
+{
+    let roads = Roads::of(alloc, network_of(alloc, town)?, limits)?;
+    let grid = Grid::of(alloc, roads.network())?;
+    let base = base(alloc, roads.network())?;
+    let metric = Metric::make(rt, alloc, &roads, base)?;
     let board = LocalBoard::of(alloc, Arc::new(alloc, metric)?, number)?;
     let held = board.enter()?;
     match asked {
@@ -123,23 +147,29 @@ enum Asked<'a> {
     Line(&'a [u8]),
 }
 
+const FIRST_ROUTE: &str =
+    "{\"code\":\"Ok\",\"data_version\":\"7\",\"routes\":[{\"distance\":222.2,\"duration\":19.8,\"weight\":19.8,\"weight_name\":\"duration\",\"legs\":[{\"distance\":222.2,\"duration\":19.8,\"weight\":19.8,\"summary\":\"\",\"steps\":[]}]}],\"waypoints\":[{\"distance\":0.0,\"name\":\"\",\"location\":[0.000000,0.000000]},{\"distance\":0.0,\"name\":\"\",\"location\":[0.001000,0.001000]}]}";
+
+// The cells are found by the server's limits, street by street, and by both.
 #[test]
 fn the_first_route(rt: HostRuntime) -> Result<(), ReplyFault> {
     let target = Asked::Target("/route/v1/car/0,0;0.001,0.001?overview=false");
-    let answer = ask(&rt, CORNER, target)?;
+    let answer = ask(&rt, rt.alloc(), CORNER, target)?;
     assert_eq!(rt; answer.code, Code::Ok);
     assert_eq!(rt; answer.status, 200);
-    assert_eq!(rt;
-        answer.text.as_str(),
-        "{\"code\":\"Ok\",\"data_version\":\"7\",\"routes\":[{\"distance\":222.2,\"duration\":19.8,\"weight\":19.8,\"weight_name\":\"duration\",\"legs\":[{\"distance\":222.2,\"duration\":19.8,\"weight\":19.8,\"summary\":\"\",\"steps\":[]}]}],\"waypoints\":[{\"distance\":0.0,\"name\":\"\",\"location\":[0.000000,0.000000]},{\"distance\":0.0,\"name\":\"\",\"location\":[0.001000,0.001000]}]}"
-    );
+    assert_eq!(rt; answer.text.as_str(), FIRST_ROUTE);
+    let by_street = ask_over(&rt, rt.alloc(), CORNER, &[2], 7, target)?;
+    assert_eq!(rt; by_street.text.as_str(), FIRST_ROUTE);
+    let by_both = ask_over(&rt, rt.alloc(), CORNER, &[2, 4], 7, target)?;
+    assert_eq!(rt; by_both.text.as_str(), FIRST_ROUTE);
     Ok(())
 }
 
+// Each segment of the block is a cell of level 2, each vertex one of level 1.
 #[test]
 fn round_a_oneway_block(rt: HostRuntime) -> Result<(), ReplyFault> {
     let target = Asked::Target("/route/v1/car/0.00075,0;0.00025,0?overview=false");
-    let answer = ask(&rt, BLOCK, target)?;
+    let answer = ask(&rt, rt.alloc(), BLOCK, target)?;
     assert_eq!(rt; answer.code, Code::Ok);
     assert!(rt;
         answer.text.as_str().contains(
@@ -150,13 +180,15 @@ fn round_a_oneway_block(rt: HostRuntime) -> Result<(), ReplyFault> {
     for walk in answer.walks.as_slice() {
         assert_eq!(rt; walk.as_slice(), &[0, 2, 4, 6, 0][..]);
     }
+    let by_segment = ask_over(&rt, rt.alloc(), BLOCK, &[1, 2], 7, target)?;
+    assert_eq!(rt; by_segment.text.as_str(), answer.text.as_str());
     Ok(())
 }
 
 #[test]
 fn a_route_through_three_coordinates(rt: HostRuntime) -> Result<(), ReplyFault> {
     let target = Asked::Target("/route/v1/car/0,0;0.00001,0.0005;0.001,0.001?overview=false");
-    let answer = ask(&rt, CORNER, target)?;
+    let answer = ask(&rt, rt.alloc(), CORNER, target)?;
     assert_eq!(rt;
         answer.text.as_str(),
         "{\"code\":\"Ok\",\"data_version\":\"7\",\"routes\":[{\"distance\":222.2,\"duration\":19.8,\"weight\":19.8,\"weight_name\":\"duration\",\"legs\":[{\"distance\":55.5,\"duration\":4.9,\"weight\":4.9,\"summary\":\"\",\"steps\":[]},{\"distance\":166.7,\"duration\":14.9,\"weight\":14.9,\"summary\":\"\",\"steps\":[]}]}],\"waypoints\":[{\"distance\":0.0,\"name\":\"\",\"location\":[0.000000,0.000000]},{\"distance\":1.1,\"name\":\"\",\"location\":[0.000000,0.000500]},{\"distance\":0.0,\"name\":\"\",\"location\":[0.001000,0.001000]}]}"
@@ -183,7 +215,7 @@ fn the_first_place_or_leg_that_fails_is_told(rt: HostRuntime) -> Result<(), Repl
             "{\"code\":\"NoSegment\",\"data_version\":\"7\",\"message\":\"coordinate 0\"}",
         ),
     ] {
-        let answer = ask(&rt, town, Asked::Target(target))?;
+        let answer = ask(&rt, rt.alloc(), town, Asked::Target(target))?;
         assert_eq!(rt; answer.status, 400);
         assert_eq!(rt; answer.text.as_str(), text);
         assert_eq!(rt; answer.places.as_slice().len(), 0);
@@ -210,7 +242,7 @@ fn a_radius_and_a_bearing_choose_segments(rt: HostRuntime) -> Result<(), ReplyFa
     ] {
         let mut asked = String::from_str(rt.alloc(), target)?;
         asked.push_str(options)?;
-        let answer = ask(&rt, CORNER, Asked::Target(asked.as_str()))?;
+        let answer = ask(&rt, rt.alloc(), CORNER, Asked::Target(asked.as_str()))?;
         assert_eq!(rt; answer.code, code, "{options}");
         if code == Code::NoSegment {
             assert_eq!(rt;
@@ -239,7 +271,7 @@ fn each_coordinate_has_a_filter_of_its_own(rt: HostRuntime) -> Result<(), ReplyF
     ] {
         let mut asked = String::from_str(rt.alloc(), "/route/v1/car/0,0;0,0.001?overview=false&")?;
         asked.push_str(options)?;
-        let answer = ask(&rt, CORNER, Asked::Target(asked.as_str()))?;
+        let answer = ask(&rt, rt.alloc(), CORNER, Asked::Target(asked.as_str()))?;
         assert_eq!(rt; answer.places.as_slice().len(), 2);
         let mut last = 9;
         for place in answer.places.as_slice() {
@@ -250,6 +282,7 @@ fn each_coordinate_has_a_filter_of_its_own(rt: HostRuntime) -> Result<(), ReplyF
     }
     let answer = ask(
         &rt,
+        rt.alloc(),
         CORNER,
         Asked::Target("/route/v1/car/0,0;0.0001,0?overview=false&radiuses=;0"),
     )?;
@@ -264,11 +297,13 @@ fn each_coordinate_has_a_filter_of_its_own(rt: HostRuntime) -> Result<(), ReplyF
 fn options_without_effect(rt: HostRuntime) -> Result<(), ReplyFault> {
     let plain = ask(
         &rt,
+        rt.alloc(),
         CORNER,
         Asked::Target("/route/v1/car/0,0;0.001,0.001?overview=false"),
     )?;
     let hinted = ask(
         &rt,
+        rt.alloc(),
         CORNER,
         Asked::Target("/route/v1/car/0,0;0.001,0.001?overview=false&hints=;"),
     )?;
@@ -279,7 +314,7 @@ fn options_without_effect(rt: HostRuntime) -> Result<(), ReplyFault> {
 #[test]
 fn waypoints_are_skipped_where_it_is_asked_for(rt: HostRuntime) -> Result<(), ReplyFault> {
     let target = Asked::Target("/route/v1/car/0,0;0.001,0.001?overview=false&skip_waypoints=true");
-    let answer = ask(&rt, CORNER, target)?;
+    let answer = ask(&rt, rt.alloc(), CORNER, target)?;
     assert_eq!(rt; answer.places.as_slice().len(), 2);
     assert_eq!(rt;
         answer.text.as_str(),
@@ -291,16 +326,16 @@ fn waypoints_are_skipped_where_it_is_asked_for(rt: HostRuntime) -> Result<(), Re
 #[test]
 fn a_request_ahead_of_the_metric_is_told_so(rt: HostRuntime) -> Result<(), ReplyFault> {
     let target = Asked::Target("/route/v1/car/0,0;0.001,0.001?overview=false&since=5");
-    let early = ask_at(&rt, CORNER, 4, target)?;
+    let early = ask_at(&rt, rt.alloc(), CORNER, 4, target)?;
     assert_eq!(rt; early.status, 400);
     assert_eq!(rt;
         early.text.as_str(),
         "{\"code\":\"AheadOfData\",\"data_version\":\"4\",\"message\":\"since 5\"}"
     );
-    let due = ask_at(&rt, CORNER, 5, target)?;
+    let due = ask_at(&rt, rt.alloc(), CORNER, 5, target)?;
     assert_eq!(rt; due.code, Code::Ok);
     // it comes before a coordinate without a place
-    let nowhere = ask_at(&rt, DESERT, 4, target)?;
+    let nowhere = ask_at(&rt, rt.alloc(), DESERT, 4, target)?;
     assert_eq!(rt; nowhere.code, Code::AheadOfData);
     Ok(())
 }
@@ -313,7 +348,7 @@ fn a_route_has_500_coordinates_at_most(rt: HostRuntime) -> Result<(), ReplyFault
             many.push_str(";0,0")?;
         }
         many.push_str("?overview=false")?;
-        let answer = ask(&rt, CORNER, Asked::Target(many.as_str()))?;
+        let answer = ask(&rt, rt.alloc(), CORNER, Asked::Target(many.as_str()))?;
         assert_eq!(rt; answer.code, code);
     }
     Ok(())
@@ -360,7 +395,7 @@ fn a_refused_target_gets_its_code_and_message(rt: HostRuntime) -> Result<(), Rep
             "{\"code\":\"TooBig\",\"message\":\"501 coordinates, at most 500\"}",
         ),
     ] {
-        let answer = ask(&rt, LANE, Asked::Target(target))?;
+        let answer = ask(&rt, rt.alloc(), LANE, Asked::Target(target))?;
         assert_eq!(rt; answer.status, 400);
         assert_eq!(rt; answer.text.as_str(), text);
     }
@@ -393,10 +428,10 @@ fn a_line_is_get_one_blank_and_a_target(rt: HostRuntime) -> Result<(), ReplyFaul
         (long.as_bytes(), Code::InvalidUrl),
         (too_long.as_bytes(), Code::BadRequest),
     ] {
-        let answer = ask(&rt, LANE, Asked::Line(line))?;
+        let answer = ask(&rt, rt.alloc(), LANE, Asked::Line(line))?;
         assert_eq!(rt; answer.code, code);
     }
-    let answer = ask(&rt, LANE, Asked::Line(b"TRAFFIC - -"))?;
+    let answer = ask(&rt, rt.alloc(), LANE, Asked::Line(b"TRAFFIC - -"))?;
     assert_eq!(rt; answer.status, 400);
     assert_eq!(rt; answer.text.as_str(), "{\"code\":\"BadRequest\"}");
     Ok(())

@@ -9,9 +9,9 @@ ghost use Rattle.reply_core.specs.Texts.{bad_request_text, refusal_text};
 ghost use Rattle.reply_core.specs.declared.answers.Code.TheVariants as code;
 
 use crate::answers::{Answer, Code, ReplyFault};
-use crate::metrics::Metric;
 use crate::reply_texts::{BAD_REQUEST, refusal_text};
 use crate::route_answers::{refusal, route_answer};
+use customized::{Metric, Under};
 use metric_publish::held::Held;
 use snap_index::Grid;
 use std::alloc::{AllocError, Global};
@@ -32,11 +32,12 @@ pub fn answer(
     grid: &Grid,
     target: &[u8],
 ) -> Result<Answer, ReplyFault>
-    requires { grid.now ≡ all_ends (arc_value held.now.value).network.segments }
-    ensures says { IfOk result (IsAnswer (arc_value held.now.value) held.now.number target.now) }
+    requires { grid.now ≡ all_ends (arc_value held.now.value).road.network.segments }
+    ensures says { IfOk result (IsAnswer (arc_value held.now.value).road held.now.number target.now) }
     ensures status { IfOk result (λ answer. answer.status ≡ status_of answer.code) }
 {
-    target_answer(alloc, held.value(), held.number(), grid, target)
+    let under = held.value().under();
+    target_answer(alloc, &under, held.number(), grid, target)
 }
 
 /// The answer to a line, which stands without its newline: `answer`'s to the target of a line `GET TARGET` that
@@ -50,8 +51,8 @@ pub fn line_answer(
     grid: &Grid,
     line: &[u8],
 ) -> Result<Answer, ReplyFault>
-    requires { grid.now ≡ all_ends (arc_value held.now.value).network.segments }
-    ensures says { IfOk result (IsLineAnswer (arc_value held.now.value) held.now.number line.now) }
+    requires { grid.now ≡ all_ends (arc_value held.now.value).road.network.segments }
+    ensures says { IfOk result (IsLineAnswer (arc_value held.now.value).road held.now.number line.now) }
     ensures status { IfOk result (λ answer. answer.status ≡ status_of answer.code) }
 {
     match target_in(line) {
@@ -63,24 +64,17 @@ pub fn line_answer(
 // The answer to a target under a metric of this number.
 fn target_answer(
     alloc: Global,
-    metric: &Metric,
+    under: &Under<'_>,
     number: u32,
     grid: &Grid,
     target: &[u8],
 ) -> Result<Answer, ReplyFault>
-    requires { grid.now ≡ all_ends metric.now.network.segments }
-    ensures says { IfOk result (IsAnswer metric.now number target.now) }
+    requires { grid.now ≡ all_ends under.now.road.network.segments }
+    ensures says { IfOk result (IsAnswer under.now.road number target.now) }
     ensures status { IfOk result (λ answer. answer.status ≡ status_of answer.code) }
 {
     match request(alloc, target) {
-        Ok(request) => route_answer(
-            alloc,
-            metric.network(),
-            metric.base(),
-            number,
-            grid,
-            &request,
-        ),
+        Ok(request) => route_answer(alloc, under, number, grid, &request),
         Err(RequestFault::Refused(refusal)) => Ok(refused(alloc, refusal)?),
         Err(RequestFault::Memory) => Err(ReplyFault::Memory),
     }

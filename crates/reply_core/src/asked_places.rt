@@ -1,17 +1,15 @@
 //! The places of what a request asks for.
 
-ghost use Rattle.std.specs.Prelude.{◌≡◌, ℕ, ◌*◌, ◌^◌, ◌<◌, ◌≤◌, Some, IfOk, IfErr, length, option_map};
+ghost use Rattle.std.specs.Prelude.{◌≡◌, ℕ, ◌^◌, ◌<◌, Some, IfOk, IfErr, IfSome, MatchOption, length, option_map};
 ghost use Rattle.std.specs.List.{AllZip, slice_get};
 ghost use Rattle.road_places.specs.Places.{IsPlaceOn};
-ghost use Rattle.road_places.specs.RoadMetric.{road_of};
 ghost use Rattle.snap_index.specs.Ends.{all_ends};
 ghost use Rattle.reply_core.specs.Asked.{asked_in, filter_of, heading_of};
 ghost use Rattle.reply_core.specs.Faults.{IsPlaceFault};
-ghost use Rattle.reply_core.specs.Lacks.{StandsFor};
+ghost use Rattle.reply_core.specs.Lacks.{LacksPlace, StandsFor};
 
 use crate::lacks::PlaceFault;
-use edge_graph::Network;
-use metric_make::BaseMetric;
+use customized::Under;
 use road_base::{Place, Point};
 use snap_index::{Filter, Grid, Heading, snap};
 use std::alloc::Global;
@@ -20,30 +18,39 @@ use url_read::{Bearing, Request};
 // The places of a request's coordinates, or the first coordinate that has none.
 pub(crate) fn places_of(
     alloc: Global,
-    network: &Network,
-    base: &BaseMetric,
+    under: &Under<'_>,
     grid: &Grid,
     request: &Request,
 ) -> Result<Vec<Place>, PlaceFault>
-    requires vertices { 2 * length network.now.segments ≤ length base.now.weights.vertex }
-    requires grid { grid.now ≡ all_ends network.now.segments }
+    requires grid { grid.now ≡ all_ends under.now.road.network.segments }
     requires few { length request.now.points < 2 ^ 32 }
     requires radiuses { length request.now.radiuses ≡ length request.now.points }
     requires bearings { length request.now.bearings ≡ length request.now.points }
-    ensures snapped { IfOk result (λ places. AllZip (StandsFor (road_of network.now base.now)) (asked_in request.now) places.items) }
-    ensures placed { IfOk result (λ places. (k : ℕ) (place : _) → slice_get places.items k ≡ Some place → IsPlaceOn network.now place) }
-    ensures err { IfErr result (IsPlaceFault (road_of network.now base.now) (asked_in request.now)) }
+    ensures snapped { IfOk result (λ places. AllZip (StandsFor under.now.road) (asked_in request.now) places.items) }
+    ensures placed { IfOk result (λ places. (k : ℕ) (place : _) → slice_get places.items k ≡ Some place → IsPlaceOn under.now.road.network place) }
+    ensures err { IfErr result (IsPlaceFault under.now.road (asked_in request.now)) }
 {
     let count = request.points.as_slice().len();
     let mut places = Vec::with_capacity(alloc, count)?;
     for number in 0..count {
         let (coordinate, filter) = asked_at(request, number);
-        match snap(network, grid, base, coordinate, filter) {
+        match place_of(under, grid, coordinate, filter) {
             Some(place) => places.push(place)?,
             None => return Err(PlaceFault::NoPlace(number as u32)),
         }
     }
     Ok(places)
+}
+
+// The place that stands for a coordinate, or None where nothing does.
+fn place_of(under: &Under<'_>, grid: &Grid, coordinate: Point, filter: Filter) -> Option<Place>
+    requires { grid.now ≡ all_ends under.now.road.network.segments }
+    ensures value { MatchOption result (LacksPlace under.now.road (coordinate, filter)) (StandsFor under.now.road (coordinate, filter)) }
+    ensures placed { IfSome result (IsPlaceOn under.now.road.network) }
+{
+    let network = under.network();
+    let base = under.base();
+    snap(network, grid, base, coordinate, filter)
 }
 
 // The coordinate of this number, and its filter.
@@ -59,6 +66,7 @@ fn asked_at(request: &Request, number: usize) -> (Point, Filter)
     (coordinate, filter_of(radius, bearing))
 }
 
+// The element of this number.
 fn element<T: Copy>(list: &[T], number: usize) -> T
     requires { number < length list.now }
     ensures { slice_get list.now number ≡ Some result }
@@ -76,6 +84,7 @@ fn filter_of(radius: Option<u64>, bearing: Option<Bearing>) -> Filter
     }
 }
 
+// A bearing as the heading of a filter.
 fn heading_of(bearing: Option<Bearing>) -> Option<Heading>
     ensures { result ≡ option_map heading_of bearing }
 {

@@ -16,14 +16,12 @@ mod answering;
 mod answers;
 mod asked_places;
 mod lacks;
-mod metrics;
 mod number_texts;
 mod reply_texts;
 mod route_answers;
 
 pub use answering::{answer, line_answer};
 pub use answers::{Answer, Code, Places, ReplyFault, Walks};
-pub use metrics::Metric;
 pub use reply_texts::{BAD_REQUEST, BUSY};
 
 #[cfg(test)]

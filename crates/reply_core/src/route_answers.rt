@@ -2,11 +2,7 @@
 
 ghost use Rattle.std.specs.Prelude.{◌≡◌, ℕ, ◌^◌, ◌<◌, Some, IfOk, IfErr, length, map, string_bytes};
 ghost use Rattle.std.specs.List.{AllZip, slice_get};
-ghost use Rattle.search_graph.specs.Durations.{durlen_ops};
-ghost use Rattle.search_graph.specs.Weighted.{IsWeighting};
-ghost use Rattle.edge_graph.specs.NetworkView.{graph_of};
 ghost use Rattle.road_places.specs.Places.{IsPlaceOn};
-ghost use Rattle.road_places.specs.RoadMetric.{road_of};
 ghost use Rattle.road_walks.specs.Legs.{AreAlong, AreLeastRoutes};
 ghost use Rattle.snap_index.specs.Ends.{all_ends};
 ghost use Rattle.reply_core.specs.Answers.{IsRouteReply, Refuses, status_of, waypoints_of};
@@ -20,8 +16,8 @@ use crate::answers::{Answer, Code, Places, ReplyFault, Walks};
 use crate::asked_places::places_of;
 use crate::lacks::{Lack, RouteFault};
 use crate::reply_texts::{found_text, lack_text};
+use customized::Under;
 use edge_graph::Network;
-use metric_make::BaseMetric;
 use road_base::{Place, Text};
 use road_places::{Route, Walk};
 use road_walks::least_routes;
@@ -32,23 +28,21 @@ use url_read::Request;
 /// The answer to a request for a route through 2 or more coordinates, under a metric of this number.
 pub(crate) fn route_answer(
     alloc: Global,
-    network: &Network,
-    base: &BaseMetric,
+    under: &Under<'_>,
     number: u32,
     grid: &Grid,
     request: &Request,
 ) -> Result<Answer, ReplyFault>
-    requires weights { IsWeighting durlen_ops (graph_of network.now) base.now.weights }
-    requires grid { grid.now ≡ all_ends network.now.segments }
+    requires grid { grid.now ≡ all_ends under.now.road.network.segments }
     requires some { 0 < length request.now.points }
     requires few { length request.now.points < 2 ^ 32 }
     requires radiuses { length request.now.radiuses ≡ length request.now.points }
     requires bearings { length request.now.bearings ≡ length request.now.points }
-    ensures says { IfOk result (IsRouteReply (road_of network.now base.now) number request.now) }
+    ensures says { IfOk result (IsRouteReply under.now.road number request.now) }
     ensures status { IfOk result (λ answer. answer.status ≡ status_of answer.code) }
 {
-    match find_journey(alloc, network, base, number, grid, request) {
-        Ok(journey) => Ok(found_answer(alloc, network, number, request, journey)?),
+    match find_journey(alloc, under, number, grid, request) {
+        Ok(journey) => Ok(found_answer(alloc, under.network(), number, request, journey)?),
         Err(RouteFault::Lacks(lack)) => {
             let text = lack_text(alloc, number, lack)?;
             Ok(refusal(alloc, lack.code(), text))
@@ -68,33 +62,32 @@ struct Journey {
 // this number.
 fn find_journey(
     alloc: Global,
-    network: &Network,
-    base: &BaseMetric,
+    under: &Under<'_>,
     number: u32,
     grid: &Grid,
     request: &Request,
 ) -> Result<Journey, RouteFault>
-    requires weights { IsWeighting durlen_ops (graph_of network.now) base.now.weights }
-    requires grid { grid.now ≡ all_ends network.now.segments }
+    requires grid { grid.now ≡ all_ends under.now.road.network.segments }
     requires some { 0 < length request.now.points }
     requires few { length request.now.points < 2 ^ 32 }
     requires radiuses { length request.now.radiuses ≡ length request.now.points }
     requires bearings { length request.now.bearings ≡ length request.now.points }
     ensures recent { IfOk result (λ j. IsRecent number request.now) }
-    ensures snapped { IfOk result (λ j. AllZip (StandsFor (road_of network.now base.now)) (asked_in request.now) j.places.items) }
-    ensures placed { IfOk result (λ j. (k : ℕ) (place : _) → slice_get j.places.items k ≡ Some place → IsPlaceOn network.now place) }
-    ensures along { IfOk result (λ j. AreAlong (road_of network.now base.now) j.places.items j.routes.items) }
-    ensures least { IfOk result (λ j. AreLeastRoutes (road_of network.now base.now) j.places.items j.routes.items) }
-    ensures few { IfOk result (λ j. (length network.now.segments < 2 ^ 30) × (length j.places.items ≡ length request.now.points) × (length j.routes.items < 2 ^ 32)) }
-    ensures err { IfErr result (IsRouteFault (road_of network.now base.now) number request.now) }
+    ensures snapped { IfOk result (λ j. AllZip (StandsFor under.now.road) (asked_in request.now) j.places.items) }
+    ensures placed { IfOk result (λ j. (k : ℕ) (place : _) → slice_get j.places.items k ≡ Some place → IsPlaceOn under.now.road.network place) }
+    ensures along { IfOk result (λ j. AreAlong under.now.road j.places.items j.routes.items) }
+    ensures least { IfOk result (λ j. AreLeastRoutes under.now.road j.places.items j.routes.items) }
+    ensures few { IfOk result (λ j. (length under.now.road.network.segments < 2 ^ 30) × (length j.places.items ≡ length request.now.points) × (length j.routes.items < 2 ^ 32)) }
+    ensures err { IfErr result (IsRouteFault under.now.road number request.now) }
 {
     // a vertex is twice a segment, and fits its type
+    let network = under.network();
     prove!(network.segments() < 1 << 30);
     if request.since > number {
         return Err(RouteFault::Lacks(Lack::Ahead(request.since)));
     }
-    let places = places_of(alloc, network, base, grid, request)?;
-    let routes = least_routes(alloc, network, base, &places)?;
+    let places = places_of(alloc, under, grid, request)?;
+    let routes = least_routes(alloc, under, &places)?;
     Ok(Journey { places, routes })
 }
 

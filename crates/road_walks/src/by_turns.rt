@@ -1,42 +1,95 @@
 //! Walks of two or more vertices between two places.
 
-ghost use Rattle.std.specs.Prelude.{◌≡◌, ◌^◌, ◌<◌, IfOk, IfSome, length};
-ghost use Rattle.edge_graph.specs.NetworkView.{graph_of};
+ghost use Rattle.std.specs.Prelude.{◌≡◌, ℕ, ◌<◌, Some, IfOk, IfSome, length};
+ghost use Rattle.std.specs.List.{Contains, slice_get};
+ghost use Rattle.plain_search.specs.Answers.{IsFound};
 ghost use Rattle.search_graph.specs.Durations.{durlen_ops};
-ghost use Rattle.search_graph.specs.Weighted.{IsWeighting};
-ghost use Rattle.road_places.specs.Permitted.{IsByTurns};
+ghost use Rattle.road_places.specs.Ends.{AreAll};
+ghost use Rattle.road_places.specs.Permitted.{IsByTurns, IsStart, IsTarget};
 ghost use Rattle.road_places.specs.Places.{IsPlaceOn};
-ghost use Rattle.road_places.specs.RoadMetric.{road_of};
+ghost use Rattle.road_places.specs.RoadMetric.{turn_graph};
 ghost use Rattle.road_walks.specs.Choosing.{IsLeastOf};
 ghost use Rattle.road_walks.specs.Least.{most_units};
 
 use crate::cheapest::cheapest;
-use edge_graph::Network;
-use metric_make::BaseMetric;
-use plain_search::{SearchFault, least_from};
+use customized::Under;
+use path_unpack::least_from;
+use plain_search::{Found, SearchFault};
 use road_base::Place;
 use road_places::{Route, starts, targets};
+use search_graph::{DurLen, Start, Target};
 use std::alloc::{AllocError, Global};
+
+// Where a walk from a place may start: each is a vertex of the frame, and costs at most one unit.
+fn starts_from(
+    alloc: Global,
+    under: &Under<'_>,
+    from: Place,
+) -> Result<Vec<Start<DurLen>>, AllocError>
+    requires { IsPlaceOn under.now.road.network from }
+    ensures all { IfOk result (λ starts. AreAll (IsStart under.now.road.weights from) starts.items) }
+    ensures fit { IfOk result (λ starts. (s : _) → Contains starts.items s → (s.vertex < under.now.frame.graph.vertices) × durlen_ops.units s.cost 1) }
+{
+    let _graph = under.frame();
+    let base = under.base();
+    let _units = base.weights();
+    let starts = starts(alloc, base, from)?;
+    Ok(starts)
+}
+
+// Where a walk to a place may end: each is a vertex of the frame, and costs at most one unit.
+fn targets_to(
+    alloc: Global,
+    under: &Under<'_>,
+    to: Place,
+) -> Result<Vec<Target<DurLen>>, AllocError>
+    requires { IsPlaceOn under.now.road.network to }
+    ensures all { IfOk result (λ targets. AreAll (IsTarget under.now.road.weights to) targets.items) }
+    ensures fit { IfOk result (λ targets. (t : _) → Contains targets.items t → (t.vertex < under.now.frame.graph.vertices) × durlen_ops.units t.cost 1) }
+{
+    let _graph = under.frame();
+    let base = under.base();
+    let _units = base.weights();
+    let targets = targets(alloc, base, to)?;
+    Ok(targets)
+}
+
+// For each target the least walk over the turns from one of the starts to it, or none.
+fn over_turns(
+    alloc: Global,
+    under: &Under<'_>,
+    starts: &[Start<DurLen>],
+    targets: &[Target<DurLen>],
+) -> Result<Vec<Option<Found<DurLen>>>, AllocError>
+    requires starts { (s : _) → Contains starts.now s → (s.vertex < under.now.frame.graph.vertices) × durlen_ops.units s.cost 1 }
+    requires targets { (t : _) → Contains targets.now t → (t.vertex < under.now.frame.graph.vertices) × durlen_ops.units t.cost 1 }
+    ensures one_each { IfOk result (λ found. length found.items ≡ length targets.now) }
+    ensures least { IfOk result (λ found. (k : ℕ) (t : _) (answer : _) → slice_get targets.now k ≡ Some t → slice_get found.items k ≡ Some answer → IsFound durlen_ops (turn_graph under.now.road.network) under.now.road.weights starts.now t answer) }
+{
+    let frame = under.frame();
+    let base = under.base();
+    let cliques = under.cliques();
+    match least_from(alloc, frame, base.weights(), cliques, starts, targets) {
+        Ok(found) => Ok(found),
+        Err(SearchFault::Memory) => Err(AllocError),
+    }
+}
 
 /// The least walk of two or more vertices from a place to another, or None where there is none.
 pub(crate) fn by_turns(
     alloc: Global,
-    network: &Network,
-    base: &BaseMetric,
+    under: &Under<'_>,
     from: Place,
     to: Place,
 ) -> Result<Option<Route>, AllocError>
-    requires weights { IsWeighting durlen_ops (graph_of network.now) base.now.weights }
-    requires few { length network.now.segments < 2 ^ 30 }
-    requires from { IsPlaceOn network.now from }
-    requires to { IsPlaceOn network.now to }
-    ensures least { IfOk result (IsLeastOf (IsByTurns (road_of network.now base.now) from to)) }
-    ensures bound { IfOk result (λ found. IfSome found (λ route. durlen_ops.units route.cost (most_units network.now))) }
+    requires from { IsPlaceOn under.now.road.network from }
+    requires to { IsPlaceOn under.now.road.network to }
+    ensures least { IfOk result (IsLeastOf (IsByTurns under.now.road from to)) }
+    ensures bound { IfOk result (λ found. IfSome found (λ route. durlen_ops.units route.cost (most_units under.now.road.network))) }
 {
-    let starts = starts(alloc, base, from)?;
-    let targets = targets(alloc, base, to)?;
-    match least_from(alloc, network.graph(), base.weights(), &starts, &targets) {
-        Ok(found) => Ok(cheapest(found)),
-        Err(SearchFault::Memory) => Err(AllocError),
-    }
+    let starts = starts_from(alloc, under, from)?;
+    let targets = targets_to(alloc, under, to)?;
+    let _small = under.base();
+    let found = over_turns(alloc, under, &starts, &targets)?;
+    Ok(cheapest(found))
 }

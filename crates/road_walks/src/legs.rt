@@ -1,18 +1,13 @@
 //! Least routes along the legs of a list of places.
 
-ghost use Rattle.std.specs.Prelude.{◌≡◌, ℕ, ◌+◌, ◌*◌, ◌^◌, ◌<◌, Some, IfOk, IfErr, length};
+ghost use Rattle.std.specs.Prelude.{◌≡◌, ℕ, ◌+◌, ◌^◌, ◌<◌, Some, IfOk, IfErr, length};
 ghost use Rattle.std.specs.List.{AllZip, slice_get};
-ghost use Rattle.edge_graph.specs.NetworkView.{graph_of};
 ghost use Rattle.road_places.specs.Places.{IsPlaceOn};
-ghost use Rattle.road_places.specs.RoadMetric.{road_of};
 ghost use Rattle.road_walks.specs.Legs.{AreAlong, AreLeastRoutes, IsLegFault};
-ghost use Rattle.search_graph.specs.Durations.{durlen_ops};
-ghost use Rattle.search_graph.specs.Weighted.{IsWeighting};
 
 use crate::leg_faults::LegFault;
 use crate::routes::least_route;
-use edge_graph::Network;
-use metric_make::BaseMetric;
+use customized::Under;
 use road_base::Place;
 use road_places::Route;
 use std::alloc::Global;
@@ -22,23 +17,20 @@ use std::alloc::Global;
 /// It answers `Memory` only where memory runs out.
 pub fn least_routes(
     alloc: Global,
-    network: &Network,
-    base: &BaseMetric,
+    under: &Under<'_>,
     places: &[Place],
 ) -> Result<Vec<Route>, LegFault>
-    requires weights { IsWeighting durlen_ops (graph_of network.now) base.now.weights }
     requires some { 0 < length places.now }
     requires few { length places.now < 2 ^ 32 }
-    requires segments { length network.now.segments < 2 ^ 30 }
-    requires placed { (k : ℕ) (place : _) → slice_get places.now k ≡ Some place → IsPlaceOn network.now place }
+    requires placed { (k : ℕ) (place : _) → slice_get places.now k ≡ Some place → IsPlaceOn under.now.road.network place }
     ensures one_each { IfOk result (λ routes. length routes.items + 1 ≡ length places.now) }
-    ensures along { IfOk result (λ routes. AreAlong (road_of network.now base.now) places.now routes.items) }
-    ensures least { IfOk result (λ routes. AreLeastRoutes (road_of network.now base.now) places.now routes.items) }
-    ensures err { IfErr result (IsLegFault (road_of network.now base.now) places.now) }
+    ensures along { IfOk result (λ routes. AreAlong under.now.road places.now routes.items) }
+    ensures least { IfOk result (λ routes. AreLeastRoutes under.now.road places.now routes.items) }
+    ensures err { IfErr result (IsLegFault under.now.road places.now) }
 {
     let mut routes = Vec::with_capacity(alloc, places.len() - 1)?;
     for leg in 0..places.len() - 1 {
-        match least_route(alloc, network, base, places[leg], places[leg + 1])? {
+        match least_route(alloc, under, places[leg], places[leg + 1])? {
             Some(route) => routes.push(route)?,
             None => return Err(LegFault::NoWalk(leg as u32)),
         }

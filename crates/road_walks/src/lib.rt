@@ -5,7 +5,8 @@
 //! that has none) and `WalkLaws` (what lets a search stand for walks on roads). What a permitted walk is and
 //! costs is told by `road_places`.
 //!
-//! A call searches once for each leg, with work and memory that follow what the search touches.
+//! Each leg is one search over the cells of the network, and the unpacking of the walk that it finds, with work
+//! and memory that follow what these touch.
 #![tactic(auto)]
 
 mod along_one;

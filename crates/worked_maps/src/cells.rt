@@ -142,7 +142,10 @@ fn an_answer_is_given_the_metrics_own_parts(rt: HostRuntime) -> Result<(), Alloc
     let metric = customized(&rt, alloc, &bend(alloc, &[])?, &[2])?;
     metric.kin(&metric);
     let under = metric.under();
-    assert_eq!(rt; (under.network().segments(), under.network().turns()), (2, 4));
+    assert_eq!(rt;
+        (under.network().segments(), under.network().turns()),
+        (2, 4)
+    );
     assert_eq!(rt; under.frame().levels(), 1);
     assert_eq!(rt; metric.network().segments(), 2);
     Ok(())

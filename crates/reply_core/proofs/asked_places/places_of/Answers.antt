@@ -5,7 +5,6 @@ use Rattle.list_lemmas.proofs.Fronts.{all_zip-more}
 use Rattle.road_base.specs.declared.coordinates.Point.{Point}
 use Rattle.road_base.specs.declared.segments.Place.{Place}
 use Rattle.snap_index.specs.declared.filters.Filter.{Filter}
-use Rattle.road_places.specs.RoadMetric.{road_of}
 use Rattle.road_walks.specs.FirstFailure.{first_failure}
 use Rattle.reply_core.specs.Asked.{asked_in}
 use Rattle.reply_core.specs.Lacks.{HasPlace, LacksPlace}
@@ -15,23 +14,22 @@ use Rattle.reply_core.proofs.asked_places.places_of.Goals as goal
 -- the first without a place
 pub returns-in-None-clause-err : goal.returns-in-None-clause-err
 returns-in-None-clause-err c =
-    let road = road_of c.args.network.now c.args.base.now in
+    let road = c.args.under.now.road in
     first_failure (IsFoundFor road) (HasPlace road) (LacksPlace road) (asked_in c.args.request.now) c.loop-number.places.items c.loop-number.number c.asked_at.result (λ a b r. (b, r.0)) c.loop-number.invariant c.asked_at.ensures c.in-None.ensures.value
 
 -- one place more
 pub loop-number-preserved : goal.loop-number-preserved
 loop-number-preserved c =
-    let road = road_of c.args.network.now c.args.base.now in
+    let road = c.args.under.now.road in
     let asked = asked_in c.args.request.now in
     let n = c.loop-number.number in
-    let on = c.in-Some.ensures.placed in
     subst (λ (places : List Place). AllZip (IsFoundFor road) (take (n + 1) asked) places) (sym c.in_ok-push-in-Some.ensures.items)
-    (all_zip-more (IsFoundFor road) asked c.loop-number.places.items n c.asked_at.result c.in-Some.place c.loop-number.invariant c.asked_at.ensures (c.in-Some.ensures.value, record { on_segment = on.0; within = on.1 }))
+    (all_zip-more (IsFoundFor road) asked c.loop-number.places.items n c.asked_at.result c.in-Some.place c.loop-number.invariant c.asked_at.ensures (c.in-Some.ensures.value, c.in-Some.ensures.placed))
 
 -- all places
 pub returns-clause-snapped : goal.returns-clause-snapped
 returns-clause-snapped c =
-    let road = road_of c.args.network.now c.args.base.now in
+    let road = c.args.under.now.road in
     let asked = asked_in c.args.request.now in
     let count = asked-count c.args.request.now c.requires.radiuses c.requires.bearings in
     let same = ap (length {A = Point}) c.as_slice-count.ensures in
@@ -41,5 +39,5 @@ returns-clause-snapped c =
 
 pub returns-clause-placed : goal.returns-clause-placed
 returns-clause-placed c =
-    let road = road_of c.args.network.now c.args.base.now in
+    let road = c.args.under.now.road in
     are-placed road (take c.loop-number.number (asked_in c.args.request.now)) c.loop-number.places.items c.loop-number.invariant

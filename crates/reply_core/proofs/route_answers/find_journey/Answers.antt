@@ -1,7 +1,6 @@
 use Rattle.std.proofs.Common.{ap, arith, length}
 use Rattle.list_lemmas.proofs.Fronts.{all_zip-length}
 use Rattle.road_base.specs.declared.segments.Place.{Place}
-use Rattle.road_places.specs.RoadMetric.{road_of}
 use Rattle.reply_core.specs.Asked.{asked_in}
 use Rattle.reply_core.specs.Lacks.{StandsFor}
 use Rattle.reply_core.proofs.AnswerLemmas.{asked-count}
@@ -11,7 +10,7 @@ use Rattle.reply_core.proofs.route_answers.find_journey.Goals as goal
 pub least_routes-requires-clause-some : goal.least_routes-requires-clause-some
 least_routes-requires-clause-some c =
     let asked = asked-count c.args.request.now c.requires.radiuses c.requires.bearings in
-    let as_many = all_zip-length (StandsFor (road_of c.args.network.now c.args.base.now)) (asked_in c.args.request.now) c.in_ok-places.places.items c.in_ok-places.ensures.snapped in
+    let as_many = all_zip-length (StandsFor c.args.under.now.road) (asked_in c.args.request.now) c.in_ok-places.places.items c.in_ok-places.ensures.snapped in
     let same = ap (length {A = Place}) c.deref.ensures.value in
     let some = c.requires.some in
     omega (arith, asked, as_many, same, some)
@@ -19,7 +18,7 @@ least_routes-requires-clause-some c =
 pub least_routes-requires-clause-few : goal.least_routes-requires-clause-few
 least_routes-requires-clause-few c =
     let asked = asked-count c.args.request.now c.requires.radiuses c.requires.bearings in
-    let as_many = all_zip-length (StandsFor (road_of c.args.network.now c.args.base.now)) (asked_in c.args.request.now) c.in_ok-places.places.items c.in_ok-places.ensures.snapped in
+    let as_many = all_zip-length (StandsFor c.args.under.now.road) (asked_in c.args.request.now) c.in_ok-places.places.items c.in_ok-places.ensures.snapped in
     let same = ap (length {A = Place}) c.deref.ensures.value in
     let few = c.requires.few in
     omega (arith, asked, as_many, same, few)
@@ -28,7 +27,7 @@ least_routes-requires-clause-few c =
 pub returns-clause-few : goal.returns-clause-few
 returns-clause-few c =
     let asked = asked-count c.args.request.now c.requires.radiuses c.requires.bearings in
-    let as_many = all_zip-length (StandsFor (road_of c.args.network.now c.args.base.now)) (asked_in c.args.request.now) c.in_ok-places.places.items c.in_ok-places.ensures.snapped in
+    let as_many = all_zip-length (StandsFor c.args.under.now.road) (asked_in c.args.request.now) c.in_ok-places.places.items c.in_ok-places.ensures.snapped in
     let same = ap (length {A = Place}) c.deref.ensures.value in
     let one_each = c.in_ok-routes.ensures.one_each in
     let few = c.requires.few in

@@ -3,7 +3,6 @@ use Rattle.std.specs.List.{AllZip}
 use Rattle.std.proofs.lemmas.List.{take_all}
 use Rattle.list_lemmas.proofs.Fronts.{all_zip-length, all_zip-more}
 use Rattle.road_base.specs.declared.segments.Place.{Place}
-use Rattle.road_places.specs.RoadMetric.{road_of}
 use Rattle.road_places.specs.declared.walks.Route.{Route}
 use Rattle.road_walks.specs.FirstFailure.{first_failure}
 use Rattle.road_walks.specs.Legs.{HasNoWalk, HasWalk, IsLeastAlong, legs_of}
@@ -13,7 +12,7 @@ use Rattle.road_walks.proofs.legs.least_routes.Goals as goal
 -- the first without a walk
 pub returns-in-None-clause-err : goal.returns-in-None-clause-err
 returns-in-None-clause-err c =
-    let road = road_of c.args.network.now c.args.base.now in
+    let road = c.args.under.now.road in
     let places = c.args.places.now in
     let k = c.loop-leg.leg in
     let nowhere : Place = record { segment = 0; at = 0 } in
@@ -26,7 +25,7 @@ returns-in-None-clause-err c =
 -- one route more
 pub loop-leg-preserved : goal.loop-leg-preserved
 loop-leg-preserved c =
-    let road = road_of c.args.network.now c.args.base.now in
+    let road = c.args.under.now.road in
     let places = c.args.places.now in
     let k = c.loop-leg.leg in
     let nowhere : Place = record { segment = 0; at = 0 } in
@@ -40,7 +39,7 @@ loop-leg-preserved c =
 -- all legs
 pub returns-clause-along : goal.returns-clause-along
 returns-clause-along c =
-    let road = road_of c.args.network.now c.args.base.now in
+    let road = c.args.under.now.road in
     let legs = legs_of c.args.places.now in
     let count = length-legs_of c.args.places.now in
     are-along road c.args.places.now c.loop-leg.routes.items
@@ -48,7 +47,7 @@ returns-clause-along c =
 
 pub returns-clause-least : goal.returns-clause-least
 returns-clause-least c =
-    let road = road_of c.args.network.now c.args.base.now in
+    let road = c.args.under.now.road in
     let legs = legs_of c.args.places.now in
     let count = length-legs_of c.args.places.now in
     are-least road c.args.places.now c.loop-leg.routes.items
@@ -56,7 +55,7 @@ returns-clause-least c =
 
 pub returns-clause-one_each : goal.returns-clause-one_each
 returns-clause-one_each c =
-    let road = road_of c.args.network.now c.args.base.now in
+    let road = c.args.under.now.road in
     let legs = legs_of c.args.places.now in
     let count = length-legs_of c.args.places.now in
     let some = c.requires.some in

@@ -12,7 +12,7 @@ invariant_of-result g c =
     let cliques = c.in_ok-cliques.cliques in
     record {
       graph = c.frame.ensures.graph;
-      small = c.known_small.ensures;
+      small = c.known_small.ensures.network;
       exact =
           subst (λ (f : Framed). AreExact durlen_ops f c.args.base.weights cliques (length f.cells.levels)) c.frame.ensures.value
           (subst (λ (w : Weighting DurLen). AreExact durlen_ops c.frame.result.now w cliques (length c.frame.result.now.cells.levels)) c.weights.ensures.value c.in_ok-cliques.ensures);
