@@ -18,6 +18,15 @@ objects_after-more before objects lines line more object split here fresh =
     ∙ ap (λ r. after_line before objects r (λ kept. objects_after (before + 1) kept more)) here
     ∙ ap (λ (b : Bool). cond b (at_line (before + 1) Duplicate) (objects_after (before + 1) (objects ++ object ∷ []) more)) fresh
 
+-- a line with an object that was there
+pub objects_after-twice : (before : ℕ) (objects : List Object) (lines : List (List ℕ)) (line : List ℕ) (more : List (List ℕ)) (object : Object)
+    → lines ≡ line ∷ more → line_of line ≡ Ok (Some object) → list_any (λ earlier. is_same earlier object) objects ≡ true
+    → objects_after before objects lines ≡ at_line (before + 1) Duplicate
+objects_after-twice before objects lines line more object split here there =
+    ap (objects_after before objects) split
+    ∙ ap (λ r. after_line before objects r (λ kept. objects_after (before + 1) kept more)) here
+    ∙ ap (λ (b : Bool). cond b (at_line (before + 1) Duplicate) (objects_after (before + 1) (objects ++ object ∷ []) more)) there
+
 pub objects_after-start : (objects : List Object) (text : List ℕ) → objects ≡ [] → objects_after 0 objects (lines_of text) ≡ opl_objects text
 unfolding opl_objects
 objects_after-start objects text none = ap (λ os. objects_after 0 os (lines_of text)) none
@@ -36,3 +45,7 @@ AreDistinct-push objects object distinct fresh =
 pub not_there : (added there : Bool) → added ≡ not there → added ≡ true → there ≡ false
 not_there added true e was_added = cc
 not_there added false e was_added = refl
+
+pub was_there : (added there : Bool) → added ≡ not there → added ≡ false → there ≡ true
+was_there added true e was_added = refl
+was_there added false e was_added = cc

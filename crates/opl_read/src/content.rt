@@ -6,7 +6,7 @@ ghost use Rattle.std.specs.Str.{byte};
 ghost use Rattle.opl_read.specs.Content.{tag_of, tags_of, ref_of, refs_of, coordinate_of, deleted_of};
 ghost use Rattle.opl_read.specs.Faults.{IsLineErrorOf, mapped};
 
-use crate::cutting::{parted_at, position_of};
+use crate::cutting::{entry_count, parted_at, position_of};
 use crate::escapes::{is_plain, unescaped};
 use crate::line_faults::{FaultKind, LineError};
 use decimal_text::{id, microdegrees};
@@ -51,10 +51,10 @@ pub(crate) fn refs_of(alloc: Global, content: &str) -> Result<Ids, LineError>
     ensures refs { IfOk result (λ ids. refs_of content.now ≡ Ok ids) }
     ensures fault { IfErr result (IsLineErrorOf (refs_of content.now)) }
 {
-    let mut ids = Vec::new(alloc);
     if content.is_empty() {
-        return Ok(Ids::of(ids));
+        return Ok(Ids::of(Vec::new(alloc)));
     }
+    let mut ids = Vec::with_capacity(alloc, entry_count(content))?;
     let mut rest = content;
     while let Some((entry, more)) = parted_at(rest, b',') {
         ids.push(ref_of(entry)?)?;

@@ -1,6 +1,6 @@
 //! Lines cut into fields, and fields into entries.
 
-ghost use Rattle.std.specs.Prelude.{◌≡◌, ◌∷◌, [], ◌<◌, ◌≤◌, ◌==◌, false, MatchOption, IfSome, IsNone, is_some, length, position, slice_index};
+ghost use Rattle.std.specs.Prelude.{◌≡◌, ◌∷◌, [], ◌+◌, ◌<◌, ◌≤◌, ◌==◌, false, MatchOption, IfSome, IsNone, is_some, length, position, slice_index};
 ghost use Rattle.std.specs.List.{slice_split, before_first, after_first};
 ghost use Rattle.opl_read.specs.Cutting.{has, is_blank, fields_of, IsFirstField};
 
@@ -25,6 +25,17 @@ pub(crate) fn position_of(text: &[u8], byte: u8) -> Option<usize>
     ensures { result ≡ position (λ b. b == byte) text.now }
 {
     text.iter().position(|b| *b == byte)
+}
+
+// How many entries a content has: one more than its commas.
+pub(crate) fn entry_count(content: &str) -> usize
+    ensures { result ≤ length content.now + 1 }
+{
+    let mut count = 1;
+    for byte in content.as_bytes() {
+        count += usize::from(*byte == b',');
+    }
+    count
 }
 
 // The first field, and what stands behind it, or None where there is no field.

@@ -4,7 +4,7 @@ ghost use Rattle.std.specs.Prelude.{◌≡◌, Ok, IfOk, IfErr};
 ghost use Rattle.opl_read.specs.Members.{kind_of, member_of, members_of};
 ghost use Rattle.opl_read.specs.Faults.{IsLineErrorOf};
 
-use crate::cutting::parted_at;
+use crate::cutting::{entry_count, parted_at};
 use crate::escapes::unescaped;
 use crate::line_faults::{FaultKind, LineError};
 use decimal_text::id;
@@ -16,10 +16,10 @@ pub(crate) fn members_of(alloc: Global, content: &str) -> Result<Members, LineEr
     ensures members { IfOk result (λ members. members_of content.now ≡ Ok members) }
     ensures fault { IfErr result (IsLineErrorOf (members_of content.now)) }
 {
-    let mut members = Vec::new(alloc);
     if content.is_empty() {
-        return Ok(Members::of(members));
+        return Ok(Members::of(Vec::new(alloc)));
     }
+    let mut members = Vec::with_capacity(alloc, entry_count(content))?;
     let mut rest = content;
     while let Some((entry, more)) = parted_at(rest, b',') {
         members.push(member_of(alloc, entry)?)?;

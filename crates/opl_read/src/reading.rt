@@ -49,7 +49,7 @@ fn read_lines(alloc: Global, bytes: &[u8]) -> Result<Vec<Object>, ReadFault>
     ensures fault { IfErr result (IsFaultOf (opl_objects bytes.now)) }
 {
     let mut objects = Vec::new(alloc);
-    let mut seen = SeenIds::new(alloc);
+    let mut seen = SeenIds::new();
     let mut number = 0;
     let mut rest = bytes;
     while !rest.is_empty() {
@@ -64,7 +64,7 @@ fn read_lines(alloc: Global, bytes: &[u8]) -> Result<Vec<Object>, ReadFault>
         let Some(object) = found else {
             continue;
         };
-        if !seen.insert(&object)? {
+        if !seen.insert(alloc, objects.as_slice(), &object)? {
             return Err(fault(number, FaultKind::Duplicate));
         }
         objects.push(object)?;

@@ -95,7 +95,7 @@ fn a_relation_has_members_in_roles(rt: HostRuntime) {
 // How many objects a text has, or the number and the fault of its first faulty line.
 #[test]
 fn the_first_fault_of_a_text_is_told(rt: HostRuntime) {
-    let cases: [(&[u8], Result<usize, (u64, FaultKind)>); 56] = [
+    let cases: [(&[u8], Result<usize, (u64, FaultKind)>); 59] = [
         (b"", Ok(0)),
         (b"x1", Err((1, BadKind))),
         (b" #x", Err((1, BadKind))),
@@ -127,6 +127,9 @@ fn the_first_fault_of_a_text_is_told(rt: HostRuntime) {
         (b"n1 Ta=%,b x1e5", Err((1, BadEscape))),
         (b"n1 Tb,a=% x1e5", Err((1, BadField))),
         (b"n1\nn1", Err((2, Duplicate))),
+        (b"n2\nn1\nn2", Err((3, Duplicate))),
+        (b"n2\nn1\nn3\nn1", Err((4, Duplicate))),
+        (b"n3\nn1\nn2\nw1\nw-2", Ok(5)),
         (b"n1\nn1 Tb", Err((2, BadField))),
         (b"n1 dD\nn1", Ok(1)),
         (b"#\xff", Err((1, NotUtf8))),
