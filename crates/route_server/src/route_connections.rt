@@ -2,17 +2,18 @@
 
 ghost use Rattle.std.specs.Prelude.{◌≡◌};
 ghost use Rattle.road_io.specs.Views.{IsFreshConn};
-ghost use Rattle.road_places.specs.RoadMetric.{RoadMetric};
+ghost use Rattle.customized.specs.Exact.{Customized};
 ghost use Rattle.snap_index.specs.Ends.{all_ends};
 ghost use Rattle.route_server.specs.RouteSessions.{IsRouteSession, IsRouteTranscript};
 ghost use Rattle.route_server.specs.Seats.{seat_state};
 
 use crate::answering::{Answering, Said};
 use crate::serving::serve_with;
+use customized::Metric;
 use http_session::Ended;
 use metric_publish::held::Held;
 use metric_publish::meaning::Reading;
-use reply_core::{Metric, answer};
+use reply_core::answer;
 use road_io::{Conn, Gate};
 use snap_index::Grid;
 use std::alloc::{AllocError, Global};
@@ -28,7 +29,7 @@ impl<'a> Answering<Metric> for Replier<'a> {
     ghost use Rattle.snap_index.specs.Ends.{all_ends};
     ghost use Rattle.route_server.specs.RouteSessions.{IsSaid};
 
-    ghost fits = { λ replier road. replier.grid.now ≡ all_ends road.network.segments };
+    ghost fits = { λ replier metric. replier.grid.now ≡ all_ends metric.road.network.segments };
 
     ghost says = { IsSaid };
 
@@ -60,10 +61,10 @@ pub fn serve_connection<S: Reading<Metric>, G: Gate, C: Conn>(
     grid: &Grid,
     conn: &mut C,
 ) -> Ended
-    requires fits { (road : RoadMetric) → S.kin seat.old road → grid.now ≡ all_ends road.network.segments }
+    requires fits { (metric : Customized) → S.kin seat.old metric → grid.now ≡ all_ends metric.road.network.segments }
     ensures session { IsRouteSession (seat_state (S.seen seat.old) (S.learned seat.old) (S.reads seat.old)) (seat_state (S.seen seat.new) (S.learned seat.new) (S.reads seat.new)) (C.state conn.old) (C.state conn.new) result }
     ensures transcript { IsFreshConn (C.state conn.old) → IsRouteTranscript (S.seen seat.new) (C.state conn.new) result }
-    ensures kin_stays { (road : RoadMetric) → S.kin seat.new road → S.kin seat.old road }
+    ensures kin_stays { (metric : Customized) → S.kin seat.new metric → S.kin seat.old metric }
 {
     serve_with(alloc, id, seat, gate, &Replier { grid }, conn)
 }

@@ -3,16 +3,17 @@
 ghost use Rattle.std.specs.Prelude.{◌≤◌};
 
 use crate::{Ended, serve_connection};
+use customized::{Metric, Roads, SERVER_LIMITS};
 use edge_graph::Network;
 use http_head::HEAD_BAD;
 use metric_make::base;
 use metric_publish::local_board::LocalBoard;
 use opl_read::read;
-use reply_core::Metric;
 use road_io::{MemConn, MemSink, MemSource, OpenGate};
 use snap_index::Grid;
 use std::alloc::{AllocError, Global};
 use std::sync::Arc;
+use std::thread::Threads;
 use way_profile::Profile;
 
 const TOWN: &[u8] =
@@ -64,15 +65,17 @@ fn conn(alloc: Global, input: &[u8], piece: usize, room: usize) -> Result<MemCon
 
 /// How such a connection ends, and its output.
 fn served(
+    rt: &(impl Threads + Sync),
     alloc: Global,
     input: &[u8],
     piece: usize,
     room: usize,
 ) -> Result<(Ended, Vec<u8>), AllocError> {
     let network = network(alloc)?;
-    let base = base(alloc, &network)?;
     let grid = Grid::of(alloc, &network)?;
-    let metric = Metric::make(Arc::new(alloc, network)?, base);
+    let roads = Roads::of(alloc, network, &SERVER_LIMITS)?;
+    let base = base(alloc, roads.network())?;
+    let metric = Metric::make(rt, alloc, &roads, base)?;
     let mut board = LocalBoard::of(alloc, Arc::new(alloc, metric)?, 0)?;
     let mut conn = conn(alloc, input, piece, room)?;
     let ended = serve_connection(alloc, 0, &mut board, &OpenGate, &grid, &mut conn);
@@ -82,7 +85,7 @@ fn served(
 #[test]
 fn two_requests_are_answered_in_any_pieces(rt: HostRuntime) -> Result<(), AllocError> {
     for piece in [TWO_ROUTES.len(), 1] {
-        let (ended, output) = served(rt.alloc(), TWO_ROUTES, piece, ROOM)?;
+        let (ended, output) = served(&rt, rt.alloc(), TWO_ROUTES, piece, ROOM)?;
         assert_eq!(rt; ended, Ended::Closed);
         assert_eq!(rt; output.as_slice(), TWO_REPLIES);
     }
@@ -106,12 +109,12 @@ fn head_of_size(alloc: Global, size: usize) -> Result<Vec<u8>, AllocError>
 fn a_head_of_8192_bytes_is_answered_and_none_longer(rt: HostRuntime) -> Result<(), AllocError> {
     let longest = head_of_size(rt.alloc(), 8192)?;
     assert_eq!(rt; longest.len(), 8192);
-    let (ended, output) = served(rt.alloc(), &longest, 8192, ROOM)?;
+    let (ended, output) = served(&rt, rt.alloc(), &longest, 8192, ROOM)?;
     assert_eq!(rt; ended, Ended::EndOfInput);
     assert_eq!(rt; output.as_slice(), NO_PATH);
 
     let too_long = head_of_size(rt.alloc(), 8193)?;
-    let (ended, output) = served(rt.alloc(), &too_long, 8192, ROOM)?;
+    let (ended, output) = served(&rt, rt.alloc(), &too_long, 8192, ROOM)?;
     assert_eq!(rt; ended, Ended::HeadBad);
     assert_eq!(rt; output.as_slice(), HEAD_BAD);
     Ok(())
@@ -127,7 +130,7 @@ fn each_input_has_its_end(rt: HostRuntime) -> Result<(), AllocError> {
         (b"POST / HTTP/1.1\r\n\r\n", Ended::HeadBad, HEAD_BAD),
     ];
     for (input, end, replies) in cases {
-        let (ended, output) = served(rt.alloc(), input, 3, ROOM)?;
+        let (ended, output) = served(&rt, rt.alloc(), input, 3, ROOM)?;
         assert_eq!(rt; ended, end, "{input:?}");
         assert_eq!(rt; output.as_slice(), replies, "{input:?}");
     }
@@ -136,7 +139,7 @@ fn each_input_has_its_end(rt: HostRuntime) -> Result<(), AllocError> {
 
 #[test]
 fn a_full_output_ends_the_connection(rt: HostRuntime) -> Result<(), AllocError> {
-    let (ended, output) = served(rt.alloc(), TWO_ROUTES, 100, 10)?;
+    let (ended, output) = served(&rt, rt.alloc(), TWO_ROUTES, 100, 10)?;
     assert_eq!(rt; ended, Ended::SinkFault);
     assert_eq!(rt; output.as_slice(), b"HTTP/1.1 2".as_slice());
     Ok(())
@@ -156,7 +159,7 @@ fn the_hundredth_reply_closes(rt: HostRuntime) -> Result<(), AllocError> {
     let input = repeated(rt.alloc(), b"GET / HTTP/1.1\r\n\r\n", 101)?;
     let mut replies = repeated(rt.alloc(), NO_PATH, 99)?;
     replies.extend_from_slice(NO_PATH_CLOSE)?;
-    let (ended, output) = served(rt.alloc(), &input, 8192, ROOM)?;
+    let (ended, output) = served(&rt, rt.alloc(), &input, 8192, ROOM)?;
     assert_eq!(rt; ended, Ended::Closed);
     assert_eq!(rt; output.as_slice(), replies.as_slice());
     Ok(())
