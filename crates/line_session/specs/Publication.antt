@@ -1,5 +1,6 @@
 -- What is published: a metric of a road network, under a number.
 use Rattle.std.specs.Prelude.{◌≡◌, ℕ, List, [], ◌∷◌, ◌++◌}
+use Rattle.customized.specs.Exact.{Customized}
 use Rattle.edge_graph.specs.NetworkView.{NetworkView}
 use Rattle.metric_make.specs.MetricOf.{metric_of}
 use Rattle.metric_publish.specs.History.{entry}
@@ -10,6 +11,10 @@ use Rattle.reply_core.specs.declared.answers.Answer.{Answer}
 
 abbrev pub Publication : Type 0
 Publication = Entry RoadMetric
+
+-- what an entry of a board publishes: a metric, whose cells make no difference to a reply
+abbrev pub publication_of : Entry Customized → Publication
+publication_of e = entry e.number e.value.road
 
 -- the first publication of a network: number 0, and the metric of its vehicle's profile alone
 abbrev pub opening : NetworkView → Publication

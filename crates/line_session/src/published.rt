@@ -4,15 +4,17 @@ ghost use Rattle.std.specs.Prelude.{◌≡◌, IfOk};
 ghost use Rattle.edge_graph.specs.NetworkView.{NetworkView};
 ghost use Rattle.line_session.specs.Publication.{IsReplyLine, opening};
 
+use customized::{Metric, Roads, SERVER_LIMITS};
 use edge_graph::Network;
 use metric_make::base;
 use metric_publish::local_board::LocalBoard;
-use reply_core::{Metric, ReplyFault, line_answer};
+use reply_core::{ReplyFault, line_answer};
 use road_base::Text;
 use snap_index::Grid;
 use std::alloc::{AllocError, Global};
 use std::marker::Model;
 use std::sync::Arc;
+use std::thread::Threads;
 
 /// A board with the metrics of one road network, of which the last is published, and where its segments
 /// lie. Contracts see the last publication.
@@ -23,7 +25,7 @@ pub struct Published {
 }
 
 impl Model for Published {
-    ghost use Rattle.line_session.specs.Publication.{Publication};
+    ghost use Rattle.line_session.specs.Publication.{Publication, publication_of};
 
     ghost Value = { Publication };
 
@@ -32,20 +34,26 @@ impl Model for Published {
     ghost use Rattle.metric_publish.specs.History.{entry_of};
     ghost use Rattle.snap_index.specs.Ends.{all_ends};
 
-    ghost view = { λ p. entry_of p.board.page.put };
+    ghost view = { λ p. publication_of (entry_of p.board.page.put) };
 
-    ghost invariant = { λ p. p.grid ≡ all_ends (arc_value p.board.page.put.value).network.segments };
+    ghost invariant = { λ p. p.grid ≡ all_ends (arc_value p.board.page.put.value).road.network.segments };
 }
 
 impl Published {
-    /// The board of a network on which the metric by its profile alone is published, under number 0. It
-    /// answers an error only where memory runs out.
-    pub fn opening(alloc: Global, network: Network) -> Result<Published, AllocError>
+    /// The board of a network on which the metric by its profile alone is published, under number 0. The
+    /// network is cut into cells by the server's limits, and these are customized in threads. It answers an
+    /// error only where memory runs out.
+    pub fn opening(
+        rt: &(impl Threads + Sync),
+        alloc: Global,
+        network: Network,
+    ) -> Result<Published, AllocError>
         ensures { IfOk result (λ p. p ≡ opening network) }
     {
-        let base = base(alloc, &network)?;
-        let grid = Grid::of(alloc, &network)?;
-        let metric = Metric::make(Arc::new(alloc, network)?, base);
+        let roads = Roads::of(alloc, network, &SERVER_LIMITS)?;
+        let base = base(alloc, roads.network())?;
+        let grid = Grid::of(alloc, roads.network())?;
+        let metric = Metric::make(rt, alloc, &roads, base)?;
         let board = LocalBoard::of(alloc, Arc::new(alloc, metric)?, 0)?;
         Ok(Published { board, grid })
     }

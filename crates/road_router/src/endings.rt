@@ -13,6 +13,7 @@ use road_io::{Doors, Files, Gate, Sink, Source};
 use std::alloc::{AllocError, Global};
 use std::io::Eprint;
 use std::process::{ExitCode, Termination};
+use std::thread::Threads;
 
 /// How a run ended. Only a run makes one, so what `main` answers is how its run ended.
 #[derive(Drop)]
@@ -29,7 +30,7 @@ impl Termination for Ended {
 }
 
 /// Runs on the words as they were read. Where there was no memory for them, it ends for that.
-pub fn run_to_end<R, F: Files, I: Source, O: Sink, N: Doors, G: Gate>(
+pub fn run_to_end<R: Threads + Sync, F: Files, I: Source, O: Sink, N: Doors, G: Gate>(
     rt: &R,
     alloc: Global,
     words: Result<Vec<String>, AllocError>,

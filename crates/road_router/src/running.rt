@@ -23,6 +23,7 @@ use map_loading::{LoadFault, Loaded, check_text, load};
 use road_base::{Status, Text};
 use road_io::{Doors, Failed, FileFault, Files, Gate, Sink, Source, put_all};
 use std::alloc::Global;
+use std::thread::Threads;
 
 /// The usage line.
 const USAGE: &[u8] =
@@ -141,7 +142,8 @@ fn read_files<'a, F: Files>(
 }
 
 // Answers lines over a map and settings that were read, or refuses them.
-fn ask_over<I: Source, O: Sink>(
+fn ask_over<R: Threads + Sync, I: Source, O: Sink>(
+    rt: &R,
     alloc: Global,
     map: Vec<u8>,
     settings: &[u8],
@@ -152,7 +154,7 @@ fn ask_over<I: Source, O: Sink>(
         (O.view output.old) (O.view output.new) }
 {
     match load(alloc, map, settings) {
-        Ok(loaded) => match Published::opening(alloc, loaded.network) {
+        Ok(loaded) => match Published::opening(rt, alloc, loaded.network) {
             Ok(published) => answer(alloc, &published, input, output),
             Err(_) => end_exhausted(output),
         },
@@ -162,8 +164,9 @@ fn ask_over<I: Source, O: Sink>(
 }
 
 /// Answers the lines of the input over the map and the settings in the files of these names, which are
-/// read first, in this order. It waits for nobody but the outside.
-pub fn ask<F: Files, I: Source, O: Sink>(
+/// read first, in this order. The map is customized in threads. It waits for nobody but the outside.
+pub fn ask<R: Threads + Sync, F: Files, I: Source, O: Sink>(
+    rt: &R,
     alloc: Global,
     map: &str,
     settings: &str,
@@ -175,7 +178,7 @@ pub fn ask<F: Files, I: Source, O: Sink>(
         (outside (F.view files.new) (I.view input.new) (O.view output.new)) map.now settings.now }
 {
     match read_files(alloc, map, settings, files) {
-        Ok((map, settings)) => ask_over(alloc, map, settings.as_slice(), input, output),
+        Ok((map, settings)) => ask_over(rt, alloc, map, settings.as_slice(), input, output),
         Err(unread) => end_unread(output, unread.name, unread.fault),
     }
 }
@@ -227,7 +230,7 @@ pub fn check<F: Files, O: Sink>(
 /// how it ended. The words stand without the program's name.
 ///
 /// So far there are two commands, `check` and `ask`. Neither the doors nor the gate are touched.
-pub fn run<R, F: Files, I: Source, O: Sink, N: Doors, G: Gate>(
+pub fn run<R: Threads + Sync, F: Files, I: Source, O: Sink, N: Doors, G: Gate>(
     rt: &R,
     alloc: Global,
     words: &[String],
@@ -244,7 +247,7 @@ pub fn run<R, F: Files, I: Source, O: Sink, N: Doors, G: Gate>(
 {
     match read_words(alloc, words) {
         Ok(Words::Check(map, settings)) => check(alloc, map, settings, files, output),
-        Ok(Words::Ask(map, settings)) => ask(alloc, map, settings, files, input, output),
+        Ok(Words::Ask(map, settings)) => ask(rt, alloc, map, settings, files, input, output),
         Err(WordsFault::Unknown) => {
             close(output, USAGE);
             Status::Words

@@ -4,6 +4,7 @@ use crate::running::run;
 use road_base::{Status, Text};
 use road_io::{MemFiles, MemSink, MemSource, NoDoors, OpenGate};
 use std::alloc::{AllocError, Global};
+use std::thread::Threads;
 
 const TOWN: &[u8] =
     b"n1 x0 y0\nn2 x0 y0.001\nn3 x0.001 y0.001\nw10 Thighway=residential Nn1,n2,n3\n";
@@ -113,12 +114,12 @@ fn files_of(alloc: Global, case: Case<'_>) -> Result<MemFiles, AllocError> {
 }
 
 fn run_over(
-    rt: &HostRuntime,
+    rt: &(impl Threads + Sync),
+    alloc: Global,
     case: Case<'_>,
     all: &[&str],
     files: &mut MemFiles,
 ) -> Result<(Status, MemSink), AllocError> {
-    let alloc = rt.alloc();
     let mut pieces = Vec::new(alloc);
     if case.piece > 0 {
         pieces.push(case.piece)?;
@@ -140,21 +141,26 @@ fn run_over(
 }
 
 fn run_words(
-    rt: &HostRuntime,
+    rt: &(impl Threads + Sync),
+    alloc: Global,
     case: Case<'_>,
     all: &[&str],
 ) -> Result<(Status, MemSink), AllocError> {
-    let mut files = files_of(rt.alloc(), case)?;
-    run_over(rt, case, all, &mut files)
+    let mut files = files_of(alloc, case)?;
+    run_over(rt, alloc, case, all, &mut files)
 }
 
-fn ask(rt: &HostRuntime, case: Case<'_>) -> Result<(Status, MemSink), AllocError> {
-    run_words(rt, case, &["ask", "town.opl", "settings.toml"])
+fn ask(
+    rt: &(impl Threads + Sync),
+    alloc: Global,
+    case: Case<'_>,
+) -> Result<(Status, MemSink), AllocError> {
+    run_words(rt, alloc, case, &["ask", "town.opl", "settings.toml"])
 }
 
 #[test]
 fn the_first_route_is_answered(rt: HostRuntime) -> Result<(), AllocError> {
-    let (status, output) = ask(&rt, Case::over_town(LINE))?;
+    let (status, output) = ask(&rt, rt.alloc(), Case::over_town(LINE))?;
     assert_eq!(rt; status, Status::Ok);
     assert_eq!(rt; output.as_bytes(), REPLY);
     Ok(())
@@ -166,7 +172,7 @@ fn an_input_byte_by_byte_is_answered_alike(rt: HostRuntime) -> Result<(), AllocE
         piece: 1,
         ..Case::over_town(LINE)
     };
-    let (status, output) = ask(&rt, case)?;
+    let (status, output) = ask(&rt, rt.alloc(), case)?;
     assert_eq!(rt; status, Status::Ok);
     assert_eq!(rt; output.as_bytes(), REPLY);
     Ok(())
@@ -187,7 +193,7 @@ fn lines_are_answered_one_by_one(rt: HostRuntime) -> Result<(), AllocError> {
         (b"\r", BAD),
     ];
     for (input, expected) in cases {
-        let (status, output) = ask(&rt, Case::over_town(input))?;
+        let (status, output) = ask(&rt, rt.alloc(), Case::over_town(input))?;
         assert_eq!(rt; status, Status::Ok);
         assert_eq!(rt; output.as_bytes(), expected);
     }
@@ -200,32 +206,33 @@ fn each_status_has_its_line(rt: HostRuntime) -> Result<(), AllocError> {
         map: b"n1 x0 y0\nn2 x0 y0.001\nn3 x0.001 y0.001\nw10 Nn1,n2,n3 Tname=%110000%\n",
         ..Case::over_town(LINE)
     };
-    let (status, output) = ask(&rt, escaped)?;
+    let (status, output) = ask(&rt, rt.alloc(), escaped)?;
     assert_eq!(rt; status, Status::Refused);
     assert_eq!(rt; output.as_bytes(), b"opl line 4 BadEscape\n".as_slice());
     let faulty = Case {
         map: b"n1 x0 y0\nn1 x0 y0\nw",
         ..Case::over_town(LINE)
     };
-    let (status, output) = ask(&rt, faulty)?;
+    let (status, output) = ask(&rt, rt.alloc(), faulty)?;
     assert_eq!(rt; status, Status::Refused);
     assert_eq!(rt; output.as_bytes(), b"opl line 2 Duplicate\n".as_slice());
     let nameless = Case {
         settings: b"name = \"car\"\nvehicle = \"motorcar\"\n",
         ..Case::over_town(LINE)
     };
-    let (status, output) = ask(&rt, nameless)?;
+    let (status, output) = ask(&rt, rt.alloc(), nameless)?;
     assert_eq!(rt; status, Status::Refused);
     assert_eq!(rt; output.as_bytes(), b"settings Missing speeds\n".as_slice());
     let bare = Case {
         settings: b"",
         ..Case::over_town(LINE)
     };
-    let (status, output) = ask(&rt, bare)?;
+    let (status, output) = ask(&rt, rt.alloc(), bare)?;
     assert_eq!(rt; status, Status::Refused);
     assert_eq!(rt; output.as_bytes(), b"settings Missing name\n".as_slice());
     let (status, output) = run_words(
         &rt,
+        rt.alloc(),
         Case::over_town(LINE),
         &["ask", "town.opl", "none.toml"],
     )?;
@@ -264,7 +271,7 @@ fn both_files_are_read_before_they_are_judged(rt: HostRuntime) -> Result<(), All
     ];
     for (words, line, reads) in cases {
         let mut files = files_of(rt.alloc(), faulty)?;
-        let (status, output) = run_over(&rt, faulty, words, &mut files)?;
+        let (status, output) = run_over(&rt, rt.alloc(), faulty, words, &mut files)?;
         assert_eq!(rt; status, Status::Outside);
         assert_eq!(rt; output.as_bytes(), line);
         assert_eq!(rt; files.reads().len(), reads);
@@ -277,7 +284,7 @@ fn both_files_are_read_before_they_are_judged(rt: HostRuntime) -> Result<(), All
 fn other_words_get_the_usage_line(rt: HostRuntime) -> Result<(), AllocError> {
     let lists: [&[&str]; 4] = [&[], &["ask", "town.opl"], &["check", "--help"], &["serve"]];
     for list in lists {
-        let (status, output) = run_words(&rt, Case::over_town(LINE), list)?;
+        let (status, output) = run_words(&rt, rt.alloc(), Case::over_town(LINE), list)?;
         assert_eq!(rt; status, Status::Words);
         assert!(rt;
             output.as_bytes().starts_with(
@@ -295,10 +302,10 @@ fn maps_are_counted(rt: HostRuntime) -> Result<(), AllocError> {
         ..Case::over_town(LINE)
     };
     let words = ["check", "town.opl", "settings.toml"];
-    let (status, output) = run_words(&rt, case, &words)?;
+    let (status, output) = run_words(&rt, rt.alloc(), case, &words)?;
     assert_eq!(rt; status, Status::Ok);
     assert_eq!(rt; output.as_bytes(), COUNTS);
-    let (status, output) = run_words(&rt, Case::over_town(LINE), &words)?;
+    let (status, output) = run_words(&rt, rt.alloc(), Case::over_town(LINE), &words)?;
     assert_eq!(rt; status, Status::Ok);
     assert_eq!(rt;
         output.as_bytes(),
@@ -309,19 +316,19 @@ fn maps_are_counted(rt: HostRuntime) -> Result<(), AllocError> {
         map: TOWN_NAMED,
         ..case
     };
-    let (status, output) = run_words(&rt, named, &words)?;
+    let (status, output) = run_words(&rt, rt.alloc(), named, &words)?;
     assert_eq!(rt; status, Status::Ok);
     assert_eq!(rt;
         output.as_bytes(),
         b"nodes 3\nways 1\nrelations 0\nsegments 2\nvertices 4\nturns 4\nrestrictions 0\nignored 0\n".as_slice()
     );
-    let (status, output) = run_words(&rt, Case { map: b"", ..case }, &words)?;
+    let (status, output) = run_words(&rt, rt.alloc(), Case { map: b"", ..case }, &words)?;
     assert_eq!(rt; status, Status::Ok);
     assert_eq!(rt;
         output.as_bytes(),
         b"nodes 0\nways 0\nrelations 0\nsegments 0\nvertices 0\nturns 0\nrestrictions 0\nignored 0\n".as_slice()
     );
-    let (status, output) = run_words(&rt, Case { room: 9, ..case }, &words)?;
+    let (status, output) = run_words(&rt, rt.alloc(), Case { room: 9, ..case }, &words)?;
     assert_eq!(rt; status, Status::Outside);
     assert_eq!(rt; output.as_bytes(), b"nodes 4\nw".as_slice());
     Ok(())
@@ -333,7 +340,7 @@ fn a_full_output_ends_the_run(rt: HostRuntime) -> Result<(), AllocError> {
         room: 10,
         ..Case::over_town(LINE)
     };
-    let (status, output) = ask(&rt, case)?;
+    let (status, output) = ask(&rt, rt.alloc(), case)?;
     assert_eq!(rt; status, Status::Outside);
     assert_eq!(rt; output.as_bytes(), b"{\"code\":\"O".as_slice());
     Ok(())
@@ -345,7 +352,7 @@ fn a_map_without_roads_has_no_place(rt: HostRuntime) -> Result<(), AllocError> {
         map: b"",
         ..Case::over_town(LINE)
     };
-    let (status, output) = ask(&rt, case)?;
+    let (status, output) = ask(&rt, rt.alloc(), case)?;
     assert_eq!(rt; status, Status::Ok);
     assert_eq!(rt;
         output.as_bytes(),
@@ -355,8 +362,13 @@ fn a_map_without_roads_has_no_place(rt: HostRuntime) -> Result<(), AllocError> {
 }
 
 // Whether the run is done and what it puts has this text in it.
-fn shows(rt: &HostRuntime, case: Case<'_>, expected: &str) -> Result<bool, AllocError> {
-    let (status, output) = ask(rt, case)?;
+fn shows(
+    rt: &(impl Threads + Sync),
+    alloc: Global,
+    case: Case<'_>,
+    expected: &str,
+) -> Result<bool, AllocError> {
+    let (status, output) = ask(rt, alloc, case)?;
     let told = std::str::from_utf8(output.as_bytes()).unwrap_or("");
     Ok(status == Status::Ok && told.contains(expected))
 }
@@ -382,7 +394,7 @@ fn routes_over_small_maps(rt: HostRuntime) -> Result<(), AllocError> {
             settings,
             ..Case::over_town(input)
         };
-        assert!(rt; shows(&rt, case, expected)?, "{expected}");
+        assert!(rt; shows(&rt, rt.alloc(), case, expected)?, "{expected}");
     }
     Ok(())
 }
@@ -448,7 +460,7 @@ fn routes_over_a_star(rt: HostRuntime) -> Result<(), AllocError> {
             settings,
             ..Case::over_town(SOUTH_TO_WEST)
         };
-        assert!(rt; shows(&rt, case, expected)?, "{expected}");
+        assert!(rt; shows(&rt, rt.alloc(), case, expected)?, "{expected}");
     }
     Ok(())
 }
@@ -473,7 +485,14 @@ fn a_route_through_500_places_is_answered(rt: HostRuntime) -> Result<(), AllocEr
         ..Case::over_town(input.as_slice())
     };
     // 499 legs of 222.2 metres and 19.8 seconds.
-    assert!(rt; shows(&rt, case, "[{\"distance\":110877.8,\"duration\":9880.2,")?);
+    assert!(rt;
+        shows(
+            &rt,
+            rt.alloc(),
+            case,
+            "[{\"distance\":110877.8,\"duration\":9880.2,"
+        )?
+    );
     Ok(())
 }
 
@@ -484,7 +503,7 @@ fn a_thousand_lines_are_answered(rt: HostRuntime) -> Result<(), AllocError> {
         room: 1_048_576,
         ..Case::over_town(input.as_slice())
     };
-    let (status, output) = ask(&rt, case)?;
+    let (status, output) = ask(&rt, rt.alloc(), case)?;
     assert_eq!(rt; status, Status::Ok);
     assert!(rt; output.as_bytes() == repeated(rt.alloc(), b"", REPLY, 1000)?.as_slice());
     Ok(())
@@ -502,6 +521,7 @@ fn a_long_street_name_is_told(rt: HostRuntime) -> Result<(), AllocError> {
     assert!(rt;
         shows(
             &rt,
+            rt.alloc(),
             case,
             std::str::from_utf8(expected.as_slice()).unwrap_or("-")
         )?
@@ -533,7 +553,7 @@ fn past_the_limits_a_map_is_refused(rt: HostRuntime) -> Result<(), AllocError> {
             map: map.as_slice(),
             ..Case::over_town(LINE)
         };
-        let (status, output) = ask(&rt, case)?;
+        let (status, output) = ask(&rt, rt.alloc(), case)?;
         assert_eq!(rt; status, Status::Refused);
         assert_eq!(rt; output.as_bytes(), line.as_bytes());
     }

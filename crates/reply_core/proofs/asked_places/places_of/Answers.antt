@@ -1,4 +1,4 @@
-use Rattle.std.proofs.Common.{◌≡◌, ◌+◌, ◌≤◌, ap, length, sym, subst, take, List, arith}
+use Rattle.std.proofs.Common.{◌+◌, ◌≤◌, ap, length, sym, subst, take, List, arith}
 use Rattle.std.specs.List.{AllZip}
 use Rattle.std.proofs.lemmas.List.{take_all}
 use Rattle.list_lemmas.proofs.Fronts.{all_zip-more}

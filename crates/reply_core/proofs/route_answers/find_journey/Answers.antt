@@ -1,6 +1,7 @@
 use Rattle.std.proofs.Common.{ap, arith, length}
 use Rattle.list_lemmas.proofs.Fronts.{all_zip-length}
 use Rattle.road_base.specs.declared.segments.Place.{Place}
+use Rattle.edge_graph.specs.NetworkView.{NetworkView}
 use Rattle.reply_core.specs.Asked.{asked_in}
 use Rattle.reply_core.specs.Lacks.{StandsFor}
 use Rattle.reply_core.proofs.AnswerLemmas.{asked-count}
@@ -33,4 +34,5 @@ returns-clause-few c =
     let few = c.requires.few in
     let count = c.segments.ensures.value in
     let most = c.segments.ensures.few in
-    (omega (arith, count, most), omega (arith, asked, as_many), omega (arith, asked, as_many, same, one_each, few))
+    let same_network = ap (λ (n : NetworkView). length n.segments) c.network-network.ensures in
+    (omega (arith, count, most, same_network), omega (arith, asked, as_many), omega (arith, asked, as_many, same, one_each, few))
