@@ -6,7 +6,7 @@ use crate::{
     Alternatives, Approach, Bearing, Chosen, ContinueStraight, Geometries, Overview, RefusalCode,
     Request, RequestFault, RouteAnnotations, Service, TableAnnotations, request, whole_request,
 };
-use std::alloc::{AllocError, Global};
+use std::alloc::Global;
 use std::process::Abort;
 
 // Whether a target of the whole API is refused with this code and message.
@@ -134,173 +134,143 @@ fn a_target_of_any_service_has_its_first_refusal(rt: HostRuntime) {
     }
 }
 
-// A target of this path with one option.
-fn with_option(
-    rt: &HostRuntime,
-    path: &[u8],
-    name: &[u8],
-    value: &[u8],
-) -> Result<Vec<u8>, AllocError> {
-    let mut target = Vec::from_slice(rt.alloc(), path)?;
-    target.extend_from_slice(name)?;
-    target.extend_from_slice(b"=")?;
-    target.extend_from_slice(value)?;
-    Ok(target)
-}
-
-// Whether there is a request with this value of an option.
-fn is_taken(rt: &HostRuntime, path: &[u8], name: &[u8], value: &[u8]) -> Result<bool, AllocError> {
-    let target = with_option(rt, path, name, value)?;
-    match whole_request(rt.alloc(), &target) {
-        Ok(_asked) => Ok(true),
-        Err(_fault) => Ok(false),
+#[test]
+fn each_option_has_its_values(rt: HostRuntime) {
+    let cases: [&[u8]; 30] = [
+        b"/route/v1/car/0,0;0,1?radiuses=;",
+        b"/route/v1/car/0,0;0,1?radiuses=unlimited;0",
+        b"/route/v1/car/0,0;0,1?radiuses=007.25;99999999999999999999",
+        b"/route/v1/car/0,0;0,1?bearings=;",
+        b"/route/v1/car/0,0;0,1?bearings=360,180;000,0",
+        b"/route/v1/car/0,0;0,1?approaches=;unrestricted",
+        b"/route/v1/car/0,0;0,1?hints=;",
+        b"/route/v1/car/0,0;0,1?hints=a=b;%3D",
+        b"/route/v1/car/0,0;0,1?generate_hints=true",
+        b"/route/v1/car/0,0;0,1?skip_waypoints=false",
+        b"/route/v1/car/0,0;0,1?snapping=default",
+        b"/route/v1/car/0,0;0,1?since=4294967295",
+        b"/route/v1/car/0,0;0,1?since=00000000001",
+        b"/route/v1/car/0,0;0,1?alternatives=true",
+        b"/route/v1/car/0,0;0,1?alternatives=999999999",
+        b"/route/v1/car/0,0;0,1?steps=false",
+        b"/route/v1/car/0,0;0,1?annotations=true",
+        b"/route/v1/car/0,0;0,1?annotations=nodes,distance,duration,weight,nodes",
+        b"/route/v1/car/0,0;0,1?geometries=polyline6",
+        b"/route/v1/car/0,0;0,1?overview=simplified",
+        b"/route/v1/car/0,0;0,1?continue_straight=default",
+        b"/table/v1/car/0,0;0,1?sources=all",
+        b"/table/v1/car/0,0;0,1?sources=1;0;1",
+        b"/table/v1/car/0,0;0,1?destinations=000000001",
+        b"/table/v1/car/0,0;0,1?annotations=duration",
+        b"/table/v1/car/0,0;0,1?annotations=distance,duration",
+        b"/nearest/v1/car/0,0?number=100",
+        b"/nearest/v1/car/0,0?number=000000001",
+        b"/nearest/v1/car/0,0?radiuses=",
+        b"/nearest/v1/car/0,0?bearings=",
+    ];
+    for target in cases {
+        assert!(rt; whole_request(rt.alloc(), target).is_ok());
     }
 }
-
-const ROUTE: &[u8] = b"/route/v1/car/0,0;0,1?";
-
-const TABLE: &[u8] = b"/table/v1/car/0,0;0,1?";
-
-const NEAREST: &[u8] = b"/nearest/v1/car/0,0?";
 
 #[test]
-fn each_option_has_its_values(rt: HostRuntime) -> Result<(), AllocError> {
-    let cases: [(&[u8], &[u8], &[&[u8]], &[&[u8]]); 18] = [
+fn a_value_of_another_form_is_refused(rt: HostRuntime) {
+    let cases: [(&[u8], &[u8]); 43] = [
+        (b"/route/v1/car/0,0;0,1?radiuses=", b"option radiuses"),
+        (b"/route/v1/car/0,0;0,1?radiuses=;;", b"option radiuses"),
+        (b"/route/v1/car/0,0;0,1?radiuses=-1;", b"option radiuses"),
+        (b"/route/v1/car/0,0;0,1?radiuses=+1;", b"option radiuses"),
+        (b"/route/v1/car/0,0;0,1?radiuses=1.;", b"option radiuses"),
+        (b"/route/v1/car/0,0;0,1?radiuses=.5;", b"option radiuses"),
+        (b"/route/v1/car/0,0;0,1?radiuses=1e5;", b"option radiuses"),
         (
-            ROUTE,
-            b"radiuses",
-            &[b";", b"unlimited;0", b"007.25;99999999999999999999"],
-            &[
-                b"",
-                b";;",
-                b"-1;",
-                b"+1;",
-                b"1.;",
-                b".5;",
-                b"1e5;",
-                b"Unlimited;",
-                b" 1;",
-                b"1,1;",
-            ],
+            b"/route/v1/car/0,0;0,1?radiuses=Unlimited;",
+            b"option radiuses",
         ),
         (
-            ROUTE,
-            b"bearings",
-            &[b";", b"360,180;000,0", b"45,10;"],
-            &[
-                b"361,10;", b"45,181;", b"45;", b"45,;", b",10;", b"-1,10;", b"4.5,10;", b"1,2,3;",
-                b"45,10", b"+5,10;",
-            ],
+            b"/route/v1/car/0,0;0,1?bearings=361,10;",
+            b"option bearings",
         ),
         (
-            ROUTE,
-            b"approaches",
-            &[b";", b"unrestricted;"],
-            &[b"curb;", b"unrestricted"],
+            b"/route/v1/car/0,0;0,1?bearings=45,181;",
+            b"option bearings",
         ),
-        (ROUTE, b"hints", &[b";", b"a=b;%3D"], &[b"", b"a;b;"]),
+        (b"/route/v1/car/0,0;0,1?bearings=45;", b"option bearings"),
+        (b"/route/v1/car/0,0;0,1?bearings=45,;", b"option bearings"),
+        (b"/route/v1/car/0,0;0,1?bearings=,10;", b"option bearings"),
         (
-            ROUTE,
-            b"generate_hints",
-            &[b"true", b"false"],
-            &[b"", b"1", b"True"],
+            b"/route/v1/car/0,0;0,1?bearings=4.5,10;",
+            b"option bearings",
         ),
+        (b"/route/v1/car/0,0;0,1?bearings=1,2,3;", b"option bearings"),
+        (b"/route/v1/car/0,0;0,1?bearings=45,10", b"option bearings"),
         (
-            ROUTE,
-            b"skip_waypoints",
-            &[b"true", b"false"],
-            &[b"", b"no"],
+            b"/route/v1/car/0,0;0,1?approaches=curb;",
+            b"option approaches",
         ),
-        (ROUTE, b"snapping", &[b"default"], &[b"any", b""]),
+        (b"/route/v1/car/0,0;0,1?hints=a", b"option hints"),
         (
-            ROUTE,
-            b"since",
-            &[b"0", b"4294967295", b"00000000001"],
-            &[b"4294967296", b"", b"-1", b"+1", b"1.0", b"%20"],
+            b"/route/v1/car/0,0;0,1?generate_hints=1",
+            b"option generate_hints",
         ),
         (
-            NEAREST,
-            b"number",
-            &[b"1", b"100", b"000000001"],
-            &[b"0", b"000", b"0000000001", b"", b"1000000000"],
+            b"/route/v1/car/0,0;0,1?skip_waypoints=",
+            b"option skip_waypoints",
+        ),
+        (b"/route/v1/car/0,0;0,1?snapping=any", b"option snapping"),
+        (b"/route/v1/car/0,0;0,1?since=4294967296", b"option since"),
+        (b"/route/v1/car/0,0;0,1?since=", b"option since"),
+        (b"/route/v1/car/0,0;0,1?since=+1", b"option since"),
+        (
+            b"/route/v1/car/0,0;0,1?alternatives=1000000000",
+            b"option alternatives",
+        ),
+        (b"/route/v1/car/0,0;0,1?steps=1", b"option steps"),
+        (b"/route/v1/car/0,0;0,1?annotations=", b"option annotations"),
+        (
+            b"/route/v1/car/0,0;0,1?annotations=nodes,",
+            b"option annotations",
         ),
         (
-            ROUTE,
-            b"alternatives",
-            &[b"true", b"false", b"0", b"999999999"],
-            &[b"1000000000", b"", b"yes"],
-        ),
-        (ROUTE, b"steps", &[b"true", b"false"], &[b"", b"1"]),
-        (
-            ROUTE,
-            b"annotations",
-            &[
-                b"true",
-                b"false",
-                b"speed",
-                b"nodes,distance,duration,weight,nodes",
-            ],
-            &[b"", b"nodes,", b"datasources", b"true,nodes"],
+            b"/route/v1/car/0,0;0,1?annotations=true,nodes",
+            b"option annotations",
         ),
         (
-            ROUTE,
-            b"geometries",
-            &[b"polyline", b"polyline6", b"geojson"],
-            &[b"", b"wkt", b"polyline5"],
+            b"/route/v1/car/0,0;0,1?geometries=polyline5",
+            b"option geometries",
+        ),
+        (b"/route/v1/car/0,0;0,1?overview=true", b"option overview"),
+        (
+            b"/route/v1/car/0,0;0,1?continue_straight=true",
+            b"option continue_straight",
+        ),
+        (b"/table/v1/car/0,0;0,1?sources=2", b"option sources"),
+        (b"/table/v1/car/0,0;0,1?sources=0;", b"option sources"),
+        (b"/table/v1/car/0,0;0,1?sources=all;0", b"option sources"),
+        (
+            b"/table/v1/car/0,0;0,1?sources=0000000000",
+            b"option sources",
         ),
         (
-            ROUTE,
-            b"overview",
-            &[b"simplified", b"full", b"false"],
-            &[b"", b"true", b"by_legs"],
+            b"/table/v1/car/0,0;0,1?destinations=any",
+            b"option destinations",
         ),
         (
-            ROUTE,
-            b"continue_straight",
-            &[b"default", b"false"],
-            &[b"", b"true"],
+            b"/table/v1/car/0,0;0,1?annotations=duration,duration",
+            b"option annotations",
         ),
         (
-            TABLE,
-            b"sources",
-            &[b"all", b"1;0;1"],
-            &[b"2", b"", b"0;", b"all;0", b"0000000000", b"-0"],
+            b"/table/v1/car/0,0;0,1?annotations=speed",
+            b"option annotations",
         ),
-        (
-            TABLE,
-            b"destinations",
-            &[b"all", b"000000001"],
-            &[b"0;2", b"any"],
-        ),
-        (
-            TABLE,
-            b"annotations",
-            &[
-                b"duration",
-                b"distance",
-                b"duration,distance",
-                b"distance,duration",
-            ],
-            &[b"", b"duration,duration", b"true", b"speed"],
-        ),
+        (b"/nearest/v1/car/0,0?number=000", b"option number"),
+        (b"/nearest/v1/car/0,0?number=0000000001", b"option number"),
+        (b"/nearest/v1/car/0,0?number=", b"option number"),
+        (b"/nearest/v1/car/0,0?number=1000000000", b"option number"),
     ];
-    for (path, name, taken, refused) in cases {
-        for value in taken {
-            assert!(rt; is_taken(&rt, path, name, value)?, "{name:?} {value:?}");
-        }
-        for value in refused {
-            let target = with_option(&rt, path, name, value)?;
-            let message = with_option(&rt, b"option ", name, b"")?;
-            let Some((_, message)) = message.as_slice().split_last() else {
-                panic!(rt; "a message");
-            };
-            assert!(rt;
-                is_refused(&rt, &target, InvalidOptions, message),
-                "{name:?} {value:?}"
-            );
-        }
+    for (target, message) in cases {
+        assert!(rt; is_refused(&rt, target, InvalidOptions, message));
     }
-    Ok(())
 }
 
 // The request of a target of the whole API.
@@ -370,35 +340,32 @@ fn an_option_that_is_not_given_has_its_default(rt: HostRuntime) {
 }
 
 #[test]
-fn a_table_and_a_nearest_have_options_of_their_own(rt: HostRuntime) {
-    let Service::Table(table) = asked(
-        &rt,
-        rt.alloc(),
-        b"/table/v1/car/0,0;0,1?sources=1;0;1&annotations=distance",
-    )
-    .service
-    else {
+fn a_table_has_options_of_its_own(rt: HostRuntime) {
+    let target = b"/table/v1/car/0,0;0,1?sources=1;0;1&annotations=distance";
+    let asked = asked(&rt, rt.alloc(), target);
+    let Service::Table(own) = &asked.service else {
         panic!(rt; "a table");
     };
-    let Chosen::Only(sources) = table.sources else {
-        panic!(rt; "some sources");
-    };
-    assert_eq!(rt; sources.as_slice(), [1, 0, 1].as_slice());
-    assert!(rt; matches!(table.destinations, Chosen::All));
     let distance = TableAnnotations {
         duration: false,
         distance: true,
     };
-    assert_eq!(rt; table.annotations, distance);
-    let Service::Nearest(nearest) = asked(
-        &rt,
-        rt.alloc(),
-        b"/nearest/v1/car/0,0?number=3&number=099",
-    ).service
-    else {
+    assert_eq!(rt; own.annotations, distance);
+    assert!(rt; matches!(own.destinations, Chosen::All));
+    match &own.sources {
+        Chosen::Only(sources) => assert_eq!(rt; sources.as_slice(), [1, 0, 1].as_slice()),
+        Chosen::All => panic!(rt; "some sources"),
+    }
+}
+
+#[test]
+fn a_nearest_has_a_number(rt: HostRuntime) {
+    let target = b"/nearest/v1/car/0,0?number=3&number=099";
+    let asked = asked(&rt, rt.alloc(), target);
+    let Service::Nearest(own) = asked.service else {
         panic!(rt; "places");
     };
-    assert_eq!(rt; nearest.number, 99);
+    assert_eq!(rt; own.number, 99);
 }
 
 #[test]
