@@ -720,8 +720,11 @@ fn totals((duration, length): Cost) -> String {
 /// The coordinates of a target, or its first refusal.
 fn request(target: &str) -> Result<Vec<Point>, Refusal> {
     let (path, query) = parted(target);
+    let (Some(path), Some(query)) = (decoded(path), decoded(query)) else {
+        return Err(("InvalidUrl", String::from("path")));
+    };
     let pieces: Vec<&str> = path.strip_prefix('/').unwrap_or("").split('/').collect();
-    if target.contains('%') || pieces.len() != 4 || pieces.contains(&"") {
+    if pieces.len() != 4 || pieces.contains(&"") {
         return Err(("InvalidUrl", String::from("path")));
     }
     if pieces[0] != "route" {
@@ -734,7 +737,8 @@ fn request(target: &str) -> Result<Vec<Point>, Refusal> {
         return Err(("InvalidOptions", String::from("option format")));
     }
     let mut coordinates = Vec::new();
-    for (number, text) in pieces[3].split(';').enumerate() {
+    let coordinates_text = pieces[3].strip_suffix(".json").unwrap_or(pieces[3]);
+    for (number, text) in coordinates_text.split(';').enumerate() {
         let coordinate = text.split_once(',').and_then(|(lon, lat)| Some((microdegrees(lon.as_bytes())?, microdegrees(lat.as_bytes())?)));
         coordinates.push(coordinate.ok_or_else(|| ("InvalidQuery", format!("coordinate {number}")))?);
     }
@@ -757,6 +761,25 @@ fn request(target: &str) -> Result<Vec<Point>, Refusal> {
         return Err(("TooBig", format!("{} coordinates, at most 500", coordinates.len())));
     }
     Ok(coordinates.iter().map(|(lon, lat)| Point { lon: *lon as i32, lat: *lat as i32 }).collect())
+}
+
+/// A text with its percent escapes read; a `%` without two hexadecimal digits stays.
+fn decoded(text: &str) -> Option<String> {
+    let digit = |byte: Option<&u8>| byte.and_then(|byte| (*byte as char).to_digit(16));
+    let (bytes, mut out, mut at) = (text.as_bytes(), Vec::new(), 0);
+    while at < bytes.len() {
+        match (bytes[at], digit(bytes.get(at + 1)), digit(bytes.get(at + 2))) {
+            (b'%', Some(high), Some(low)) => {
+                out.push((high * 16 + low) as u8);
+                at += 3;
+            }
+            (byte, _, _) => {
+                out.push(byte);
+                at += 1;
+            }
+        }
+    }
+    String::from_utf8(out).ok()
 }
 
 /// The path and the query: parted at the first `?` with as many `(` as `)` before it.
