@@ -2,4 +2,5 @@ pub mod Choosing
 pub mod FirstFailure
 pub mod Least
 pub mod Legs
+pub mod Tables
 pub mod WalkLaws
