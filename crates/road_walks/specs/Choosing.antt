@@ -4,9 +4,6 @@ use Rattle.search_graph.specs.declared.costs.DurLen.{DurLen}
 use Rattle.search_graph.specs.Costs.{NoDearer}
 use Rattle.search_graph.specs.Durations.{durlen_ops}
 use Rattle.plain_search.specs.declared.found.Found.{Found}
-use Rattle.road_base.specs.declared.segments.Place.{Place}
-use Rattle.road_places.specs.Permitted.{IsByTurns}
-use Rattle.road_places.specs.RoadMetric.{RoadMetric}
 use Rattle.road_places.specs.declared.walks.Route.{Route}
 
 -- of all walks that P tells with their costs it is one of the least cost, or none where P tells none
@@ -32,7 +29,3 @@ route_of found = record { cost = found.cost; walk = found.walk }
 abbrev pub IsCheapestOf : List (Option (Found DurLen)) → Option Route → Type 0
 IsCheapestOf all None = (a : Found DurLen) → ¬ Contains all (Some a)
 IsCheapestOf all (Some route) = ((a : Found DurLen) × Contains all (Some a) × (route ≡ route_of a)) × ((a : Found DurLen) → Contains all (Some a) → NoDearer durlen_ops route.cost a.cost)
-
--- some walk of two or more vertices from p to q costs d
-abbrev pub CanCostByTurns : RoadMetric → Place → Place → DurLen → Type 0
-CanCostByTurns road p q d = (walk : List ℕ) × IsByTurns road p q walk d

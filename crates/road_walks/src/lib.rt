@@ -18,6 +18,7 @@ mod leg_faults;
 mod legs;
 mod routes;
 mod rows;
+mod table_ends;
 mod tables;
 
 pub use leg_faults::LegFault;

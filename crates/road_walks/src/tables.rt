@@ -1,64 +1,28 @@
 //! What least walks cost from each of a list of places to each of another.
 
-ghost use Rattle.std.specs.Prelude.{◌≡◌, ℕ, ◌<◌, List, Some, IfOk};
+ghost use Rattle.std.specs.Prelude.{◌≡◌, ℕ, ◌<◌, Some, IfOk, option_map};
 ghost use Rattle.std.specs.List.{AllZip, Contains, slice_get};
 ghost use Rattle.search_graph.specs.Durations.{durlen_ops};
-ghost use Rattle.table_query.specs.LeastCosts.{IsLeastAmong};
 ghost use Rattle.table_query.specs.Tables.{IsTable};
-ghost use Rattle.road_places.specs.Ends.{AreAll};
-ghost use Rattle.road_places.specs.Permitted.{IsStart, IsTarget};
 ghost use Rattle.road_places.specs.Places.{IsPlaceOn};
 ghost use Rattle.road_places.specs.RoadMetric.{turn_graph};
-ghost use Rattle.road_walks.specs.Choosing.{CanCostByTurns};
 ghost use Rattle.road_walks.specs.Least.{most_units};
+ghost use Rattle.road_walks.specs.TableParts.{IsCellByTurns, IsRowByTurns};
 ghost use Rattle.road_walks.specs.Tables.{AreRowsOf, AreWithin, IsCellOf, IsRowOf};
 
 use crate::along_one::along_one;
-use crate::by_turns::{starts_from, targets_to};
 use crate::rows::Rows;
+use crate::table_ends::{starts_of, targets_of};
 use customized::Under;
 use plain_search::SearchFault;
 use road_base::Place;
+use road_places::Route;
 use search_graph::DurLen;
 use std::alloc::{AllocError, Global};
 use table_query::{Row, Starts, Targets, lesser, table};
 
-// Where the walks from each of the sources may start.
-fn starts_of(
-    alloc: Global,
-    under: &Under<'_>,
-    sources: &[Place],
-) -> Result<Vec<Starts<DurLen>>, AllocError>
-    requires { (k : ℕ) (place : _) → slice_get sources.now k ≡ Some place → IsPlaceOn under.now.road.network place }
-    ensures all { IfOk result (λ lists. AllZip (λ p list. AreAll (IsStart under.now.road.weights p) list) sources.now lists.items) }
-    ensures fit { IfOk result (λ lists. (list : _) (s : _) → Contains lists.items list → Contains list s → (s.vertex < under.now.frame.graph.vertices) × durlen_ops.units s.cost 1) }
-{
-    let mut lists = Vec::with_capacity(alloc, sources.len())?;
-    for place in sources {
-        lists.push(Starts::of(starts_from(alloc, under, *place)?))?;
-    }
-    Ok(lists)
-}
-
-// Where the walks to each of the destinations may end.
-fn targets_of(
-    alloc: Global,
-    under: &Under<'_>,
-    destinations: &[Place],
-) -> Result<Vec<Targets<DurLen>>, AllocError>
-    requires { (k : ℕ) (place : _) → slice_get destinations.now k ≡ Some place → IsPlaceOn under.now.road.network place }
-    ensures all { IfOk result (λ lists. AllZip (λ q list. AreAll (IsTarget under.now.road.weights q) list) destinations.now lists.items) }
-    ensures fit { IfOk result (λ lists. (list : _) (t : _) → Contains lists.items list → Contains list t → (t.vertex < under.now.frame.graph.vertices) × durlen_ops.units t.cost 1) }
-{
-    let mut lists = Vec::with_capacity(alloc, destinations.len())?;
-    for place in destinations {
-        lists.push(Targets::of(targets_to(alloc, under, *place)?))?;
-    }
-    Ok(lists)
-}
-
 // What the least walks over the turns cost from each list of starts to each list of targets.
-fn table_over_turns(
+fn over_turns(
     alloc: Global,
     under: &Under<'_>,
     sources: &[Starts<DurLen>],
@@ -76,8 +40,32 @@ fn table_over_turns(
     }
 }
 
-// What the least walk from a place to another costs, of which `by_turns` is what the least of two or more
-// vertices does.
+// For each source what the least walks of two or more vertices to the destinations cost.
+fn rows_by_turns(
+    alloc: Global,
+    under: &Under<'_>,
+    sources: &[Place],
+    destinations: &[Place],
+) -> Result<Vec<Row<DurLen>>, AllocError>
+    requires sources { (k : ℕ) (place : _) → slice_get sources.now k ≡ Some place → IsPlaceOn under.now.road.network place }
+    requires destinations { (k : ℕ) (place : _) → slice_get destinations.now k ≡ Some place → IsPlaceOn under.now.road.network place }
+    ensures { IfOk result (λ rows. AllZip (IsRowByTurns under.now.road destinations.now) sources.now rows.items) }
+{
+    let starts = starts_of(alloc, under, sources)?;
+    let targets = targets_of(alloc, under, destinations)?;
+    let rows = over_turns(alloc, under, &starts, &targets)?;
+    Ok(rows)
+}
+
+// What a route costs, where there is one.
+fn cost_of(route: Option<Route>) -> Option<DurLen>
+    ensures { result ≡ option_map (λ r. r.cost) route }
+{
+    let route = route?;
+    Some(route.cost)
+}
+
+// What the least walk from a place to another costs, where that of two or more vertices costs `by_turns`.
 fn cell_of(
     alloc: Global,
     under: &Under<'_>,
@@ -87,15 +75,15 @@ fn cell_of(
 ) -> Result<Option<DurLen>, AllocError>
     requires from { IsPlaceOn under.now.road.network from }
     requires to { IsPlaceOn under.now.road.network to }
-    requires by_turns { IsLeastAmong durlen_ops (CanCostByTurns under.now.road from to) by_turns }
+    requires by_turns { IsCellByTurns under.now.road from to by_turns }
     ensures { IfOk result (IsCellOf under.now.road from to) }
 {
     let along = along_one(alloc, under.base(), from, to)?;
-    let along = along.map(|route| route.cost);
+    let along = cost_of(along);
     Ok(lesser(along, by_turns))
 }
 
-// The row of a source, of which `by_turns` has what the least walks of two or more vertices cost.
+// The row of a source, where the least walks of two or more vertices cost `by_turns`.
 fn row_of(
     alloc: Global,
     under: &Under<'_>,
@@ -105,7 +93,7 @@ fn row_of(
 ) -> Result<Row<DurLen>, AllocError>
     requires from { IsPlaceOn under.now.road.network from }
     requires destinations { (k : ℕ) (place : _) → slice_get destinations.now k ≡ Some place → IsPlaceOn under.now.road.network place }
-    requires by_turns { AllZip (λ q value. IsLeastAmong durlen_ops (CanCostByTurns under.now.road from q) value) destinations.now by_turns.now }
+    requires by_turns { IsRowByTurns under.now.road destinations.now from by_turns.now }
     ensures { IfOk result (IsRowOf under.now.road destinations.now from) }
 {
     let mut values = Vec::with_capacity(alloc, destinations.len())?;
@@ -130,13 +118,13 @@ pub fn cost_rows(
     ensures least { IfOk result (AreRowsOf under.now.road sources.now destinations.now) }
     ensures bound { IfOk result (AreWithin (most_units under.now.road.network)) }
 {
-    let starts = starts_of(alloc, under, sources)?;
-    let targets = targets_of(alloc, under, destinations)?;
-    let by_turns = table_over_turns(alloc, under, &starts, &targets)?;
+    let by_turns = rows_by_turns(alloc, under, sources, destinations)?;
+    let _small = under.base();
     let mut rows = Vec::with_capacity(alloc, sources.len())?;
     for number in 0..sources.len() {
         let values = by_turns[number].as_slice();
-        rows.push(row_of(alloc, under, sources[number], destinations, values)?)?;
+        let row = row_of(alloc, under, sources[number], destinations, values)?;
+        rows.push(row)?;
     }
     Ok(Rows::of(rows))
 }

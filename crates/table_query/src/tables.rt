@@ -40,6 +40,30 @@ fn row_from<C: Cost>(
     Ok(Row::of(values))
 }
 
+// The table along these arcs.
+fn rows_along<C: Cost>(
+    alloc: Global,
+    along: &Along<C>,
+    sources: &[Starts<C>],
+    targets: &[Targets<C>],
+) -> Result<Vec<Row<C>>, AllocError>
+    requires weights { IsWeighting C.ops along.now.graph.now along.now.weights.now }
+    requires sources { (list : List (Start C)) (s : Start C) → Contains sources.now list → Contains list s → (s.vertex < along.now.graph.now.vertices) × C.ops.units s.cost 1 }
+    requires targets { (list : List (Target C)) (t : Target C) → Contains targets.now list → Contains list t → (t.vertex < along.now.graph.now.vertices) × C.ops.units t.cost 1 }
+    ensures { IfOk result (λ rows. IsTable C.ops along.now.graph.now along.now.weights.now sources.now targets.now rows.items) }
+{
+    let nowhere = Starts::of(Vec::new(alloc));
+    let mut search = Search::begin(alloc, along, nowhere.as_slice())?;
+    let mut rows = Vec::with_capacity(alloc, sources.len())?;
+    for list in sources {
+        let starts = list.as_slice();
+        search.restart(along, starts)?;
+        let row = row_from(alloc, along, &mut search, starts, targets)?;
+        rows.push(row)?;
+    }
+    Ok(rows)
+}
+
 /// For each list of starts a row, and in it for each list of targets the least that a walk from one of the starts
 /// to one of the targets costs, or `None` exactly where there is no walk. Where a walk begins and ends at one
 /// vertex, it leads round.
@@ -58,12 +82,6 @@ pub fn table<C: Cost>(
     ensures { IfOk result (λ rows. IsTable C.ops graph.now weights.now sources.now targets.now rows.items) }
 {
     let along = Along { graph, weights };
-    let mut search = Search::begin(alloc, &along, &[])?;
-    let mut rows = Vec::with_capacity(alloc, sources.len())?;
-    for starts in sources {
-        search.restart(&along, starts.as_slice())?;
-        let row = row_from(alloc, &along, &mut search, starts.as_slice(), targets)?;
-        rows.push(row)?;
-    }
+    let rows = rows_along(alloc, &along, sources, targets)?;
     Ok(rows)
 }
