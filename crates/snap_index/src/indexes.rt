@@ -5,7 +5,7 @@
 //! extent. What lies beyond an extent can be passed by with all that is in it, wherever the lines are and however
 //! long; the order serves the speed alone.
 
-ghost use Rattle.std.specs.Prelude.{◌≡◌, ℕ, ◌+◌, ◌*◌, ◌<◌, ◌≤◌, ◌/◌, ◌^◌, List, IfOk, OnOk, length, map};
+ghost use Rattle.std.specs.Prelude.{◌≡◌, ℕ, ◌+◌, ◌*◌, ◌<◌, ◌≤◌, ◌/◌, ◌^◌, List, IfOk, OnOk, Some, length};
 ghost use Rattle.std.specs.List.{slice_get};
 ghost use Rattle.snap_index.specs.Index.{Cover, HasAt, HasLine, IsIndexOf, IsOrder};
 ghost use Rattle.snap_index.specs.declared.indexes.Spot.{Spot};
@@ -69,7 +69,8 @@ fn order_of(alloc: Global, lines: &[SegmentEnds]) -> Result<Vec<u32>, AllocError
 // The segments in the order of their numbers, with their keys.
 fn spots_of(alloc: Global, lines: &[SegmentEnds]) -> Result<Vec<Spot>, AllocError>
     requires { length lines.now < 2 ^ 30 }
-    ensures { IfOk result (λ spots. IsOrder lines.now (map (λ (spot : Spot). spot.segment) spots.items)) }
+    ensures count { IfOk result (λ spots. length spots.items ≡ length lines.now) }
+    ensures numbered { IfOk result (λ spots. (i : ℕ) (spot : Spot) → slice_get spots.items i ≡ Some spot → spot.segment ≡ i) }
 {
     let mut spots = Vec::with_capacity(alloc, lines.len())?;
     for (segment, line) in lines.iter().enumerate() {
