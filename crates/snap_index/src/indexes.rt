@@ -60,7 +60,8 @@ fn order_of(alloc: Global, lines: &[SegmentEnds]) -> Result<Vec<u32>, AllocError
     let mut spots = spots_of(alloc, lines)?;
     spots.sort_unstable_by_key(|spot| (spot.key, spot.segment));
     let mut order = Vec::with_capacity(alloc, spots.len())?;
-    for spot in &spots {
+    for i in 0..spots.len() {
+        let spot = spots[i];
         order.push(spot.segment)?;
     }
     Ok(order)
@@ -110,7 +111,9 @@ fn extents_of(
 {
     let mut extents = Vec::new(alloc);
     for i in 0..order.len() {
-        add(&mut extents, i, extent_of(lines[order[i] as usize]))?;
+        let segment = order[i];
+        let line = lines[segment as usize];
+        add(&mut extents, i, extent_of(line))?;
     }
     Ok(extents)
 }
@@ -121,7 +124,8 @@ fn extents_over(alloc: Global, parts: &[Extent]) -> Result<Vec<Extent>, AllocErr
 {
     let mut extents = Vec::new(alloc);
     for i in 0..parts.len() {
-        add(&mut extents, i, parts[i])?;
+        let part = parts[i];
+        add(&mut extents, i, part)?;
     }
     Ok(extents)
 }

@@ -1,10 +1,12 @@
 //! Snapping coordinates to roads.
 
 ghost use Rattle.std.specs.Prelude.{◌≡◌, ℕ, ◌*◌, ◌<◌, ◌≤◌, IfOk, IfSome, length, MatchOption};
+ghost use Rattle.std.specs.List.{AllByRecursion};
 ghost use Rattle.geo_integer.specs.Position.{position_of};
 ghost use Rattle.snap_index.specs.Candidates.{places_found};
 ghost use Rattle.snap_index.specs.Ends.{all_ends};
 ghost use Rattle.snap_index.specs.Firsts.{AreFirsts};
+ghost use Rattle.snap_index.specs.declared.snapping.Snapped.{Snapped};
 ghost use Rattle.snap_index.specs.Snapped.{HasNoPlace, IsSnapped};
 
 use crate::candidates::Candidate;
@@ -67,7 +69,8 @@ pub fn nearest(
 ) -> Result<Vec<Snapped>, AllocError>
     requires grid { grid.now ≡ all_ends network.now.segments }
     requires weights { 2 * length network.now.segments ≤ length base.now.weights.vertex }
-    ensures { IfOk result (λ found. AreFirsts network.now.segments base.now.weights filter (position_of from) number found.items) }
+    ensures firsts { IfOk result (λ found. AreFirsts network.now.segments base.now.weights filter (position_of from) number found.items) }
+    ensures placed { IfOk result (λ found. AllByRecursion (λ (one : Snapped). (one.place.segment < length network.now.segments) × (one.place.at ≤ 1024)) found.items) }
 {
     let mut slots = vec![in alloc; None; number as usize]?;
     search(grid, base, from, filter.heading, &mut slots);
@@ -84,8 +87,8 @@ fn found(
     ensures { IfOk result (λ found. found.items ≡ places_found radius (position_of from) slots.now) }
 {
     let mut found = Vec::new(alloc);
-    for slot in slots {
-        let Some(candidate) = *slot else {
+    for i in 0..slots.len() {
+        let Some(candidate) = slots[i] else {
             return Ok(found);
         };
         if !is_in_reach(radius, from, candidate.spot) {

@@ -24,6 +24,6 @@ returns c = λ t spot within cos.
     let e : c.min-east.result ≤ unsigned_abs (spot.lon -ℤ c.args.from.lon) = let g = lon spot.lon within.west within.east in omega (arith, g) in
     let n : c.min-north.result ≤ unsigned_abs (spot.lat -ℤ c.args.from.lat) = let g = lat spot.lat within.south within.north in omega (arith, g) in
     let most = plane-grows (position_of c.args.from) spot c.min-east.result c.min-north.result c.args.cosine e n cos in
-    let p : c.plane.result ≡ plane_of (pos c.min-east.result) (pos c.min-north.result) c.args.cosine = ? in
+    let p : c.plane.result ≡ plane_of (pos c.min-east.result) (pos c.min-north.result) c.args.cosine = grind (arith, to_z-of_z) in
     let lt : c.in-Some.far < c.plane.result = ltb-true _ _ t in
     subst (λ far. IsFarther far (remoteness (position_of c.args.from) spot)) (sym c.in-Some.is) (omega (arith, lt, p, most))

@@ -4,5 +4,5 @@ use Rattle.snap_index.specs.Candidates.{places_found}
 use Rattle.snap_index.proofs.snapping.found.Given as goal
 
 -- the places so far, and those to come
-abbrev pub invariant-loop-slot : goal.invariant-loop-slot
-invariant-loop-slot l = l.found.items ++ places_found l.radius (position_of l.from) (drop l.slot-index l.slots) ≡ places_found l.radius (position_of l.from) l.slots
+abbrev pub invariant-loop-i : goal.invariant-loop-i
+invariant-loop-i l = l.found.items ++ places_found l.radius (position_of l.from) (drop l.i l.slots) ≡ places_found l.radius (position_of l.from) l.slots
