@@ -1,11 +1,11 @@
 -- The places in the slots of a search.
 use Rattle.std.proofs.Common.{◌≡◌, ℕ, ◌+◌, ◌-◌, ◌<◌, ◌≤◌, ◌⊎◌, inl, inr, Bool, true, false, List, [], ◌∷◌, ◌++◌, length, drop, zero, suc, refl, sym, ap, subst, arith, ◌∙◌}
-use Rattle.std.specs.Prelude.{Option, Some, None, nat_le, option_map}
+use Rattle.std.specs.Prelude.{IfOk, Option, Some, None, Result, Ok, Err, nat_le, option_map}
 use Rattle.std.specs.List.{AllByRecursion, slice_get}
 use Rattle.std.proofs.lemmas.Bool.Decides.{nat_tests}
 use Rattle.std.proofs.lemmas.List.{append_assoc}
 use Rattle.std.proofs.lemmas.Option.{same_Some, slice_get-map, slice_get_within}
-use Rattle.geo_integer.specs.Plane.{plane_between}
+use Rattle.geo_integer.specs.Plane.{distance_of, plane_between}
 use Rattle.geo_integer.specs.Position.{Position, position_of}
 use Rattle.geo_integer.specs.Project.{place_of, position_at, scalar_product}
 use Rattle.search_graph.specs.declared.costs.DurLen.{DurLen}
@@ -86,6 +86,15 @@ module _ (radius : Option ℕ) (from : Position) where
         ∙ append_assoc front (snapped_of from c ∷ []) (places_found radius from (drop (i + 1) slots))
         ∙ ap (λ (l : List Snapped). front ++ l) (sym (places-near c (drop (i + 1) slots) near) ∙ ap (places_found radius from) (sym (drop-get slots i (Some c) e)))
         ∙ h
+
+-- a result that is none of memory
+pub if-ok : {T E : Type 0} (r : Result T E) (P Q : T → Type 0) → ((x : T) → P x → Q x) → IfOk r P → IfOk r Q
+if-ok (Ok x) P Q f h = f x h
+if-ok (Err e) P Q f h = tt
+
+pub decimetres-are : (from spot : Position) → distance_of from spot ≡ decimetres_between from spot
+unfolding decimetres_between
+decimetres-are from spot = refl
 
 -- a candidate by its segment
 pub record IsOnSegment (segments : List Segment) (w : Weighting DurLen) (heading : Option Heading) (from : Position) (c : Candidate) : Type 0 where
@@ -205,7 +214,7 @@ module _ (segments : List Segment) (w : Weighting DurLen) (filter : Filter) (fro
 
   pub found-length : (slots : List (Option Candidate)) → length (places_found filter.radius from slots) ≤ length slots
   found-length [] = subst (λ (l : List Snapped). length l ≤ 0) (sym (places-none filter.radius from)) (omega arith)
-  found-length (None ∷ rest) = subst (λ (l : List Snapped). length l ≤ length (None {A = Candidate} ∷ rest)) (sym (places-empty filter.radius from rest)) (omega arith)
+  found-length (None ∷ rest) = subst (λ (l : List Snapped). length l ≤ suc (length rest)) (sym (places-empty filter.radius from rest)) (omega arith)
   found-length (Some c ∷ rest) = by-near (λ (l : List Snapped). length l ≤ suc (length rest)) c rest (omega arith) (λ near. let less = found-length rest in omega (arith, less))
 
   -- a kept segment that stands in the slots was found, or comes behind all that were

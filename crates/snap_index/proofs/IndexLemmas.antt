@@ -50,7 +50,7 @@ set-stays xs n k x y line is f has =
 abbrev pub segments_of : List Spot → List ℕ
 segments_of spots = map (λ (spot : Spot). spot.segment) spots
 
-segment-at : (spots : List Spot) (i : ℕ) (spot : Spot) → slice_get spots i ≡ Some spot → slice_get (segments_of spots) i ≡ Some spot.segment
+pub segment-at : (spots : List Spot) (i : ℕ) (spot : Spot) → slice_get spots i ≡ Some spot → slice_get (segments_of spots) i ≡ Some spot.segment
 segment-at spots i spot e = slice_get-map (λ (x : Spot). x.segment) spots i ∙ ap (option_map (λ (x : Spot). x.segment)) e
 
 spot-at : (spots : List Spot) (i s : ℕ) → slice_get (segments_of spots) i ≡ Some s → (spot : Spot) × (slice_get spots i ≡ Some spot) × (spot.segment ≡ s)

@@ -170,6 +170,10 @@ all-each : (P Q : Option Candidate → Type 0) → ((slot : Option Candidate) �
 all-each P Q f [] all = tt
 all-each P Q f (slot ∷ rest) all = (f slot all.0, all-each P Q f rest all.1)
 
+pub all-push : (P : Option Candidate → Type 0) (slots : List (Option Candidate)) (slot : Option Candidate) → AllByRecursion P slots → P slot → AllByRecursion P (slots ++ slot ∷ [])
+all-push P [] slot all p = (p, tt)
+all-push P (first ∷ rest) slot all p = (all.0, all-push P rest slot all.1 p)
+
 precedes-empty : (c : Candidate) (slot : Option Candidate) → IsEmptySlot slot → PrecedesSlot c slot
 precedes-empty c None e = tt
 precedes-empty c (Some d) e = cc
@@ -257,3 +261,11 @@ behind-stands remote s last (slot ∷ rest) h l lt =
 pub behind-last : (remote s : ℕ) (last : Option ℕ) (slots : List (Option Candidate)) → Ascend slots → IfSome last (λ n. LastIs n slots) → IsFarther last remote → Stands remote s slots
 behind-last remote s None slots h l far = absurd far
 behind-last remote s (Some n) slots h l far = behind-stands remote s n slots h l far
+
+slot-empty : (lines : List SegmentEnds) (w : Weighting DurLen) (heading : Option Heading) (from : Position) (slot : Option Candidate) → IsEmptySlot slot → IsSlot lines w heading from slot
+slot-empty lines w heading from None e = tt
+slot-empty lines w heading from (Some c) e = cc
+
+-- empty slots are slots
+pub empty-slots : (lines : List SegmentEnds) (w : Weighting DurLen) (heading : Option Heading) (from : Position) (slots : List (Option Candidate)) → AllByRecursion IsEmptySlot slots → AreSlots lines w heading from slots
+empty-slots lines w heading from slots all = record { each = all-each IsEmptySlot (IsSlot lines w heading from) (slot-empty lines w heading from) slots all; order = empty-ascends slots all }

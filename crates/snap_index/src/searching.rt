@@ -240,14 +240,15 @@ fn passed_by(index: &Index, from: Point, cosine: u32, far: Option<u128>, at: usi
     ensures bound { result ≤ 4096 }
 {
     if is_passed(&index.groups, at, 4096, from, cosine, far) {
-        4096
-    } else if is_passed(&index.blocks, at, 256, from, cosine, far) {
-        256
-    } else if is_passed(&index.leaves, at, 16, from, cosine, far) {
-        16
-    } else {
-        0
+        return 4096;
     }
+    if is_passed(&index.blocks, at, 256, from, cosine, far) {
+        return 256;
+    }
+    if is_passed(&index.leaves, at, 16, from, cosine, far) {
+        return 16;
+    }
+    0
 }
 
 // Whether this is the first of so many numbers that have one of these extents, and it lies beyond.
