@@ -7,7 +7,7 @@ use Rattle.std.proofs.Math.ListN.{set}
 use Rattle.std.proofs.lemmas.Bool.{cases_lt}
 use Rattle.std.proofs.lemmas.Bool.Decides.{nat_tests}
 use Rattle.std.proofs.lemmas.Option.{get_or_from_slice_get, slice_get_within}
-use Rattle.std.proofs.lemmas.List.{append_assoc, drop-set-lt, take-set, drop-set, take_more_set}
+use Rattle.std.proofs.lemmas.List.{append_assoc, drop-set-lt, take-set, drop-set, take_all, take_more_set}
 use Rattle.list_lemmas.proofs.Fronts.{take-get}
 use Rattle.list_lemmas.proofs.Gets.{get_some}
 use Rattle.geo_integer.specs.Position.{Position}
@@ -151,6 +151,15 @@ module _ (slots : List (Option Candidate)) (i : ℕ) (c : Candidate) where
 -- the same for the slots and the candidate of the next step
 pub same-step : (s t : List (Option Candidate)) (m n : Candidate) (i : ℕ) (all : List (Option Candidate)) → t ≡ s → n ≡ m → take (i + 1) s ++ with_candidate m (drop (i + 1) s) ≡ all → take (i + 1) t ++ with_candidate n (drop (i + 1) t) ≡ all
 same-step s t m n i all e f h = cc
+
+-- a list that was lent as a whole, and given back
+append-none : {X : Type 0} (xs : List X) → xs ++ [] ≡ xs
+append-none [] = refl
+append-none (x ∷ xs) = ap (λ ys. x ∷ ys) (append-none xs)
+
+pub given-back : {X : Type 0} (n : ℕ) (xs ys : List X) → length ys ≡ length xs → n ≡ length xs → take n (xs ++ drop (length xs) ys) ≡ xs
+given-back n xs ys e f =
+    ap (λ back. take n (xs ++ back)) (drop-all ys (length xs) (omega (arith, e))) ∙ ap (take n) (append-none xs) ∙ take_all n xs (omega (arith, f))
 
 -- what is read of a list is its element
 pub read-is : {X : Type 0} (xs : List X) (i : ℕ) (d x : X) → i < length xs → get_or xs i d ≡ x → slice_get xs i ≡ Some x

@@ -18,6 +18,6 @@ loop-i-preserved c =
 pub returns : goal.returns
 returns c =
     let spots : List Spot = c.sort_unstable_by_key.new.self.items in
-    let all : length (segments_of spots) ≤ c.loop-i.i = omega (arith, length-map (λ (spot : Spot). spot.segment) spots) in
+    let all : length (segments_of spots) ≤ c.loop-i.i = omega (arith, length-map spots (λ (spot : Spot). spot.segment)) in
     subst (λ (l : List ℕ). IsOrder c.args.lines.now l) (sym (c.loop-i.invariant ∙ take_all c.loop-i.i (segments_of spots) all))
     (order-is c.args.lines.now c.in_ok-spots.spots.items spots c.in_ok-spots.ensures.count c.in_ok-spots.ensures.numbered c.sort_unstable_by_key.ensures.permutation)

@@ -11,7 +11,7 @@ use Rattle.snap_index.specs.declared.candidates.Candidate.{Candidate}
 use Rattle.snap_index.specs.declared.grids.SegmentEnds.{SegmentEnds}
 use Rattle.snap_index.specs.declared.snapping.Snapped.{Snapped}
 use Rattle.snap_index.proofs.FoundLemmas.{firsts-are, found-placed, if-ok}
-use Rattle.snap_index.proofs.SlotLemmas.{empty-slots}
+use Rattle.snap_index.proofs.SlotLemmas.{empty-slots, given-back}
 use Rattle.snap_index.proofs.snapping.nearest.Goals as goal
 
 pub search-requires-clause-slots : goal.search-requires-clause-slots
@@ -25,8 +25,11 @@ returns-clause-firsts c =
     subst (λ (lines : List SegmentEnds). AreSlots lines c.args.base.now.weights c.args.filter.heading (position_of c.args.from) c.search.new.slots) c.requires.grid c.search.ensures.slots in
     let judged : (s : ℕ) → IsJudged (all_ends c.args.network.now.segments) c.args.base.now.weights c.args.filter.heading (position_of c.args.from) None c.search.new.slots s =
     subst (λ (lines : List SegmentEnds). (s : ℕ) → IsJudged lines c.args.base.now.weights c.args.filter.heading (position_of c.args.from) None c.search.new.slots s) c.requires.grid c.search.ensures.judged in
-    let same : c.deref.result.now ≡ c.search.new.slots = c.deref.ensures.value in
-    let count : length c.search.new.slots ≡ c.args.number = ? in
+    let items = ap length c.deref_mut.ensures.value in
+    let whole : length c.in_ok-slots.slots.items ≡ length c.search.new.slots = omega (arith, items) in
+    let all : c.in_ok-slots.slots.len ≡ length c.search.new.slots = omega (arith, items) in
+    let same : c.deref.result.now ≡ c.search.new.slots = c.deref.ensures.value ∙ given-back c.in_ok-slots.slots.len c.search.new.slots c.in_ok-slots.slots.items whole all in
+    let count : length c.search.new.slots ≡ c.args.number = let given = c.in_ok-slots.ensures.count in omega (arith, whole, given) in
     if-ok c.found.result _ (λ found. AreFirsts c.args.network.now.segments c.args.base.now.weights c.args.filter (position_of c.args.from) c.args.number found.items)
         (λ found e. subst (λ (l : List Snapped). AreFirsts c.args.network.now.segments c.args.base.now.weights c.args.filter (position_of c.args.from) c.args.number l) (sym (e ∙ ap (places_found c.args.filter.radius (position_of c.args.from)) same))
             (firsts-are c.args.network.now.segments c.args.base.now.weights c.args.filter (position_of c.args.from) c.args.number c.search.new.slots count are judged))
@@ -36,7 +39,10 @@ pub returns-clause-placed : goal.returns-clause-placed
 returns-clause-placed c =
     let are : AreSlots (all_ends c.args.network.now.segments) c.args.base.now.weights c.args.filter.heading (position_of c.args.from) c.search.new.slots =
     subst (λ (lines : List SegmentEnds). AreSlots lines c.args.base.now.weights c.args.filter.heading (position_of c.args.from) c.search.new.slots) c.requires.grid c.search.ensures.slots in
-    let same : c.deref.result.now ≡ c.search.new.slots = c.deref.ensures.value in
+    let items = ap length c.deref_mut.ensures.value in
+    let whole : length c.in_ok-slots.slots.items ≡ length c.search.new.slots = omega (arith, items) in
+    let all : c.in_ok-slots.slots.len ≡ length c.search.new.slots = omega (arith, items) in
+    let same : c.deref.result.now ≡ c.search.new.slots = c.deref.ensures.value ∙ given-back c.in_ok-slots.slots.len c.search.new.slots c.in_ok-slots.slots.items whole all in
     if-ok c.found.result _ (λ found. AllByRecursion (λ (one : Snapped). (one.place.segment < length c.args.network.now.segments) × (one.place.at ≤ 1024)) found.items)
         (λ found e. subst (λ (l : List Snapped). AllByRecursion (λ (one : Snapped). (one.place.segment < length c.args.network.now.segments) × (one.place.at ≤ 1024)) l) (sym (e ∙ ap (places_found c.args.filter.radius (position_of c.args.from)) same))
             (found-placed c.args.network.now.segments c.args.base.now.weights c.args.filter (position_of c.args.from) c.search.new.slots are))
