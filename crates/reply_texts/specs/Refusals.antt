@@ -2,7 +2,7 @@
 -- messages are this project's rule). The bytes of a reply are the compact text of its value.
 use Rattle.std.specs.Prelude.{ℕ, List, [], ◌∷◌, ◌++◌, codes}
 use Rattle.std.specs.Fmt.{decimal}
-use Rattle.json_text.specs.Values.{JsonValue, text, compact_text}
+use Rattle.json_text.specs.Values.{JsonValue, text}
 use Rattle.json_text.specs.Wholes.{object_of}
 use Rattle.reply_texts.specs.Codes.{code_text, lack_code, lack_count, lack_word}
 use Rattle.reply_texts.specs.declared.reply_codes.Code.{Code}
@@ -40,8 +40,9 @@ bad_request_value = object_of (code_member code.BadRequest ∷ [])
 abbrev pub busy_value : JsonValue
 busy_value = object_of ((codes "code", text (codes "Busy")) ∷ [])
 
+-- the texts of these two, byte by byte
 abbrev pub bad_request_text : List ℕ
-bad_request_text = compact_text bad_request_value
+bad_request_text = codes "{\"code\":\"BadRequest\"}"
 
 abbrev pub busy_text : List ℕ
-busy_text = compact_text busy_value
+busy_text = codes "{\"code\":\"Busy\"}"
