@@ -9,7 +9,7 @@ use Rattle.url_read.specs.declared.option_types.Geometries.{Geometries}
 use Rattle.url_read.specs.declared.option_types.Geometries.TheVariants as geometries
 use Rattle.url_read.specs.declared.option_types.Overview.{Overview}
 use Rattle.url_read.specs.declared.option_types.Overview.TheVariants as overview
-use Rattle.reply_texts.specs.Simplified.{simplified, tolerance_of}
+use Rattle.line_simplify.specs.Simplified.{simplified, tolerance_of}
 
 -- longitude first, in degrees
 abbrev pub point_value : Point → JsonValue
