@@ -1,6 +1,6 @@
 //! Road networks.
 
-ghost use Rattle.std.specs.Prelude.{◌≡◌, ℕ, IfNone, IfSome, ◌*◌, ◌/◌, ◌^◌, ◌<◌, ◌≤◌, IfOk, IfErr, OnOk, Some, All, length, option_map};
+ghost use Rattle.std.specs.Prelude.{◌≡◌, ℕ, IfNone, IfSome, ◌*◌, ◌/◌, ◌^◌, ◌<◌, ◌≤◌, IfOk, IfErr, OnOk, Some, All, length, MatchOption, option_map};
 ghost use Rattle.std.specs.List.{slice_get};
 ghost use Rattle.edge_graph.specs.BuildCause.{IsBuildFault, IsWithinLimits};
 ghost use Rattle.edge_graph.specs.Leaving.{AreLeaving};
@@ -13,6 +13,7 @@ ghost use Rattle.edge_graph.specs.Segment.{segments};
 ghost use Rattle.edge_graph.specs.Fans.{AreExits, AreFans};
 ghost use Rattle.geo_integer.specs.Position.{position_of};
 ghost use Rattle.geo_integer.specs.Project.{position_at};
+ghost use Rattle.search_graph.specs.Digraph.{IsArc};
 ghost use Rattle.search_graph.specs.Faults.{AllInRange};
 ghost use Rattle.way_profile.specs.Vehicle.{IsSpeed};
 
@@ -55,6 +56,21 @@ impl Model for Network {
     ghost view = { λ n. record { segments = n.roads; turns = n.graph.arcs; profile = n.profile; applied = n.applied; ignored = n.ignored } };
 
     ghost invariant = { λ n. AreNetworkParts n.roads n.exits.items n.graph };
+}
+
+// The first arc from `d` to `e`, or None where there is none.
+fn arc_between(graph: &Graph, d: u32, e: u32) -> Option<u32>
+    requires { d < graph.now.vertices }
+    ensures { MatchOption result ((i : ℕ) → ¬ IsArc graph.now i d e) (λ i. IsArc graph.now i d e) }
+{
+    let row = graph.out(d);
+    for place in 0..row.len() {
+        let arc = row.get(place);
+        if graph.arc(arc).1 == e {
+            return Some(arc);
+        }
+    }
+    None
 }
 
 // The segments of the roads that the vehicle may use.
@@ -239,6 +255,14 @@ impl Network {
         ensures few { result ≤ 2 ^ 26 }
     {
         self.graph.arcs()
+    }
+
+    /// The number of the turn from vertex `d` onto vertex `e`, or None exactly where there is none.
+    pub fn turn(&self, d: u32, e: u32) -> Option<u32>
+        requires { d < 2 * length self.now.segments }
+        ensures { MatchOption result ((i : ℕ) → ¬ (slice_get self.now.turns i ≡ Some (d, e))) (λ i. slice_get self.now.turns i ≡ Some (d, e)) }
+    {
+        arc_between(&self.graph, d, e)
     }
 
     /// The graph of the vertices, whose arcs are the turns: arc i is turn i. The turns are numbered from 0

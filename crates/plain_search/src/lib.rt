@@ -16,5 +16,6 @@ mod queries;
 #[cfg(test)]
 mod tests;
 
+pub use along::Along;
 pub use found::{Found, SearchFault};
 pub use queries::least_from;

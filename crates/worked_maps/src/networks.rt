@@ -65,6 +65,20 @@ fn a_way_has_both_directions_and_turns_back_at_its_ends(rt: HostRuntime) -> Resu
     Ok(())
 }
 
+#[test]
+fn a_turn_is_found_by_its_ends(rt: HostRuntime) -> Result<(), AllocError> {
+    let alloc = rt.alloc();
+    let built = Network::build(alloc, &bend(alloc, &[])?, &profile_of(alloc, CAR)?);
+    let Ok(network) = built else {
+        return Err(AllocError);
+    };
+    assert_eq!(rt; network.segments(), 2);
+    assert_eq!(rt; network.turn(0, 2), Some(0));
+    assert_eq!(rt; network.turn(3, 1), Some(3));
+    assert_eq!(rt; network.turn(0, 1), None);
+    Ok(())
+}
+
 // A street both ways, a footway, and a one-way street whose nodes follow themselves or lie nowhere.
 fn two_streets(alloc: Global) -> Result<Vec<Object>, AllocError> {
     let mut objects = Vec::new(alloc);

@@ -1,0 +1,11 @@
+use Rattle.std.proofs.Common.{◌≡◌, ℕ, ◌<◌, ◌↔◌, Some, length}
+use Rattle.std.specs.List.{Contains, slice_get}
+use Rattle.search_graph.specs.Digraph.{IsArc, Leaves}
+use Rattle.edge_graph.proofs.networks.arc_between.Given as goal
+
+-- the row has the arcs that leave d, and none of those looked at leads to e
+abbrev pub invariant-loop-place : goal.invariant-loop-place
+invariant-loop-place l =
+    ((i : ℕ) → Contains l.row i ↔ Leaves l.graph i l.d)
+    × (l.place-end ≡ length l.row)
+    × ((k i : ℕ) → k < l.place → slice_get l.row k ≡ Some i → ¬ IsArc l.graph i l.d l.e)
