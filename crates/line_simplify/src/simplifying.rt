@@ -1,0 +1,79 @@
+//! Which points of a line stay.
+
+ghost use Rattle.std.specs.Prelude.{◌≡◌, ◌<◌, ◌≤◌, All, IfOk, IfSome, List, MatchOption, length};
+ghost use Rattle.road_base.specs.declared.coordinates.Point.{Point};
+ghost use Rattle.line_simplify.specs.Farthest.{IsFarthestAt};
+ghost use Rattle.line_simplify.specs.Simplified.{IsSimplified, limit_of, offset_of, simplified};
+
+use geo_integer::{plane_distance, point_at, project};
+use road_base::Point;
+use std::alloc::{AllocError, Global};
+
+/// The points that stay of a line with a tolerance in microdegrees of latitude, in their order. The first and
+/// the last one stay. It answers an error only where memory runs out.
+///
+/// Of n points it looks at about n log n, and at n squared at most, where each that stays is next to an end of
+/// those between which it lies.
+pub fn simplify(alloc: Global, points: &[Point], tolerance: u32) -> Result<Vec<Point>, AllocError>
+    ensures value { IfOk result (λ kept. kept.items ≡ simplified tolerance points.now) }
+    ensures rule { IfOk result (λ kept. IsSimplified tolerance points.now kept.items) }
+    ensures only { IfOk result (λ kept. (other : List Point) → IsSimplified tolerance points.now other → other ≡ kept.items) }
+{
+    if points.len() < 3 {
+        return Vec::from_slice(alloc, points);
+    }
+    let limit = limit(tolerance);
+    let mut kept = vec![in alloc; points[0]]?;
+    let mut from = 0;
+    // the points that stay behind `from`, as far as they are known: the last of them is the next one
+    let mut ends = vec![in alloc; points.len() - 1]?;
+    while let Some(to) = ends.pop() {
+        let end = points[to];
+        match farthest(points[from], &points[from + 1..to], end, limit) {
+            Some(at) => {
+                ends.push(to)?;
+                ends.push(from + 1 + at)?;
+            }
+            None => {
+                kept.push(end)?;
+                from = to;
+            }
+        }
+    }
+    Ok(kept)
+}
+
+// The square of a tolerance in 65536ths.
+#[tactic(auto, unfolding(crate::specs::Simplified::limit_of))]
+fn limit(tolerance: u32) -> u128
+    ensures { result ≡ limit_of tolerance }
+{
+    let wide = u128::from(tolerance) * 65536;
+    wide * wide
+}
+
+// Of the points between `a` and `b` the first of those that lie farthest off the line from `a` to `b`, by its
+// index. None where all lie within the limit.
+fn farthest(a: Point, between: &[Point], b: Point, limit: u128) -> Option<usize>
+    ensures value { MatchOption result (All (λ p. offset_of a b p ≤ limit) between.now) (IsFarthestAt limit a b between.now) }
+    ensures within { IfSome result (λ at. at < length between.now) }
+{
+    let mut most = limit;
+    let mut farthest = None;
+    for (at, point) in between.iter().enumerate() {
+        let offset = offset(*point, a, b);
+        if offset > most {
+            most = offset;
+            farthest = Some(at);
+        }
+    }
+    farthest
+}
+
+// The square of the distance of a point from its nearest place on the line from `a` to `b`.
+#[tactic(auto, unfolding(crate::specs::Simplified::offset_of))]
+fn offset(point: Point, a: Point, b: Point) -> u128
+    ensures { result ≡ offset_of a b point }
+{
+    plane_distance(point, point_at(a, b, project(point, a, b)))
+}
