@@ -1,9 +1,9 @@
 -- The loop over the ends: what stays so far, and the ends of what isn't looked at yet.
 use Rattle.std.proofs.Common.{◌≡◌, ℕ, suc, ◌+◌, ◌-◌, ◌*◌, ◌<◌, ◌≤◌, List, [], ◌∷◌, ◌++◌, length, take, drop, get_or, All, refl, sym, ap, ◌∙◌, subst, arith, append_assoc, length-append, length-drop}
-use Rattle.std.specs.Prelude.{reverse}
+use Rattle.std.specs.Prelude.{MatchOption, Some, None, Option, reverse}
 use Rattle.std.proofs.lemmas.List.{append-nil, drop-drop, get_or-drop, get_or_at, get_or_default, length-reverse, length-take-le, reverse-append, take-append-drop, take_at}
 use Rattle.road_base.specs.declared.coordinates.Point.{Point}
-use Rattle.line_simplify.specs.Farthest.{IsFarthestAt}
+use Rattle.line_simplify.specs.Steps.{IsFarthestAt, IsStep}
 use Rattle.line_simplify.specs.Simplified.{kept_between, limit_of, offset_of, simplified}
 use Rattle.line_simplify.proofs.Kept.{between-far, between-near, drop-behind}
 
@@ -56,14 +56,14 @@ module _ (tolerance : ℕ) (points kept : List Point) (from : ℕ) (ends lower :
   count = let n : length ends ≡ length lower + length (to ∷ []) = ap length e ∙ length-append lower (to ∷ []) in omega (arith, n)
 
   -- what is left to do, after either step
-  pub split-smaller : (more : List ℕ) (s : ℕ) → more ≡ (lower ++ to ∷ []) ++ s ∷ [] → 2 * (length points - from) - length more < 2 * (length points - from) - length ends
+  split-smaller : (more : List ℕ) (s : ℕ) → more ≡ (lower ++ to ∷ []) ++ s ∷ [] → 2 * (length points - from) - length more < 2 * (length points - from) - length ends
   split-smaller more s i =
       let n = few-ends in
       let m : length more ≡ length (lower ++ to ∷ []) + length (s ∷ []) = ap length i ∙ length-append (lower ++ to ∷ []) (s ∷ []) in
       let l : length ends ≡ length (lower ++ to ∷ []) = ap length e in
       omega (arith, n, m, l)
 
-  pub near-smaller : 2 * (length points - to) - length lower < 2 * (length points - from) - length ends
+  near-smaller : 2 * (length points - to) - length lower < 2 * (length points - from) - length ends
   near-smaller =
       let n = few-ends in
       let m = count in
@@ -75,7 +75,7 @@ module _ (tolerance : ℕ) (points kept : List Point) (from : ℕ) (ends lower :
   whole-popped d = subst (λ (xs : List ℕ). kept ++ rest_of (limit_of tolerance) points d from xs ≡ simplified tolerance points) top (h.whole d)
 
   -- all points up to the next end lie near
-  pub stands-near : (x y : Point) → ((d : Point) → x ≡ get_or points from d) → ((d : Point) → y ≡ get_or points to d) → All (λ q. offset_of x y q ≤ limit_of tolerance) (part points from to) → Stands tolerance points (kept ++ y ∷ []) to lower
+  stands-near : (x y : Point) → ((d : Point) → x ≡ get_or points from d) → ((d : Point) → y ≡ get_or points to d) → All (λ q. offset_of x y q ≤ limit_of tolerance) (part points from to) → Stands tolerance points (kept ++ y ∷ []) to lower
   unfolding rest_of
   stands-near x y at_x at_y all = record {
     inside = next-end.1;
@@ -137,7 +137,7 @@ module _ (tolerance : ℕ) (points kept : List Point) (from : ℕ) (ends lower :
         ∙ take_at after tail (length after) refl
 
   -- the farthest point before the next end lies far off
-  pub stands-split : (x y : Point) (at s : ℕ) (more : List ℕ) → ((d : Point) → x ≡ get_or points from d) → ((d : Point) → y ≡ get_or points to d) → IsFarthestAt (limit_of tolerance) x y (part points from to) at
+  stands-split : (x y : Point) (at s : ℕ) (more : List ℕ) → ((d : Point) → x ≡ get_or points from d) → ((d : Point) → y ≡ get_or points to d) → IsFarthestAt (limit_of tolerance) x y (part points from to) at
       → s ≡ from + 1 + at → more ≡ (lower ++ to ∷ []) ++ s ∷ [] → Stands tolerance points kept from more
   unfolding rest_of
   stands-split x y at s more at_x at_y f is pushed =
@@ -171,6 +171,31 @@ module _ (tolerance : ℕ) (points kept : List Point) (from : ℕ) (ends lower :
             ∙ ap (λ (l : List Point). kept ++ (l ++ z ∷ rest)) (sym all)
             ∙ whole-popped d;
       }
+
+  -- the loop's step
+  pub stands-next : (x y : Point) (split : Option ℕ) (after : List Point) (next : ℕ) (more : List ℕ) → ((d : Point) → x ≡ get_or points from d) → ((d : Point) → y ≡ get_or points to d)
+      → MatchOption split (All (λ q. offset_of x y q ≤ limit_of tolerance) (part points from to)) (IsFarthestAt (limit_of tolerance) x y (part points from to)) → IsStep kept after lower more from to y next split
+      → Stands tolerance points after next more
+  stands-next x y None after next more at_x at_y all step =
+      let there : Stands tolerance points (kept ++ y ∷ []) to lower = stands-near x y at_x at_y all in
+      let one : Stands tolerance points after to lower = subst (λ (xs : List Point). Stands tolerance points xs to lower) (sym step.1) there in
+      let two : Stands tolerance points after next lower = subst (λ (k : ℕ). Stands tolerance points after k lower) (sym step.0) one in
+      subst (λ (xs : List ℕ). Stands tolerance points after next xs) (sym step.2) two
+  stands-next x y (Some at) after next more at_x at_y f step =
+      let there : Stands tolerance points kept from more = stands-split x y at (from + 1 + at) more at_x at_y f refl step.2 in
+      let one : Stands tolerance points after from more = subst (λ (xs : List Point). Stands tolerance points xs from more) (sym step.1) there in
+      subst (λ (k : ℕ). Stands tolerance points after k more) (sym step.0) one
+
+  pub step-smaller : (y : Point) (split : Option ℕ) (after : List Point) (next : ℕ) (more : List ℕ) → IsStep kept after lower more from to y next split → 2 * (length points - next) - length more < 2 * (length points - from) - length ends
+  step-smaller y None after next more step =
+      let less = near-smaller in
+      let e = step.0 in
+      let n : length more ≡ length lower = ap length step.2 in
+      omega (arith, less, e, n)
+  step-smaller y (Some at) after next more step =
+      let less = split-smaller more (from + 1 + at) step.2 in
+      let e = step.0 in
+      omega (arith, less, e)
 
 -- with no end left all is done
 pub stands-all : (tolerance : ℕ) (points kept : List Point) (from : ℕ) (ends : List ℕ) → Point → Stands tolerance points kept from ends → ends ≡ [] → kept ≡ simplified tolerance points

@@ -5,7 +5,7 @@ use Rattle.std.specs.Prelude.{IfSome, MatchOption}
 use Rattle.std.proofs.lemmas.Bool.{cases_lt}
 use Rattle.std.proofs.lemmas.List.Elements.{All-append, All-cons, All-nil, All-push, All-same, All-weaker}
 use Rattle.road_base.specs.declared.coordinates.Point.{Point}
-use Rattle.line_simplify.specs.Farthest.{IsFarthestAt}
+use Rattle.line_simplify.specs.Steps.{IsFarthestAt}
 use Rattle.line_simplify.specs.Simplified.{offset_of}
 
 -- of the points so far: none lies beyond the limit, or this one is the farthest, that far off

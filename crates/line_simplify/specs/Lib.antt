@@ -1,2 +1,2 @@
-pub mod Farthest
 pub mod Simplified
+pub mod Steps

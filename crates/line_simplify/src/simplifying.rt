@@ -1,8 +1,8 @@
 //! Which points of a line stay.
 
-ghost use Rattle.std.specs.Prelude.{◌≡◌, ◌<◌, ◌≤◌, All, IfOk, IfSome, List, MatchOption, length};
+ghost use Rattle.std.specs.Prelude.{◌≡◌, ◌+◌, ◌<◌, ◌≤◌, All, IfOk, IfSome, List, MatchOption, length};
 ghost use Rattle.road_base.specs.declared.coordinates.Point.{Point};
-ghost use Rattle.line_simplify.specs.Farthest.{IsFarthestAt};
+ghost use Rattle.line_simplify.specs.Steps.{IsFarthestAt, IsStep};
 ghost use Rattle.line_simplify.specs.Simplified.{IsSimplified, limit_of, offset_of, simplified};
 
 use geo_integer::{plane_distance, point_at, project};
@@ -29,18 +29,36 @@ pub fn simplify(alloc: Global, points: &[Point], tolerance: u32) -> Result<Vec<P
     let mut ends = vec![in alloc; points.len() - 1]?;
     while let Some(to) = ends.pop() {
         let end = points[to];
-        match farthest(points[from], &points[from + 1..to], end, limit) {
-            Some(at) => {
-                ends.push(to)?;
-                ends.push(from + 1 + at)?;
-            }
-            None => {
-                kept.push(end)?;
-                from = to;
-            }
-        }
+        let split = farthest(points[from], &points[from + 1..to], end, limit);
+        from = step(&mut kept, &mut ends, from, to, end, split)?;
     }
     Ok(kept)
+}
+
+// Goes on from the last point that stays, where the next end is taken off the stack: a point at which what lies
+// between is split is the next end before it, else the end stays. The last point that stays then.
+fn step(
+    kept: &mut Vec<Point>,
+    ends: &mut Vec<usize>,
+    from: usize,
+    to: usize,
+    end: Point,
+    split: Option<usize>,
+) -> Result<usize, AllocError>
+    requires { IfSome split (λ at. from + 1 + at < to) }
+    ensures { IfOk result (λ next. IsStep kept.old.items kept.new.items ends.old.items ends.new.items from to end next split) }
+{
+    match split {
+        Some(at) => {
+            ends.push(to)?;
+            ends.push(from + 1 + at)?;
+            Ok(from)
+        }
+        None => {
+            kept.push(end)?;
+            Ok(to)
+        }
+    }
 }
 
 // The square of a tolerance in 65536ths.

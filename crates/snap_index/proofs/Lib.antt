@@ -1,4 +1,3 @@
 pub mod EndLemmas
 pub mod Farther
-pub mod SnapLemmas
 pub mod Turns
