@@ -33,13 +33,13 @@ module _ (road : RoadMetric) (places : List Place) (routes : List Route) (along 
   -- there is a place more than there are routes, unless there is neither
   pub places-enough : (k : ℕ) → k < length routes → k + 1 < length places
   places-enough k lt =
-    let same = all_zip-length _ (zip places (drop 1 places)) routes along in
-    omega (arith, same, length-zip places (drop 1 places), length-drop 1 places)
+      let same = all_zip-length _ (zip places (drop 1 places)) routes along in
+      omega (arith, same, length-zip places (drop 1 places), length-drop 1 places)
 
   pub legs-count : length (ends_and_routes places routes) ≡ length routes
   legs-count =
-    let same = all_zip-length _ (zip places (drop 1 places)) routes along in
-    omega (arith, same, length-zip (zip places (drop 1 places)) routes)
+      let same = all_zip-length _ (zip places (drop 1 places)) routes along in
+      omega (arith, same, length-zip (zip places (drop 1 places)) routes)
 
   module _ (k : ℕ) (from to : Place) (route : Route) (first : slice_get places k ≡ Some from) (second : slice_get places (k + 1) ≡ Some to) (third : slice_get routes k ≡ Some route) where
     ends-at : slice_get (zip places (drop 1 places)) k ≡ Some (from, to)
@@ -72,9 +72,9 @@ joined-push (first ∷ later) leg =
 module _ {X : Type 0} (f : X → List Point) (xs : List X) where
   pub joined-more : (k : ℕ) (default : X) (now after : List Point) → k < length xs → now ≡ joined (map f (take k xs)) → after ≡ now ++ points_behind k (f (get_or xs k default)) → after ≡ joined (map f (take (k + 1) xs))
   joined-more k default now after lt is next =
-    let front = map f (take k xs) in
-    let x = get_or xs k default in
-    let size : length front ≡ k = simp (length-map, length-take) (omega arith) in
-    next ∙ ap (λ (points : List Point). points ++ points_behind k (f x)) is
-    ∙ ap (λ (n : ℕ). joined front ++ points_behind n (f x)) (sym size)
-    ∙ sym (joined-push front (f x)) ∙ ap joined (sym (ap (map f) (take_more xs k default lt) ∙ map_push f (take k xs) x))
+      let front = map f (take k xs) in
+      let x = get_or xs k default in
+      let size : length front ≡ k = simp (length-map, length-take) (omega arith) in
+      next ∙ ap (λ (points : List Point). points ++ points_behind k (f x)) is
+      ∙ ap (λ (n : ℕ). joined front ++ points_behind n (f x)) (sym size)
+      ∙ sym (joined-push front (f x)) ∙ ap joined (sym (ap (map f) (take_more xs k default lt) ∙ map_push f (take k xs) x))
