@@ -11,8 +11,6 @@
 mod annotations;
 mod paid;
 mod speeds;
-#[cfg(test)]
-mod tests;
 mod walk_points;
 
 pub use annotations::{Annotation, annotate};
