@@ -65,9 +65,9 @@ module _ (radius : Option ℕ) (from : Position) where
     stop : (front all : List Snapped) (back : List (Option Candidate)) → drop i slots ≡ back → places_found radius from back ≡ [] → front ++ places_found radius from (drop i slots) ≡ all → front ≡ all
     stop front all back e none h = sym (append-none front) ∙ ap (λ (l : List Snapped). front ++ l) (sym none ∙ ap (places_found radius from) (sym e)) ∙ h
       where
-      append-none : (l : List Snapped) → l ++ [] ≡ l
-      append-none [] = refl
-      append-none (x ∷ xs) = ap (λ (l : List Snapped). x ∷ l) (append-none xs)
+        append-none : (l : List Snapped) → l ++ [] ≡ l
+        append-none [] = refl
+        append-none (x ∷ xs) = ap (λ (l : List Snapped). x ∷ l) (append-none xs)
 
     pub found-empty : (front all : List Snapped) → slice_get slots i ≡ Some None → front ++ places_found radius from (drop i slots) ≡ all → front ≡ all
     found-empty front all e h = stop front all (None ∷ drop (i + 1) slots) (drop-get slots i None e) (places-empty (drop (i + 1) slots)) h
@@ -206,11 +206,12 @@ module _ (segments : List Segment) (w : Weighting DurLen) (filter : Filter) (fro
   found-order (None ∷ rest) all up = subst (λ (l : List Snapped). AreInOrder from l) (sym (places-empty filter.radius from rest)) tt
   found-order (Some c ∷ rest) all up = by-near (λ (l : List Snapped). AreInOrder from l) c rest tt
       (λ near.
-      let on = on-segment segments w filter.heading from c all.0 in
-      (found-all (PrecedesSlot c) (λ (other : Snapped). IsBefore from (remoteness from (position_of other.point)) other.place.segment (snapped_of from c))
-          (λ d at p _. subst (λ r. ComesBefore (remoteness from (position_of c.spot)) c.place.segment r d.place.segment) at.remote (subst (λ r. ComesBefore r c.place.segment d.remoteness d.place.segment) on.remote p))
-          rest all.1 up.0,
-        found-order rest all.1 up.1))
+      let on = on-segment segments w filter.heading from c all.0 in (
+        found-all (PrecedesSlot c) (λ (other : Snapped). IsBefore from (remoteness from (position_of other.point)) other.place.segment (snapped_of from c))
+            (λ d at p _. subst (λ r. ComesBefore (remoteness from (position_of c.spot)) c.place.segment r d.place.segment) at.remote (subst (λ r. ComesBefore r c.place.segment d.remoteness d.place.segment) on.remote p))
+            rest all.1 up.0,
+        found-order rest all.1 up.1,
+      ))
 
   pub found-length : (slots : List (Option Candidate)) → length (places_found filter.radius from slots) ≤ length slots
   found-length [] = subst (λ (l : List Snapped). length l ≤ 0) (sym (places-none filter.radius from)) (omega arith)
@@ -227,7 +228,7 @@ module _ (segments : List Segment) (w : Weighting DurLen) (filter : Filter) (fro
       let on = on-segment segments w filter.heading from c all.0 in
       let P : List Snapped → Type 0 = λ (l : List Snapped). IsAmong s l ⊎ ((length l ≡ suc (length rest)) × AllByRecursion (IsBefore from (remoteness_of from other) s) l) in
       let go : c.remoteness ≤ remoteness_of from other → P (snapped_of from c ∷ places_found filter.radius from rest) → P (places_found filter.radius from (Some c ∷ rest)) = λ le p.
-          subst P (sym (places-near filter.radius from c rest (near-true filter.radius (decimetres_between from (position_of c.spot)) (reach-before c other on le g)))) p in
+      subst P (sym (places-near filter.radius from c rest (near-true filter.radius (decimetres_between from (position_of c.spot)) (reach-before c other on le g)))) p in
       elim stands as (λ _. P (places_found filter.radius from (Some c ∷ rest))) [
         | inl e ↦ go (let q = e.0 in omega (arith, q)) (inl (inl e.1))
         | inr p ↦ go (before-least c.remoteness c.place.segment (remoteness_of from other) s p.0) (elim (found-others rest s other all.1 p.1 g) as (λ _. P (snapped_of from c ∷ places_found filter.radius from rest)) [

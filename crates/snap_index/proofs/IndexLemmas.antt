@@ -56,9 +56,9 @@ segment-at spots i spot e = slice_get-map (λ (x : Spot). x.segment) spots i ∙
 spot-at : (spots : List Spot) (i s : ℕ) → slice_get (segments_of spots) i ≡ Some s → (spot : Spot) × (slice_get spots i ≡ Some spot) × (spot.segment ≡ s)
 spot-at spots i s e = by-spot (slice_get spots i) (sym (slice_get-map (λ (x : Spot). x.segment) spots i) ∙ e)
   where
-  by-spot : (o : Option Spot) → option_map (λ (x : Spot). x.segment) o ≡ Some s → (spot : Spot) × (o ≡ Some spot) × (spot.segment ≡ s)
-  by-spot None q = absurd cc
-  by-spot (Some spot) q = (spot, refl, same_Some spot.segment s q)
+    by-spot : (o : Option Spot) → option_map (λ (x : Spot). x.segment) o ≡ Some s → (spot : Spot) × (o ≡ Some spot) × (spot.segment ≡ s)
+    by-spot None q = absurd cc
+    by-spot (Some spot) q = (spot, refl, same_Some spot.segment s q)
 
 -- spots that were numbered, in another order, name each segment and no others
 pub order-is : (lines : List SegmentEnds) (first spots : List Spot) → length first ≡ length lines → ((i : ℕ) (spot : Spot) → slice_get first i ≡ Some spot → spot.segment ≡ i)

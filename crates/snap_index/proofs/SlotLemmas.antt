@@ -223,8 +223,10 @@ put-stay remote s c [] h = subst (λ (l : List (Option Candidate)). Stands remot
 put-stay remote s c (None ∷ rest) h = absurd h
 put-stay remote s c (Some d ∷ rest) h = elim (which c d) as (λ _. Stands remote s (with_candidate c (Some d ∷ rest))) [
   | before b ↦ subst (λ (l : List (Option Candidate)). Stands remote s l) (sym (put-before c d rest b)) (elim h as (λ _. Stands remote s (Some c ∷ with_candidate d rest)) [
-    | inl e ↦ inr (subst (λ r. ComesBefore c.remoteness c.place.segment r s) e.0 (subst (λ k. ComesBefore c.remoteness c.place.segment d.remoteness k) e.1 (is-before c d b)),
-        subst (λ r. Stands r s (with_candidate d rest)) e.0 (subst (λ k. Stands d.remoteness k (with_candidate d rest)) e.1 (put-stands d rest)))
+    | inl e ↦ inr (
+      subst (λ r. ComesBefore c.remoteness c.place.segment r s) e.0 (subst (λ k. ComesBefore c.remoteness c.place.segment d.remoteness k) e.1 (is-before c d b)),
+      subst (λ r. Stands r s (with_candidate d rest)) e.0 (subst (λ k. Stands d.remoteness k (with_candidate d rest)) e.1 (put-stands d rest)),
+    )
     | inr p ↦ inr (before_trans c.remoteness c.place.segment d.remoteness d.place.segment remote s (is-before c d b) p.0, put-stay remote s d rest p.1)
   ])
   | same b g ↦ subst (λ (l : List (Option Candidate)). Stands remote s l) (sym (put-same c d rest b g)) h

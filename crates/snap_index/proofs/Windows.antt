@@ -37,7 +37,7 @@ cosine-falls : (m n : ℕ) → m ≤ n → cosine_at n ≤ cosine_at m
 cosine-falls m n h =
     let squares = mul-le-mul h h in
     quotients (65536 * (32400000000000000 - 4 * (n * n))) (65536 * (32400000000000000 - 4 * (m * m))) (32400000000000000 + m * m) (32400000000000000 + n * n)
-        (omega arith) (omega arith) (omega (arith, squares)) (omega (arith, squares))
+    (omega arith) (omega arith) (omega (arith, squares)) (omega (arith, squares))
 
 -- half of a whole number, rounded down
 half-bound : (z : ℤ) (n : ℕ) → unsigned_abs z ≤ n → unsigned_abs (int_div_euclid z (pos 2)) ≤ (n + 1) / 2

@@ -16,7 +16,7 @@ pub returns-then-is_one : goal.returns-then-is_one
 returns-then-is_one c =
     let lt : c.loop-i.i < length c.loop-i.slots = omega arith in
     step-same c.loop-i.slots c.loop-i.i c.loop-i.moved c.in-Some.there (read-is c.loop-i.slots c.loop-i.i _ (Some c.in-Some.there) lt c.in-Some.is)
-        (sym c.precedes.ensures ∙ c.if-precedes.false) (sym c.is_one.ensures ∙ c.if-is_one.true)
+    (sym c.precedes.ensures ∙ c.if-precedes.false) (sym c.is_one.ensures ∙ c.if-is_one.true)
     ∙ c.loop-i.invariant
 
 -- one slot more

@@ -16,7 +16,7 @@ loop-i-preserved c = record {
         let same : c.loop-i.i ≡ k = omega (arith, ge, lt) in
         let here : HasAt c.args.parts.now c.loop-i.i line = subst (λ n. HasAt c.args.parts.now n line) (sym same) has in
         subst (λ n. HasAt c.add.new.extents.items (n / 16) line) same
-            (c.in_ok-add.ensures.added line (subst (λ (e : Extent). HasLine e line) (sym (get_or_from_slice_get c.args.parts.now c.loop-i.i here.0 _ here.1)) here.2))
+        (c.in_ok-add.ensures.added line (subst (λ (e : Extent). HasLine e line) (sym (get_or_from_slice_get c.args.parts.now c.loop-i.i here.0 _ here.1)) here.2))
   ];
 }
 

@@ -13,7 +13,7 @@ pub returns-then-not-has_direction-clause-judged : goal.returns-then-not-has_dir
 returns-then-not-has_direction-clause-judged c =
     let line = read-is c.args.lines.now c.args.segment _ c.index-lines-segment.result c.requires.segment (sym c.index-lines-segment.is) in
     closed-judged c.args.lines.now c.args.base.now.weights c.args.heading (position_of c.args.from) c.index-lines-segment.result c.args.segment c.args.slots.now line
-        (λ h. let yes : c.has_direction.result ≡ true = c.has_direction.ensures.1 h in let no : c.has_direction.result ≡ false = c.if-not-has_direction.true in cc)
+    (λ h. let yes : c.has_direction.result ≡ true = c.has_direction.ensures.1 h in let no : c.has_direction.result ≡ false = c.if-not-has_direction.true in cc)
 
 -- it has one
 pub returns-clause-slots : goal.returns-clause-slots
@@ -22,7 +22,7 @@ returns-clause-slots c =
     let drivable : IsOpenLine c.args.base.now.weights c.args.heading c.args.segment c.index-lines-segment.result = c.has_direction.ensures.0 c.if-not-has_direction.false in
     subst (λ (slots : List (Option Candidate)). AreSlots c.args.lines.now c.args.base.now.weights c.args.heading (position_of c.args.from) slots) (sym c.put.ensures)
     (put-slots c.args.lines.now c.args.base.now.weights c.args.heading (position_of c.args.from) c.candidate_on.result c.args.slots.now c.requires.slots
-        (candidate-of c.args.lines.now c.args.base.now.weights c.args.heading (position_of c.args.from) c.index-lines-segment.result c.args.segment c.candidate_on.result line drivable c.candidate_on.ensures))
+    (candidate-of c.args.lines.now c.args.base.now.weights c.args.heading (position_of c.args.from) c.index-lines-segment.result c.args.segment c.candidate_on.result line drivable c.candidate_on.ensures))
 
 pub returns-clause-stay : goal.returns-clause-stay
 returns-clause-stay c = λ remote s h. subst (λ (slots : List (Option Candidate)). Stands remote s slots) (sym c.put.ensures) (put-stay remote s c.candidate_on.result c.args.slots.now h)
@@ -31,4 +31,4 @@ pub returns-clause-judged : goal.returns-clause-judged
 returns-clause-judged c =
     let line = read-is c.args.lines.now c.args.segment _ c.index-lines-segment.result c.requires.segment (sym c.index-lines-segment.is) in
     candidate-stands c.args.lines.now c.args.base.now.weights c.args.heading (position_of c.args.from) c.index-lines-segment.result c.args.segment c.candidate_on.result c.put.new.slots line c.candidate_on.ensures
-        (subst (λ (slots : List (Option Candidate)). Stands c.candidate_on.result.remoteness c.candidate_on.result.place.segment slots) (sym c.put.ensures) (put-stands c.candidate_on.result c.args.slots.now))
+    (subst (λ (slots : List (Option Candidate)). Stands c.candidate_on.result.remoteness c.candidate_on.result.place.segment slots) (sym c.put.ensures) (put-stands c.candidate_on.result c.args.slots.now))

@@ -11,4 +11,4 @@ look-requires-clause-cosine c = subst (λ (r : ℕ). IsLeastCosine (position_of 
 pub returns-clause-judged : goal.returns-clause-judged
 returns-clause-judged c = λ t.
     judged-enough c.args.grid.now c.args.base.now.weights c.args.heading (position_of c.args.from) c.reach_of-reach.result c.last_remoteness.result c.look.new.slots c.look.ensures.slots.order
-        c.last_remoteness.ensures (c.is_enough.ensures t) c.look.ensures.judged
+    c.last_remoteness.ensures (c.is_enough.ensures t) c.look.ensures.judged

@@ -17,7 +17,7 @@ pub returns-then-not-is_in_reach : goal.returns-then-not-is_in_reach
 returns-then-not-is_in_reach c =
     let lt : c.loop-i.i < length c.args.slots.now = omega arith in
     let out = near-false c.args.radius (decimetres_between (position_of c.args.from) (position_of c.in-Some.candidate.spot))
-        (λ h. let yes : c.is_in_reach.result ≡ true = c.is_in_reach.ensures.1 h in let no : c.is_in_reach.result ≡ false = c.if-not-is_in_reach.true in cc) in
+    (λ h. let yes : c.is_in_reach.result ≡ true = c.is_in_reach.ensures.1 h in let no : c.is_in_reach.result ≡ false = c.if-not-is_in_reach.true in cc) in
     found-far c.args.radius (position_of c.args.from) c.args.slots.now c.loop-i.i c.in-Some.candidate c.loop-i.found.items _ (read-is c.args.slots.now c.loop-i.i _ (Some c.in-Some.candidate) lt c.in-Some.is) out c.loop-i.invariant
 
 -- one place more

@@ -17,7 +17,7 @@ use Rattle.snap_index.proofs.snapping.nearest.Goals as goal
 pub search-requires-clause-slots : goal.search-requires-clause-slots
 search-requires-clause-slots c =
     empty-slots c.args.grid.now c.args.base.now.weights c.args.filter.heading (position_of c.args.from) c.deref_mut.result.now
-        (subst (λ (l : List (Option Candidate)). AllByRecursion IsEmptySlot l) (sym c.deref_mut.ensures.value) c.in_ok-slots.ensures.empty)
+    (subst (λ (l : List (Option Candidate)). AllByRecursion IsEmptySlot l) (sym c.deref_mut.ensures.value) c.in_ok-slots.ensures.empty)
 
 pub returns-clause-firsts : goal.returns-clause-firsts
 returns-clause-firsts c =
@@ -31,9 +31,9 @@ returns-clause-firsts c =
     let same : c.deref.result.now ≡ c.search.new.slots = c.deref.ensures.value ∙ given-back c.in_ok-slots.slots.len c.search.new.slots c.in_ok-slots.slots.items whole all in
     let count : length c.search.new.slots ≡ c.args.number = let given = c.in_ok-slots.ensures.count in omega (arith, whole, given) in
     if-ok c.found.result _ (λ found. AreFirsts c.args.network.now.segments c.args.base.now.weights c.args.filter (position_of c.args.from) c.args.number found.items)
-        (λ found e. subst (λ (l : List Snapped). AreFirsts c.args.network.now.segments c.args.base.now.weights c.args.filter (position_of c.args.from) c.args.number l) (sym (e ∙ ap (places_found c.args.filter.radius (position_of c.args.from)) same))
-            (firsts-are c.args.network.now.segments c.args.base.now.weights c.args.filter (position_of c.args.from) c.args.number c.search.new.slots count are judged))
-        c.found.ensures
+    (λ found e. subst (λ (l : List Snapped). AreFirsts c.args.network.now.segments c.args.base.now.weights c.args.filter (position_of c.args.from) c.args.number l) (sym (e ∙ ap (places_found c.args.filter.radius (position_of c.args.from)) same))
+    (firsts-are c.args.network.now.segments c.args.base.now.weights c.args.filter (position_of c.args.from) c.args.number c.search.new.slots count are judged))
+    c.found.ensures
 
 pub returns-clause-placed : goal.returns-clause-placed
 returns-clause-placed c =
@@ -44,6 +44,6 @@ returns-clause-placed c =
     let all : c.in_ok-slots.slots.len ≡ length c.search.new.slots = omega (arith, items) in
     let same : c.deref.result.now ≡ c.search.new.slots = c.deref.ensures.value ∙ given-back c.in_ok-slots.slots.len c.search.new.slots c.in_ok-slots.slots.items whole all in
     if-ok c.found.result _ (λ found. AllByRecursion (λ (one : Snapped). (one.place.segment < length c.args.network.now.segments) × (one.place.at ≤ 1024)) found.items)
-        (λ found e. subst (λ (l : List Snapped). AllByRecursion (λ (one : Snapped). (one.place.segment < length c.args.network.now.segments) × (one.place.at ≤ 1024)) l) (sym (e ∙ ap (places_found c.args.filter.radius (position_of c.args.from)) same))
-            (found-placed c.args.network.now.segments c.args.base.now.weights c.args.filter (position_of c.args.from) c.search.new.slots are))
-        c.found.ensures
+    (λ found e. subst (λ (l : List Snapped). AllByRecursion (λ (one : Snapped). (one.place.segment < length c.args.network.now.segments) × (one.place.at ≤ 1024)) l) (sym (e ∙ ap (places_found c.args.filter.radius (position_of c.args.from)) same))
+    (found-placed c.args.network.now.segments c.args.base.now.weights c.args.filter (position_of c.args.from) c.search.new.slots are))
+    c.found.ensures

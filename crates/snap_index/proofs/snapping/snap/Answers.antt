@@ -26,7 +26,7 @@ returns-then-not-is_in_reach-clause-value c =
     subst (λ (lines : List SegmentEnds). (s : ℕ) → IsJudged lines c.args.base.now.weights c.args.filter.heading (position_of c.args.from) None c.search.new.slots s) c.requires.grid c.search.ensures.judged in
     let lt : 0 < length c.search.new.slots = omega arith in
     out_of_reach c.args.network.now.segments c.args.base.now.weights c.args.filter (position_of c.args.from) c.search.new.slots c.in-Some.best (read-is c.search.new.slots 0 _ (Some c.in-Some.best) lt c.in-Some.is) are judged
-        (λ h. let yes : c.is_in_reach.result ≡ true = c.is_in_reach.ensures.1 h in let no : c.is_in_reach.result ≡ false = c.if-not-is_in_reach.true in cc)
+    (λ h. let yes : c.is_in_reach.result ≡ true = c.is_in_reach.ensures.1 h in let no : c.is_in_reach.result ≡ false = c.if-not-is_in_reach.true in cc)
 
 -- or it is
 pub returns-clause-value : goal.returns-clause-value
