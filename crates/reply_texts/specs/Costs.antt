@@ -4,7 +4,7 @@ use Rattle.std.specs.Prelude.{ℕ, List, map, Option, Some, None}
 use Rattle.search_graph.specs.declared.costs.DurLen.{DurLen}
 use Rattle.json_text.specs.Values.{JsonValue, null, tenths}
 use Rattle.json_text.specs.Wholes.{array_of}
-use Rattle.reply_texts.specs.Speeds.{speed_of}
+use Rattle.route_steps.specs.Annotations.{speed_of}
 use Rattle.reply_texts.specs.declared.cost_parts.CostPart.{CostPart}
 use Rattle.reply_texts.specs.declared.cost_parts.CostPart.TheVariants as part
 

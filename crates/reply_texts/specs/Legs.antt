@@ -4,7 +4,7 @@ use Rattle.road_base.specs.declared.coordinates.Point.{Point}
 use Rattle.search_graph.specs.declared.costs.DurLen.{DurLen}
 use Rattle.json_text.specs.Values.{JsonValue, text, whole}
 use Rattle.json_text.specs.Wholes.{array_of, object_of, optional_member}
-use Rattle.url_read.specs.declared.option_types.RouteAnnotations.{RouteAnnotations}
+use Rattle.option_values.specs.declared.option_types.RouteAnnotations.{RouteAnnotations}
 use Rattle.url_read.specs.declared.requests.RouteOptions.{RouteOptions}
 use Rattle.reply_texts.specs.Costs.{costs_value}
 use Rattle.reply_texts.specs.Lines.{joined, overview_line}

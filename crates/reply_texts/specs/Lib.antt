@@ -2,10 +2,9 @@ pub mod Codes
 pub mod Refusals
 pub mod Optional
 pub mod Waypoints
-pub mod Speeds
 pub mod Costs
 pub mod Totals
-pub mod Simplified
 pub mod Lines
 pub mod Legs
+pub mod RouteLegs
 pub mod Replies

@@ -5,11 +5,11 @@ use Rattle.road_base.specs.declared.coordinates.Point.{Point}
 use Rattle.polyline_text.specs.Encoding.{encoded}
 use Rattle.json_text.specs.Values.{JsonValue, text, location}
 use Rattle.json_text.specs.Wholes.{array_of, object_of}
-use Rattle.url_read.specs.declared.option_types.Geometries.{Geometries}
-use Rattle.url_read.specs.declared.option_types.Geometries.TheVariants as geometries
-use Rattle.url_read.specs.declared.option_types.Overview.{Overview}
-use Rattle.url_read.specs.declared.option_types.Overview.TheVariants as overview
-use Rattle.reply_texts.specs.Simplified.{simplified, tolerance_of}
+use Rattle.option_values.specs.declared.option_types.Geometries.{Geometries}
+use Rattle.option_values.specs.declared.option_types.Geometries.TheVariants as geometries
+use Rattle.option_values.specs.declared.option_types.Overview.{Overview}
+use Rattle.option_values.specs.declared.option_types.Overview.TheVariants as overview
+use Rattle.line_simplify.specs.Simplified.{simplified, tolerance_of}
 
 -- longitude first, in degrees
 abbrev pub point_value : Point → JsonValue

@@ -7,7 +7,7 @@ use Rattle.search_graph.specs.declared.costs.DurLen.{DurLen}
 use Rattle.edge_graph.specs.Segment.{Segment}
 use Rattle.json_text.specs.Values.{JsonValue}
 use Rattle.json_text.specs.Wholes.{array_of, object_of}
-use Rattle.url_read.specs.declared.option_types.TableAnnotations.{TableAnnotations}
+use Rattle.option_values.specs.declared.option_types.TableAnnotations.{TableAnnotations}
 use Rattle.url_read.specs.declared.requests.RouteOptions.{RouteOptions}
 use Rattle.reply_texts.specs.Costs.{rows_value}
 use Rattle.reply_texts.specs.Legs.{Leg, route_value}

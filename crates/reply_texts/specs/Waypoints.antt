@@ -5,8 +5,8 @@ use Rattle.road_base.specs.declared.coordinates.Point.{Point}
 use Rattle.road_base.specs.declared.segments.Place.{Place}
 use Rattle.geo_integer.specs.Position.{Position, position_of}
 use Rattle.geo_integer.specs.Plane.{distance_of}
+use Rattle.geo_integer.specs.Project.{position_at}
 use Rattle.edge_graph.specs.Segment.{Segment}
-use Rattle.snap_index.specs.Nearest.{spot_on}
 use Rattle.json_text.specs.Values.{JsonValue, text, tenths, whole, location}
 use Rattle.json_text.specs.Wholes.{array_of, object_of}
 
@@ -18,7 +18,8 @@ place_members distance name spot = (codes "distance", tenths distance) ∷ (code
 abbrev pub members_on : Option Segment → Position → ℕ → List (List ℕ × JsonValue)
 members_on None from at = []
 members_on (Some segment) from at =
-    let spot = spot_on segment at in place_members (distance_of from spot) segment.street.name spot
+    let spot = position_at (position_of segment.from) (position_of segment.to) at in
+    place_members (distance_of from spot) segment.street.name spot
 
 -- a coordinate that is snapped to this place: members in front, and those of the place
 unfoldable pub waypoint_value : List (List ℕ × JsonValue) → List Segment → Point → Place → JsonValue

@@ -2,11 +2,13 @@
 
 ghost use Rattle.std.specs.Prelude.{◌≡◌, OnOk};
 ghost use Rattle.json_text.specs.Drafts.{TakesValue, with_value};
-ghost use Rattle.reply_texts.specs.Costs.{cell_value, costs_value, part_of, row_value};
+ghost use Rattle.reply_texts.specs.Costs.{cell_value, costs_value, part_of, row_value, rows_value};
 
 use json_text::Json;
+use route_steps::speed;
 use search_graph::DurLen;
 use std::alloc::AllocError;
+use table_query::Row;
 
 /// A part of a cost, or what follows from two.
 #[derive(Clone, Copy, Debug, PartialEq, Eq)]
@@ -32,16 +34,6 @@ impl CostPart {
             CostPart::Speed => speed(cost),
         }
     }
-}
-
-// Tenths of metres a second, 0 where it takes no time.
-fn speed(cost: DurLen) -> u128
-    ensures { result ≡ part_of CostPart.Speed cost }
-{
-    if cost.duration == 0 {
-        return 0;
-    }
-    10 * u128::from(cost.length) / u128::from(cost.duration)
 }
 
 // A list of one part of costs.
@@ -73,7 +65,7 @@ fn push_cell(json: &mut Json, part: CostPart, cell: Option<DurLen>) -> Result<()
 }
 
 // A row of a table.
-pub(crate) fn push_row(
+fn push_row(
     json: &mut Json,
     part: CostPart,
     row: &[Option<DurLen>],
@@ -84,6 +76,23 @@ pub(crate) fn push_row(
     json.begin_list()?;
     for cell in row {
         push_cell(json, part, *cell)?;
+    }
+    json.end_list()?;
+    Ok(())
+}
+
+// The rows of a table.
+pub(crate) fn push_rows(
+    json: &mut Json,
+    part: CostPart,
+    rows: &[Row<DurLen>],
+) -> Result<(), AllocError>
+    requires { TakesValue json.old }
+    ensures { OnOk result (json.new ≡ with_value (rows_value part rows.now) json.old) }
+{
+    json.begin_list()?;
+    for row in rows {
+        push_row(json, part, row.as_slice())?;
     }
     json.end_list()?;
     Ok(())
