@@ -12,8 +12,8 @@ use std::alloc::{AllocError, Global};
 /// The points that stay of a line with a tolerance in microdegrees of latitude, in their order. The first and
 /// the last one stay. It answers an error only where memory runs out.
 ///
-/// Of n points it looks at about n log n, and at n squared at most, where each that stays is next to an end of
-/// those between which it lies.
+/// Each point is looked at once for each part that is split and in which it lies: about n log n looks at n points
+/// on most lines, but half of n squared where each split parts off a single point.
 pub fn simplify(alloc: Global, points: &[Point], tolerance: u32) -> Result<Vec<Point>, AllocError>
     ensures value { IfOk result (λ kept. kept.items ≡ simplified tolerance points.now) }
     ensures rule { IfOk result (λ kept. IsSimplified tolerance points.now kept.items) }
@@ -35,8 +35,9 @@ pub fn simplify(alloc: Global, points: &[Point], tolerance: u32) -> Result<Vec<P
     Ok(kept)
 }
 
-// Goes on from the last point that stays, where the next end is taken off the stack: a point at which what lies
-// between is split is the next end before it, else the end stays. The last point that stays then.
+// One step from the last point that stays to the next end, the point `to`, which was taken off the stack: it
+// stays, or goes back where the points between are split, with the one at which they are above it. Answers which
+// point is the last that stays then.
 fn step(
     kept: &mut Vec<Point>,
     ends: &mut Vec<usize>,

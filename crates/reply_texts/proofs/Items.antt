@@ -24,14 +24,14 @@ module _ {X : Type 0} (f : X → JsonValue) (xs : List X) (d : Draft) where
   -- one item more
   pub one_more : (k : ℕ) (default : X) (now after : Draft) → k < length xs → now ≡ so_far k → after ≡ with_value (f (get_or xs k default)) now → after ≡ so_far (k + 1)
   one_more k default now after lt is next =
-    let x = get_or xs k default in
-    let grown : map f (take (k + 1) xs) ≡ map f (take k xs) ++ f x ∷ [] =
-    ap (map f) (take_more xs k default lt) ∙ map_push f (take k xs) x in
-    next ∙ ap (with_value (f x)) is ∙ sym (with_items-snoc (map f (take k xs)) (f x) (begun container.Array d))
-    ∙ ap (λ (vs : List JsonValue). with_items vs (begun container.Array d)) (sym grown)
+      let x = get_or xs k default in
+      let grown : map f (take (k + 1) xs) ≡ map f (take k xs) ++ f x ∷ [] =
+      ap (map f) (take_more xs k default lt) ∙ map_push f (take k xs) x in
+      next ∙ ap (with_value (f x)) is ∙ sym (with_items-snoc (map f (take k xs)) (f x) (begun container.Array d))
+      ∙ ap (λ (vs : List JsonValue). with_items vs (begun container.Array d)) (sym grown)
 
   -- all of them
   pub all_written : (k : ℕ) (now after : Draft) → length xs ≤ k → now ≡ so_far k → after ≡ ended container.Array now → after ≡ with_value (array_of (map f xs)) d
   all_written k now after most is ends =
-    ends ∙ ap (ended container.Array) (is ∙ ap (λ (ys : List X). with_items (map f ys) (begun container.Array d)) (take_all k xs most))
-    ∙ array_written (map f xs) d
+      ends ∙ ap (ended container.Array) (is ∙ ap (λ (ys : List X). with_items (map f ys) (begun container.Array d)) (take_all k xs most))
+      ∙ array_written (map f xs) d

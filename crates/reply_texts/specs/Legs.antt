@@ -35,7 +35,7 @@ annotation_value asked paid nodes = object_of (
     ++ member_if asked.weight (codes "weight") (costs_value part.Weight paid)
     ++ member_if asked.nodes (codes "nodes") (nodes_value nodes)
     ++ member_if asked.speed (codes "speed") (costs_value part.Speed paid)
-)
+    )
 
 -- a leg, without its steps
 unfoldable pub leg_value : RouteAnnotations → Leg → JsonValue
@@ -43,7 +43,7 @@ leg_value asked leg = object_of (
     totals_members (leg_totals leg.cost)
     ++ (codes "summary", text []) ∷ (codes "steps", array_of [])
     ∷ member_if (is_annotated asked) (codes "annotation") (annotation_value asked leg.paid leg.nodes)
-)
+    )
 
 -- a route of these legs, with the line through all of them
 unfoldable pub route_value : RouteOptions → List Leg → JsonValue
@@ -52,4 +52,4 @@ route_value options legs = object_of (
     ++ (codes "weight_name", text (codes "duration"))
     ∷ (optional_member (codes "geometry") (overview_line options.overview options.geometries (joined (map (λ leg. leg.points) legs)))
     ++ (codes "legs", array_of (map (leg_value options.annotations) legs)) ∷ [])
-)
+    )

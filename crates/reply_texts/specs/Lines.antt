@@ -1,5 +1,5 @@
 -- The line of a route (OSRM's HTTP API, version 1; GeoJSON of RFC 7946).
-use Rattle.std.specs.Prelude.{ℕ, List, [], ◌∷◌, ◌++◌, codes, drop, map, Option, Some, None, option_map}
+use Rattle.std.specs.Prelude.{ℕ, zero, suc, List, [], ◌∷◌, ◌++◌, codes, drop, map, Option, Some, None, option_map}
 use Rattle.std.specs.List.{flat_map}
 use Rattle.road_base.specs.declared.coordinates.Point.{Point}
 use Rattle.polyline_text.specs.Encoding.{encoded}
@@ -23,6 +23,11 @@ abbrev pub line_value : Geometries → List Point → JsonValue
 line_value geometries.Polyline points = text (encoded 5 points)
 line_value geometries.Polyline6 points = text (encoded 6 points)
 line_value geometries.Geojson points = geojson_value points
+
+-- of a leg's points those that stand behind the legs before it, of which there are so many
+abbrev pub points_behind : ℕ → List Point → List Point
+points_behind zero points = points
+points_behind (suc legs) points = drop 1 points
 
 -- the points of legs, one behind the other; where one ends the next begins, so that point is told once
 abbrev pub joined : List (List Point) → List Point

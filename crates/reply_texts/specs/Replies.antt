@@ -42,4 +42,4 @@ table_reply number skip asked rows sources destinations = found_value number (
     ++ member_if asked.distance (codes "distances") (rows_value part.Length rows)
     ++ waypoints_member skip (codes "sources") sources
     ++ waypoints_member skip (codes "destinations") destinations
-)
+    )

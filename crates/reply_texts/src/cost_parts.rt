@@ -65,11 +65,7 @@ fn push_cell(json: &mut Json, part: CostPart, cell: Option<DurLen>) -> Result<()
 }
 
 // A row of a table.
-fn push_row(
-    json: &mut Json,
-    part: CostPart,
-    row: &[Option<DurLen>],
-) -> Result<(), AllocError>
+fn push_row(json: &mut Json, part: CostPart, row: &[Option<DurLen>]) -> Result<(), AllocError>
     requires { TakesValue json.old }
     ensures { OnOk result (json.new ≡ with_value (row_value part row.now) json.old) }
 {

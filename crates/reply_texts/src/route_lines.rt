@@ -1,12 +1,12 @@
 //! The points of routes.
 
-ghost use Rattle.std.specs.Prelude.{◌≡◌, ℕ, ◌==◌, Some, IfOk, OnOk, codes, drop, if◌then◌else◌, map};
+ghost use Rattle.std.specs.Prelude.{◌≡◌, ℕ, Some, IfOk, OnOk, codes, map};
 ghost use Rattle.std.specs.List.{slice_get};
 ghost use Rattle.json_text.specs.Drafts.{TakesKey};
 ghost use Rattle.json_text.specs.Wholes.{optional_member, with_members};
 ghost use Rattle.road_places.specs.Places.{IsPlaceOn};
 ghost use Rattle.road_places.specs.RoadMetric.{road_of};
-ghost use Rattle.reply_texts.specs.Lines.{joined, overview_line};
+ghost use Rattle.reply_texts.specs.Lines.{joined, overview_line, points_behind};
 ghost use Rattle.reply_texts.specs.RouteLegs.{ArePermitted, legs_told};
 
 use crate::lines::push_overview;
@@ -21,7 +21,7 @@ use url_read::{Overview, RouteOptions};
 
 // The points of the leg of this number, from 0, that stand behind those of the legs before it.
 fn later_points(leg: usize, points: &[Point]) -> &[Point]
-    ensures { result.now ≡ (if leg == 0 then points.now else drop 1 points.now) }
+    ensures { result.now ≡ points_behind leg points.now }
 {
     match points {
         [_, later @ ..] if leg > 0 => later,

@@ -1,6 +1,6 @@
 -- Where a walk between two places leads (a leg's geometry in OSRM's route service; the rounding of the places'
 -- points is this project's rule).
-use Rattle.std.specs.Prelude.{◌≡◌, ℕ, ◌-◌, ◌*◌, ◌<◌, List, ◌++◌, All, Option, length, option_map, take}
+use Rattle.std.specs.Prelude.{ℕ, ◌-◌, List, ◌++◌, Option, length, option_map, take}
 use Rattle.std.specs.List.{filter_map, slice_get}
 use Rattle.std.specs.Option.{option_and_then, option_to_list}
 use Rattle.road_base.specs.declared.coordinates.Point.{Point}

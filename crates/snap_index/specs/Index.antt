@@ -5,7 +5,6 @@ use Rattle.geo_integer.specs.Plane.{cosine_between}
 use Rattle.geo_integer.specs.Position.{Position, position_of}
 use Rattle.search_graph.specs.declared.costs.DurLen.{DurLen}
 use Rattle.search_graph.specs.Digraph.{Weighting}
-use Rattle.road_base.specs.declared.coordinates.Point.{Point}
 use Rattle.snap_index.specs.Candidates.{IsOpenLine, Stands, line_remoteness}
 use Rattle.snap_index.specs.Kept.{IsInReach}
 use Rattle.snap_index.specs.Nearest.{remoteness}
@@ -17,10 +16,10 @@ use Rattle.snap_index.specs.declared.indexes.Index.{Index}
 
 -- a position lies within an extent
 pub record IsWithin (extent : Extent) (p : Position) : Type 0 where
-  pub west : extent.low.lon ≤ℤ p.lon
-  pub east : p.lon ≤ℤ extent.high.lon
-  pub south : extent.low.lat ≤ℤ p.lat
-  pub north : p.lat ≤ℤ extent.high.lat
+  pub west : extent.west ≤ℤ p.lon
+  pub east : p.lon ≤ℤ extent.east
+  pub south : extent.south ≤ℤ p.lat
+  pub north : p.lat ≤ℤ extent.north
 
 -- both ends of a line do
 pub record HasLine (extent : Extent) (line : SegmentEnds) : Type 0 where

@@ -1,20 +1,37 @@
 //! Extents of lines, and how far they lie away.
 
-ghost use Rattle.std.specs.Prelude.{◌≡◌, ℤ, ◌≤◌, ◌≤ℤ◌, ◌-ℤ◌, IsTrue, unsigned_abs};
+ghost use Rattle.std.specs.Prelude.{ℤ, ◌≤◌, ◌≤ℤ◌, ◌-ℤ◌, IsTrue, unsigned_abs};
 ghost use Rattle.geo_integer.specs.Position.{position_of};
-ghost use Rattle.snap_index.specs.Index.{HasLine, IsBeyond, IsWithin};
+ghost use Rattle.snap_index.specs.Index.{HasLine, IsBeyond};
 ghost use Rattle.snap_index.specs.declared.grids.SegmentEnds.{SegmentEnds};
 
 use crate::grids::SegmentEnds;
 use geo_integer::plane;
 use road_base::Point;
 
-/// All that lies between two meridians and two parallels: its corner in the south-west and the one in the
-/// north-east.
+/// All that lies between two meridians and two parallels, in microdegrees.
 #[derive(Clone, Copy)]
 pub(crate) struct Extent {
-    pub(crate) low: Point,
-    pub(crate) high: Point,
+    pub(crate) west: i32,
+    pub(crate) east: i32,
+    pub(crate) south: i32,
+    pub(crate) north: i32,
+}
+
+// The lesser of two coordinates.
+fn lesser(a: i32, b: i32) -> i32
+    ensures first { result ≤ℤ a }
+    ensures second { result ≤ℤ b }
+{
+    a.min(b)
+}
+
+// The greater of two coordinates.
+fn greater(a: i32, b: i32) -> i32
+    ensures first { a ≤ℤ result }
+    ensures second { b ≤ℤ result }
+{
+    a.max(b)
 }
 
 // The extent of a line.
@@ -22,14 +39,10 @@ pub(crate) fn extent_of(line: SegmentEnds) -> Extent
     ensures { HasLine result line }
 {
     Extent {
-        low: Point {
-            lon: line.from.lon.min(line.to.lon),
-            lat: line.from.lat.min(line.to.lat),
-        },
-        high: Point {
-            lon: line.from.lon.max(line.to.lon),
-            lat: line.from.lat.max(line.to.lat),
-        },
+        west: lesser(line.from.lon, line.to.lon),
+        east: greater(line.from.lon, line.to.lon),
+        south: lesser(line.from.lat, line.to.lat),
+        north: greater(line.from.lat, line.to.lat),
     }
 }
 
@@ -39,14 +52,10 @@ pub(crate) fn joined(one: Extent, other: Extent) -> Extent
     ensures second { (line : SegmentEnds) → HasLine other line → HasLine result line }
 {
     Extent {
-        low: Point {
-            lon: one.low.lon.min(other.low.lon),
-            lat: one.low.lat.min(other.low.lat),
-        },
-        high: Point {
-            lon: one.high.lon.max(other.high.lon),
-            lat: one.high.lat.max(other.high.lat),
-        },
+        west: lesser(one.west, other.west),
+        east: greater(one.east, other.east),
+        south: lesser(one.south, other.south),
+        north: greater(one.north, other.north),
     }
 }
 
@@ -58,15 +67,14 @@ pub(crate) fn is_beyond(from: Point, cosine: u32, far: Option<u128>, extent: Ext
     let Some(far) = far else {
         return false;
     };
-    let east = gap_between(from.lon, extent.low.lon, extent.high.lon);
-    let north = gap_between(from.lat, extent.low.lat, extent.high.lat);
+    let east = gap_between(from.lon, extent.west, extent.east).min(360_000_000);
+    let north = gap_between(from.lat, extent.south, extent.north).min(180_000_000);
     far < plane(i64::from(east), i64::from(north), cosine)
 }
 
 // How far a coordinate lies outside of those between two others.
 fn gap_between(from: i32, low: i32, high: i32) -> u32
-    ensures least { (y : ℤ) → low ≤ℤ y → y ≤ℤ high → result ≤ unsigned_abs (y -ℤ from) }
-    ensures bound { (n : ℕ) → unsigned_abs from ≤ n → unsigned_abs low ≤ n → unsigned_abs high ≤ n → result ≤ 2 * n }
+    ensures { (y : ℤ) → low ≤ℤ y → y ≤ℤ high → result ≤ unsigned_abs (y -ℤ from) }
 {
     if from < low {
         low.abs_diff(from)

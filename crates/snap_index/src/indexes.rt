@@ -5,7 +5,7 @@
 //! extent. What lies beyond an extent can be passed by with all that is in it, wherever the lines are and however
 //! long; the order serves the speed alone.
 
-ghost use Rattle.std.specs.Prelude.{◌≡◌, ℕ, ◌+◌, ◌*◌, ◌<◌, ◌≤◌, ◌/◌, ◌^◌, List, IfOk, OnOk, length, map};
+ghost use Rattle.std.specs.Prelude.{◌≡◌, ℕ, ◌+◌, ◌*◌, ◌<◌, ◌≤◌, ◌/◌, ◌^◌, List, IfOk, OnOk, Some, length};
 ghost use Rattle.std.specs.List.{slice_get};
 ghost use Rattle.snap_index.specs.Index.{Cover, HasAt, HasLine, IsIndexOf, IsOrder};
 ghost use Rattle.snap_index.specs.declared.indexes.Spot.{Spot};
@@ -60,7 +60,8 @@ fn order_of(alloc: Global, lines: &[SegmentEnds]) -> Result<Vec<u32>, AllocError
     let mut spots = spots_of(alloc, lines)?;
     spots.sort_unstable_by_key(|spot| (spot.key, spot.segment));
     let mut order = Vec::with_capacity(alloc, spots.len())?;
-    for spot in &spots {
+    for i in 0..spots.len() {
+        let spot = spots[i];
         order.push(spot.segment)?;
     }
     Ok(order)
@@ -69,7 +70,8 @@ fn order_of(alloc: Global, lines: &[SegmentEnds]) -> Result<Vec<u32>, AllocError
 // The segments in the order of their numbers, with their keys.
 fn spots_of(alloc: Global, lines: &[SegmentEnds]) -> Result<Vec<Spot>, AllocError>
     requires { length lines.now < 2 ^ 30 }
-    ensures { IfOk result (λ spots. IsOrder lines.now (map (λ (spot : Spot). spot.segment) spots.items)) }
+    ensures count { IfOk result (λ spots. length spots.items ≡ length lines.now) }
+    ensures numbered { IfOk result (λ spots. (i : ℕ) (spot : Spot) → slice_get spots.items i ≡ Some spot → spot.segment ≡ i) }
 {
     let mut spots = Vec::with_capacity(alloc, lines.len())?;
     for (segment, line) in lines.iter().enumerate() {
@@ -109,7 +111,9 @@ fn extents_of(
 {
     let mut extents = Vec::new(alloc);
     for i in 0..order.len() {
-        add(&mut extents, i, extent_of(lines[order[i] as usize]))?;
+        let segment = order[i];
+        let line = lines[segment as usize];
+        add(&mut extents, i, extent_of(line))?;
     }
     Ok(extents)
 }
@@ -120,7 +124,8 @@ fn extents_over(alloc: Global, parts: &[Extent]) -> Result<Vec<Extent>, AllocErr
 {
     let mut extents = Vec::new(alloc);
     for i in 0..parts.len() {
-        add(&mut extents, i, parts[i])?;
+        let part = parts[i];
+        add(&mut extents, i, part)?;
     }
     Ok(extents)
 }

@@ -4,7 +4,7 @@
 //! goes once through the order of the index, and passes by what lies farther away than the reach, or than all that
 //! the slots have.
 
-ghost use Rattle.std.specs.Prelude.{◌≡◌, ℕ, ◌+◌, ◌*◌, ◌<◌, ◌≤◌, ◌^◌, ◌⊎◌, IfSome, IsTrue, List, length};
+ghost use Rattle.std.specs.Prelude.{◌≡◌, ℕ, ◌+◌, ◌*◌, ◌/◌, ◌<◌, ◌≤◌, ◌^◌, ◌⊎◌, IfSome, IsTrue, List, length};
 ghost use Rattle.std.specs.List.{slice_get};
 ghost use Rattle.geo_integer.specs.Position.{position_of};
 ghost use Rattle.snap_index.specs.Candidates.{AreSlots, Ascend, LastIs, Stands, StandsOn};
@@ -50,23 +50,41 @@ pub(crate) fn search(
 {
     let mut width = NARROWEST;
     for _ in 0..20 {
-        let reach = reach_of(width);
-        let window = Window {
-            cosine: least_cosine(from, width),
-            reach: Some(reach),
-        };
-        look(grid, base, from, heading, window, slots);
-        let last = last_remoteness(slots);
-        if is_enough(last, reach) {
+        if look_within(grid, base, from, heading, width, slots) {
             return;
         }
-        width = next_width(width, last);
+        width = next_width(width, last_remoteness(slots));
     }
-    let window = Window {
+    let everywhere = Window {
         cosine: 0,
         reach: None,
     };
+    look(grid, base, from, heading, everywhere, slots);
+}
+
+// Puts the first segments within so many microdegrees of latitude into the slots. It tells whether nothing
+// farther away can come before these.
+fn look_within(
+    grid: &Grid,
+    base: &BaseMetric,
+    from: Point,
+    heading: Option<Heading>,
+    width: u32,
+    slots: &mut [Option<Candidate>],
+) -> bool
+    requires width { width ≤ 180000000 }
+    requires weights { 2 * length grid.now ≤ length base.now.weights.vertex }
+    requires slots { AreSlots grid.now base.now.weights heading (position_of from) slots.old }
+    ensures slots { AreSlots grid.now base.now.weights heading (position_of from) slots.new }
+    ensures judged { IsTrue result → (s : ℕ) → IsJudged grid.now base.now.weights heading (position_of from) None slots.new s }
+{
+    let reach = reach_of(width);
+    let window = Window {
+        cosine: least_cosine(from, width),
+        reach: Some(reach),
+    };
     look(grid, base, from, heading, window, slots);
+    is_enough(last_remoteness(slots), reach)
 }
 
 // Whether all slots are filled, with what lies within reach.
@@ -111,10 +129,13 @@ fn next_width(width: u32, last: Option<u128>) -> u32
 fn last_remoteness(slots: &[Option<Candidate>]) -> Option<u128>
     ensures { IfSome result (λ last. LastIs last slots.now) }
 {
-    match slots.last() {
-        Some(Some(last)) => Some(last.remoteness),
-        _ => None,
+    if slots.is_empty() {
+        return None;
     }
+    let Some(last) = slots[slots.len() - 1] else {
+        return None;
+    };
+    Some(last.remoteness)
 }
 
 // Puts the first segments within reach into the slots: looks at all that aren't passed by.
@@ -168,10 +189,35 @@ fn look_at(
     }
     let segment = index.order[at];
     let line = lines[segment as usize];
-    if !is_beyond(from, window.cosine, far, extent_of(line)) && has_direction(base, heading, line, segment) {
-        put(candidate_on(line, from, segment), slots);
+    if is_beyond(from, window.cosine, far, extent_of(line)) {
+        return at + 1;
     }
+    consider(lines, base, from, heading, segment, slots);
     at + 1
+}
+
+// Puts a segment into its slot, if it has an open direction of the heading.
+fn consider(
+    lines: &[SegmentEnds],
+    base: &BaseMetric,
+    from: Point,
+    heading: Option<Heading>,
+    segment: u32,
+    slots: &mut [Option<Candidate>],
+)
+    requires segment { segment < length lines.now }
+    requires few { length lines.now < 2 ^ 30 }
+    requires weights { 2 * length lines.now ≤ length base.now.weights.vertex }
+    requires slots { AreSlots lines.now base.now.weights heading (position_of from) slots.old }
+    ensures slots { AreSlots lines.now base.now.weights heading (position_of from) slots.new }
+    ensures stay { StandsOn slots.old slots.new }
+    ensures judged { IsJudged lines.now base.now.weights heading (position_of from) None slots.new segment }
+{
+    let line = lines[segment as usize];
+    if !has_direction(base, heading, line, segment) {
+        return;
+    }
+    put(candidate_on(line, from, segment), slots);
 }
 
 // How remote a segment can be at most that isn't passed by: the lesser of the reach and of what the last slot has.
@@ -188,33 +234,38 @@ fn farthest(reach: Option<u128>, slots: &[Option<Candidate>]) -> Option<u128>
 
 // How many numbers of the order can be passed by from one on, since all lines there lie beyond.
 fn passed_by(index: &Index, from: Point, cosine: u32, far: Option<u128>, at: usize) -> usize
+    requires { at < 2 ^ 63 }
     ensures passed { (lines : List SegmentEnds) (i s : ℕ) (line : SegmentEnds) → IsIndexOf lines index.now → at ≤ i → i < at + result
         → slice_get index.now.order.items i ≡ Some s → slice_get lines s ≡ Some line → IsPassed (position_of from) cosine far line }
     ensures bound { result ≤ 4096 }
 {
-    if at % 4096 == 0 && is_passed(&index.groups, at / 4096, from, cosine, far) {
-        4096
-    } else if at % 256 == 0 && is_passed(&index.blocks, at / 256, from, cosine, far) {
-        256
-    } else if at % 16 == 0 && is_passed(&index.leaves, at / 16, from, cosine, far) {
-        16
-    } else {
-        0
+    if is_passed(&index.groups, at, 4096, from, cosine, far) {
+        return 4096;
     }
+    if is_passed(&index.blocks, at, 256, from, cosine, far) {
+        return 256;
+    }
+    if is_passed(&index.leaves, at, 16, from, cosine, far) {
+        return 16;
+    }
+    0
 }
 
-// Whether there is an extent of this number, and it lies beyond.
+// Whether this is the first of so many numbers that have one of these extents, and it lies beyond.
 fn is_passed(
     extents: &[Extent],
-    number: usize,
+    at: usize,
+    size: usize,
     from: Point,
     cosine: u32,
     far: Option<u128>,
 ) -> bool
-    ensures { IsTrue result → (line : SegmentEnds) → HasAt extents.now number line → IsPassed (position_of from) cosine far line }
+    requires { 0 < size }
+    ensures { IsTrue result → (i : ℕ) (line : SegmentEnds) → at ≤ i → i < at + size → HasAt extents.now (i / size) line → IsPassed (position_of from) cosine far line }
 {
-    match extents.get(number) {
-        None => false,
-        Some(extent) => is_beyond(from, cosine, far, *extent),
+    if at % size != 0 || at / size >= extents.len() {
+        return false;
     }
+    let extent = extents[at / size];
+    is_beyond(from, cosine, far, extent)
 }

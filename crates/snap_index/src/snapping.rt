@@ -1,10 +1,12 @@
 //! Snapping coordinates to roads.
 
 ghost use Rattle.std.specs.Prelude.{◌≡◌, ℕ, ◌*◌, ◌<◌, ◌≤◌, IfOk, IfSome, length, MatchOption};
+ghost use Rattle.std.specs.List.{AllByRecursion};
 ghost use Rattle.geo_integer.specs.Position.{position_of};
-ghost use Rattle.snap_index.specs.Candidates.{places_found};
+ghost use Rattle.snap_index.specs.Candidates.{IsEmptySlot, places_found};
 ghost use Rattle.snap_index.specs.Ends.{all_ends};
 ghost use Rattle.snap_index.specs.Firsts.{AreFirsts};
+ghost use Rattle.snap_index.specs.declared.snapping.Snapped.{Snapped};
 ghost use Rattle.snap_index.specs.Snapped.{HasNoPlace, IsSnapped};
 
 use crate::candidates::Candidate;
@@ -44,13 +46,14 @@ pub fn snap(
 {
     let mut slots = [None];
     search(grid, base, from, filter.heading, &mut slots);
-    let best = slots[0]?;
+    let Some(best) = slots[0] else {
+        return None;
+    };
     // what comes first is the least far away, so that nothing else is in reach where it isn't
-    if is_in_reach(filter.radius, from, best.spot) {
-        Some(best.place)
-    } else {
-        None
+    if !is_in_reach(filter.radius, from, best.spot) {
+        return None;
     }
+    Some(best.place)
 }
 
 /// The nearest places of a coordinate, nearest first: on each segment that has an open direction and passes the
@@ -67,11 +70,24 @@ pub fn nearest(
 ) -> Result<Vec<Snapped>, AllocError>
     requires grid { grid.now ≡ all_ends network.now.segments }
     requires weights { 2 * length network.now.segments ≤ length base.now.weights.vertex }
-    ensures { IfOk result (λ found. AreFirsts network.now.segments base.now.weights filter (position_of from) number found.items) }
+    ensures firsts { IfOk result (λ found. AreFirsts network.now.segments base.now.weights filter (position_of from) number found.items) }
+    ensures placed { IfOk result (λ found. AllByRecursion (λ (one : Snapped). (one.place.segment < length network.now.segments) × (one.place.at ≤ 1024)) found.items) }
 {
-    let mut slots = vec![in alloc; None; number as usize]?;
+    let mut slots = empty_slots(alloc, number)?;
     search(grid, base, from, filter.heading, &mut slots);
     found(alloc, from, filter.radius, &slots)
+}
+
+// So many slots, none of which is filled.
+fn empty_slots(alloc: Global, number: u32) -> Result<Vec<Option<Candidate>>, AllocError>
+    ensures count { IfOk result (λ slots. length slots.items ≡ number) }
+    ensures empty { IfOk result (λ slots. AllByRecursion IsEmptySlot slots.items) }
+{
+    let mut slots = Vec::with_capacity(alloc, number as usize)?;
+    for _ in 0..number {
+        slots.push(None)?;
+    }
+    Ok(slots)
 }
 
 // The places of the slots, up to the first that isn't filled or lies out of reach.
@@ -84,8 +100,8 @@ fn found(
     ensures { IfOk result (λ found. found.items ≡ places_found radius (position_of from) slots.now) }
 {
     let mut found = Vec::new(alloc);
-    for slot in slots {
-        let Some(candidate) = *slot else {
+    for i in 0..slots.len() {
+        let Some(candidate) = slots[i] else {
             return Ok(found);
         };
         if !is_in_reach(radius, from, candidate.spot) {

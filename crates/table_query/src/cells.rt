@@ -10,9 +10,9 @@ ghost use Rattle.step_search.specs.ArcSpace.{arc_space};
 ghost use Rattle.table_query.specs.LeastCosts.{IsLeastAmong};
 ghost use Rattle.table_query.specs.Tables.{CostsTo, IsCell};
 
-use crate::along::Along;
-use crate::finish::cost_with;
 use crate::choosing::lesser;
+use crate::finish::cost_with;
+use plain_search::Along;
 use search_graph::{Cost, Start, Target};
 use std::alloc::AllocError;
 use step_search::Search;

@@ -6,7 +6,7 @@ ghost use Rattle.search_graph.specs.Weighted.{IsWeighting};
 ghost use Rattle.step_search.specs.Paths.{AreStarts, IsLeastPath};
 ghost use Rattle.step_search.specs.ArcSpace.{arc_space};
 
-use crate::along::Along;
+use plain_search::Along;
 use search_graph::{Cost, Start, Target};
 
 /// What a cheapest walk to the target costs: what a cheapest path to its vertex does, with the target's cost in

@@ -9,7 +9,6 @@
 //! has what follows for the lesser of two.
 #![tactic(auto)]
 
-mod along;
 mod cells;
 mod choosing;
 mod finish;

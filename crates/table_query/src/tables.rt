@@ -10,10 +10,9 @@ ghost use Rattle.step_search.specs.UnderWay.{IsUnderWay};
 ghost use Rattle.step_search.specs.ArcSpace.{arc_space};
 ghost use Rattle.table_query.specs.Tables.{IsRow, IsTable};
 
-use crate::along::Along;
 use crate::cells::cell;
 use crate::lists::{Row, Starts, Targets};
-use plain_search::SearchFault;
+use plain_search::{Along, SearchFault};
 use search_graph::{Cost, Graph, Start, Weights};
 use std::alloc::{AllocError, Global};
 use step_search::Search;
