@@ -1,6 +1,6 @@
 -- How an answer comes from its parts.
-use Rattle.std.proofs.Common.{◌≡◌, inl, inr, ℕ, zero, suc, Bool, true, false, eqb, ap₂, map, ◌<◌, ◌≤◌, ◌+◌, ◌^◌, List, [], ◌∷◌, ◌++◌, length, sym, ap, subst, refl, ◌∙◌, arith}
-use Rattle.std.specs.Prelude.{Option, Some, None, Result, Ok, Err, IfErr, option_map}
+use Rattle.std.proofs.Common.{◌≡◌, inl, inr, ℕ, zero, suc, Bool, true, false, eqb, ap₂, map, ◌<◌, ◌≤◌, ◌^◌, List, [], ◌∷◌, length, sym, ap, subst, refl, ◌∙◌, arith}
+use Rattle.std.specs.Prelude.{Option, Some, Result, Ok, Err, IfErr, option_map}
 use Rattle.std.specs.Result.{IsErrAnd}
 use Rattle.std.specs.List.{AllByRecursion, AllZip, slice_get, zip}
 use Rattle.std.proofs.lemmas.Bool.{eqb-true}
@@ -21,7 +21,6 @@ use Rattle.metric_make.specs.MetricOf.{MetricView}
 use Rattle.reply_texts.specs.Replies.{route_reply}
 use Rattle.reply_texts.specs.RouteLegs.{ArePermitted, legs_told}
 use Rattle.reply_texts.specs.Waypoints.{waypoints_of}
-use Rattle.road_walks.specs.FirstFailure.{IsFirstFailure}
 use Rattle.road_walks.specs.Legs.{AreAlong, IsLegFault}
 use Rattle.road_walks.specs.declared.leg_faults.LegFault.{LegFault}
 use Rattle.road_walks.specs.declared.leg_faults.LegFault.TheVariants as leg
@@ -37,7 +36,7 @@ use Rattle.url_read.specs.declared.requests.Service.{Service}
 use Rattle.url_read.specs.declared.requests.Service.TheVariants as service
 use Rattle.reply_core.specs.Asked.{asked_in, filter_of, filters_of}
 use Rattle.reply_core.specs.Faults.{IsFoundFault, IsPlaceFault, leg_fault, place_fault}
-use Rattle.reply_core.specs.Lacks.{HasLegs, IsRecent, IsStray, LacksPlace, HasPlace, StandsFor}
+use Rattle.reply_core.specs.Lacks.{HasLegs, IsRecent, IsStray, LacksPlace, StandsFor}
 use Rattle.reply_core.specs.declared.lacks.PlaceFault.{PlaceFault}
 use Rattle.reply_core.specs.declared.lacks.PlaceFault.TheVariants as place
 

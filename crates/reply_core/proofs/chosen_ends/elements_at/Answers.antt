@@ -1,5 +1,5 @@
 -- One element more.
-use Rattle.std.proofs.Common.{◌<◌, List, ◌∷◌, [], ◌++◌, get_or, length, sym, ◌∙◌, ap}
+use Rattle.std.proofs.Common.{◌∷◌, [], ◌++◌, get_or, length, sym, ◌∙◌, ap}
 use Rattle.list_lemmas.proofs.Gets.{get_is}
 use Rattle.reply_core.proofs.ChosenLemmas.{index-within, picked-more}
 use Rattle.reply_core.proofs.chosen_ends.elements_at.Goals as goal

@@ -1,6 +1,5 @@
 -- What was found is the first of all, or nothing is there.
-use Rattle.std.proofs.Common.{◌≡◌, ◌≤◌, ℕ, eqb, [], length, map, refl, sym, subst, ap, ap₂, ◌∙◌, arith, List}
-use Rattle.std.specs.Prelude.{Some}
+use Rattle.std.proofs.Common.{◌≡◌, ◌≤◌, eqb, [], length, map, refl, sym, subst, ap, ap₂, ◌∙◌, arith, List}
 use Rattle.std.specs.List.{slice_get}
 use Rattle.json_text.specs.Values.{compact_text}
 use Rattle.geo_integer.specs.Position.{position_of}

@@ -1,7 +1,6 @@
 use Rattle.std.proofs.Common.{ap, arith, length}
 use Rattle.list_lemmas.proofs.Fronts.{all_zip-length}
 use Rattle.road_base.specs.declared.segments.Place.{Place}
-use Rattle.edge_graph.specs.NetworkView.{NetworkView}
 use Rattle.reply_core.specs.Asked.{asked_in}
 use Rattle.reply_core.specs.Lacks.{StandsFor}
 use Rattle.reply_core.proofs.AnswerLemmas.{asked-count, few-of, some-of}

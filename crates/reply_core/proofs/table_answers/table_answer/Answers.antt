@@ -5,7 +5,7 @@ use Rattle.road_base.specs.declared.coordinates.Point.{Point}
 use Rattle.road_base.specs.declared.segments.Place.{Place}
 use Rattle.road_places.specs.Places.{IsPlaceOn}
 use Rattle.edge_graph.specs.NetworkView.{NetworkView}
-use Rattle.reply_core.specs.Asked.{asked_in, chosen_from}
+use Rattle.reply_core.specs.Asked.{asked_in}
 use Rattle.reply_core.specs.Lacks.{StandsFor}
 use Rattle.reply_core.proofs.AnswerLemmas.{asked-count}
 use Rattle.reply_core.proofs.ChosenLemmas.{chosen-placed, chosen-size}
