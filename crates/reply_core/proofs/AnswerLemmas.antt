@@ -1,8 +1,9 @@
 -- How an answer comes from its parts.
-use Rattle.std.proofs.Common.{◌≡◌, inl, inr, ℕ, zero, suc, ◌<◌, ◌≤◌, ◌+◌, List, [], ◌∷◌, ◌++◌, length, sym, ap, subst, refl, ◌∙◌, arith}
-use Rattle.std.specs.Prelude.{Option, Some, None, option_map}
-use Rattle.std.specs.List.{AllZip, flat_map, slice_get, zip}
-use Rattle.std.specs.Option.{option_to_list}
+use Rattle.std.proofs.Common.{◌≡◌, inl, inr, ℕ, zero, suc, Bool, true, false, eqb, ap₂, map, ◌<◌, ◌≤◌, ◌^◌, List, [], ◌∷◌, length, sym, ap, subst, refl, ◌∙◌, arith}
+use Rattle.std.specs.Prelude.{Option, Some, Result, Ok, Err, IfErr, option_map}
+use Rattle.std.specs.Result.{IsErrAnd}
+use Rattle.std.specs.List.{AllByRecursion, AllZip, slice_get, zip}
+use Rattle.std.proofs.lemmas.Bool.{eqb-true}
 use Rattle.std.proofs.lemmas.List.{length-map}
 use Rattle.std.proofs.lemmas.Option.{same_Some, slice_get-map}
 use Rattle.std.proofs.lemmas.Slice.Zip.{length-zip}
@@ -11,16 +12,33 @@ use Rattle.road_base.specs.declared.coordinates.Point.{Point}
 use Rattle.road_base.specs.declared.segments.Place.{Place}
 use Rattle.geo_integer.specs.Position.{position_of}
 use Rattle.road_places.specs.Places.{IsPlaceOn}
-use Rattle.road_places.specs.RoadMetric.{RoadMetric}
-use Rattle.road_walks.specs.FirstFailure.{IsFirstFailure}
+use Rattle.road_places.specs.RoadMetric.{RoadMetric, road_of}
+use Rattle.road_places.specs.declared.walks.Route.{Route}
+use Rattle.search_graph.specs.declared.costs.DurLen.{DurLen}
+use Rattle.search_graph.specs.Digraph.{Weighting}
+use Rattle.edge_graph.specs.NetworkView.{NetworkView}
+use Rattle.metric_make.specs.MetricOf.{MetricView}
+use Rattle.reply_texts.specs.Replies.{route_reply}
+use Rattle.reply_texts.specs.RouteLegs.{ArePermitted, legs_told}
+use Rattle.reply_texts.specs.Waypoints.{waypoints_of}
+use Rattle.road_walks.specs.Legs.{AreAlong, IsLegFault}
+use Rattle.road_walks.specs.declared.leg_faults.LegFault.{LegFault}
+use Rattle.road_walks.specs.declared.leg_faults.LegFault.TheVariants as leg
 use Rattle.snap_index.specs.Firsts.{AreFirsts}
 use Rattle.snap_index.specs.declared.filters.Filter.{Filter}
+use Rattle.snap_index.specs.declared.snapping.Snapped.{Snapped}
 use Rattle.option_values.specs.declared.option_types.Bearing.{Bearing}
-use Rattle.option_values.specs.declared.option_types.Chosen.{Chosen}
-use Rattle.option_values.specs.declared.option_types.Chosen.TheVariants.{All, Only}
+use Rattle.url_read.specs.Request.{IsFitting, fewest, most, name_of_service}
+use Rattle.url_read.specs.declared.requests.NearestOptions.{NearestOptions}
 use Rattle.url_read.specs.declared.requests.Request.{Request}
-use Rattle.reply_core.specs.Asked.{asked_in, chosen_from, filter_of, filters_of}
-use Rattle.reply_core.specs.Lacks.{IsStray, LacksPlace, HasPlace, StandsFor}
+use Rattle.url_read.specs.declared.requests.RouteOptions.{RouteOptions}
+use Rattle.url_read.specs.declared.requests.Service.{Service}
+use Rattle.url_read.specs.declared.requests.Service.TheVariants as service
+use Rattle.reply_core.specs.Asked.{asked_in, filter_of, filters_of}
+use Rattle.reply_core.specs.Faults.{IsFoundFault, IsPlaceFault, leg_fault, place_fault}
+use Rattle.reply_core.specs.Lacks.{HasLegs, IsRecent, IsStray, LacksPlace, StandsFor}
+use Rattle.reply_core.specs.declared.lacks.PlaceFault.{PlaceFault}
+use Rattle.reply_core.specs.declared.lacks.PlaceFault.TheVariants as place
 
 -- the place stands for the coordinate, and lies on the network
 abbrev pub IsFoundFor : RoadMetric → Point × Filter → Place → Type 0
@@ -72,20 +90,80 @@ first-stray road asked one at lacks = record {
   before = λ k other lt there. absurd (omega (arith, lt));
 }
 
-module _ {A : Type 0} (P : A → Type 0) (all : List A) (each : (k : ℕ) (x : A) → slice_get all k ≡ Some x → P x) where
-  abbrev picked : List ℕ → List A
-  picked indexes = flat_map (λ i. option_to_list (slice_get all i)) indexes
+-- a request that fits its service has a coordinate, and not too many
+pub some-of : (asked : Service) (count : ℕ) → fewest (name_of_service asked) ≤ count → 0 < count
+some-of (service.Route own) count h = omega (arith, h)
+some-of (service.Table own) count h = omega (arith, h)
+some-of (service.Nearest own) count h = omega (arith, h)
 
-  picked-each : (indexes : List ℕ) (k : ℕ) (x : A) → slice_get (picked indexes) k ≡ Some x → P x
-  picked-each [] k x at = cc
-  picked-each (i ∷ more) k x at = by (slice_get all i) refl k at
-    where
-      by : (o : Option A) → slice_get all i ≡ o → (k : ℕ) → slice_get (option_to_list o ++ picked more) k ≡ Some x → P x
-      by None is k at = picked-each more k x at
-      by (Some y) is zero at = each i x (is ∙ at)
-      by (Some y) is (suc k) at = picked-each more k x at
+pub few-of : (asked : Service) (count : ℕ) → count ≤ most (name_of_service asked) → count < 2 ^ 32
+few-of (service.Route own) count h = omega (arith, h)
+few-of (service.Table own) count h = omega (arith, h)
+few-of (service.Nearest own) count h = omega (arith, h)
 
-  -- what holds of each element of a list holds of each of the chosen ones
-  pub chosen-each : (which : Chosen) (k : ℕ) (x : A) → slice_get (chosen_from which all) k ≡ Some x → P x
-  chosen-each All k x at = each k x at
-  chosen-each (Only indexes) k x at = picked-each indexes k x at
+-- one for the nearest places has one
+pub one-of : (request : Request) (own : NearestOptions) → request.service ≡ service.Nearest own → IsFitting request → length request.points ≡ 1
+one-of request own is fitting =
+    let least : 1 ≤ length request.points = subst (λ (s : Service). fewest (name_of_service s) ≤ length request.points) is fitting.least in
+    let greatest : length request.points ≤ 1 = subst (λ (s : Service). length request.points ≤ most (name_of_service s)) is fitting.most in
+    omega (arith, least, greatest)
+
+-- what holds of a fault holds of the one that is handed on
+pub fault-given : {T E : Type 0} (P : E → Type 0) (fault : E) (r : Result T E) → P fault → IsErrAnd r (λ given. given ≡ fault) → IfErr r P
+fault-given P fault (Ok x) holds failed = absurd failed
+fault-given P fault (Err given) holds same = subst P (sym same) holds
+
+-- a fault of the coordinates is one of the request
+pub place-fault : (road : RoadMetric) (number : ℕ) (request : Request) (fault : PlaceFault) → IsRecent number request → IsPlaceFault road (asked_in request) fault → IsFoundFault road number request (place_fault fault)
+place-fault road number request (place.NoPlace coordinate) recent is = (recent, is)
+place-fault road number request place.Memory recent is = tt
+
+-- and a fault of the legs one of a request for a route
+pub leg-fault : (road : RoadMetric) (number : ℕ) (request : Request) (own : RouteOptions) (places : List Place) (fault : LegFault) → request.service ≡ service.Route own → IsRecent number request
+    → AllZip (StandsFor road) (asked_in request) places → IsLegFault road places fault → IsFoundFault road number request (leg_fault fault)
+leg-fault road number request own places (leg.NoWalk n) is recent snapped first = (subst HasLegs (sym is) tt, recent, record { places = places; snapped = snapped; first = first })
+leg-fault road number request own places leg.Memory is recent snapped first = tt
+
+-- a network and costs that are a road's
+road-same : (road : RoadMetric) (network : NetworkView) (base : MetricView) → network ≡ road.network → base.weights ≡ road.weights → road_of network base ≡ road
+road-same road network base n w = ap₂ {C = RoadMetric} (λ (x : NetworkView) (y : Weighting DurLen). record { network = x; weights = y }) n w
+
+-- what leads along the legs of one road leads along those of the same one
+pub permitted-on : (road : RoadMetric) (network : NetworkView) (base : MetricView) (places given : List Place) (routes walked : List Route) → network ≡ road.network → base.weights ≡ road.weights → given ≡ places → walked ≡ routes
+    → AreAlong road places routes → ArePermitted (road_of network base) given walked
+permitted-on road network base places given routes walked n w p r along =
+    subst (λ (x : RoadMetric). ArePermitted x given walked) (sym (road-same road network base n w))
+    (subst (λ (x : List Place). ArePermitted road x walked) (sym p) (subst (λ (x : List Route). ArePermitted road places x) (sym r) along))
+
+-- and the reply is the same
+pub route-told : (number : ℕ) (skip : Bool) (own : RouteOptions) (points : List Point) (road : RoadMetric) (network : NetworkView) (base : MetricView) (places given : List Place) (routes walked : List Route)
+    → network ≡ road.network → base.weights ≡ road.weights → given ≡ places → walked ≡ routes
+    → route_reply number skip own (legs_told (road_of network base) given walked) (waypoints_of network.segments points given) ≡ route_reply number skip own (legs_told road places routes) (waypoints_of road.network.segments points places)
+route-told number skip own points road network base places given routes walked n w p r =
+    ap (λ (x : RoadMetric). route_reply number skip own (legs_told x given walked) (waypoints_of x.network.segments points given)) (road-same road network base n w)
+    ∙ ap (λ (x : List Place). route_reply number skip own (legs_told road x walked) (waypoints_of road.network.segments points x)) p
+    ∙ ap (λ (x : List Route). route_reply number skip own (legs_told road places x) (waypoints_of road.network.segments points places)) r
+
+-- the first places on one road are those on the same one
+pub firsts-on : (road : RoadMetric) (network : NetworkView) (base : MetricView) (asked : Point × Filter) (number : ℕ) (found : List Snapped) → network ≡ road.network → base.weights ≡ road.weights
+    → AreFirsts network.segments base.weights asked.1 (position_of asked.0) number found → AreFirsts road.network.segments road.weights asked.1 (position_of asked.0) number found
+firsts-on road network base asked number found n w firsts =
+    subst (λ (x : NetworkView). AreFirsts x.segments road.weights asked.1 (position_of asked.0) number found) n
+    (subst (λ (x : Weighting DurLen). AreFirsts network.segments x asked.1 (position_of asked.0) number found) w firsts)
+
+-- nothing was found
+pub found-none : {A : Type 0} (found : List A) → eqb (length found) 0 ≡ true → found ≡ []
+found-none [] none = refl
+found-none (x ∷ xs) none = absurd (omega (arith, eqb-true (length (x ∷ xs)) 0 none))
+
+-- or something was
+pub found-some : {A : Type 0} (found : List A) → eqb (length found) 0 ≡ false → 0 < length found
+found-some [] some = cc
+found-some (x ∷ xs) some = omega arith
+
+-- the places that were found are on the network
+pub found-placed : (network : NetworkView) (found : List Snapped) → AllByRecursion (λ (one : Snapped). (one.place.segment < length network.segments) × (one.place.at ≤ 1024)) found
+    → (k : ℕ) (place : Place) → slice_get (map (λ (one : Snapped). one.place) found) k ≡ Some place → IsPlaceOn network place
+found-placed network [] all k place at = cc
+found-placed network (x ∷ xs) all zero place at = subst (λ (p : Place). IsPlaceOn network p) (same_Some x.place place at) (record { on_segment = all.0.0; within = all.0.1 })
+found-placed network (x ∷ xs) all (suc k) place at = found-placed network xs all.1 k place at

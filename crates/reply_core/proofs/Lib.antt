@@ -1,2 +1,3 @@
 pub mod AnswerLemmas
+pub mod ChosenLemmas
 pub mod RequestLemmas

@@ -42,13 +42,16 @@ pub(crate) fn table_answer(
     ensures status { IfOk result (λ answer. answer.status ≡ status_of answer.code) }
     ensures err { IfErr result (IsFoundFault under.now.road number request.now) }
 {
+    // a vertex is twice a segment, and fits its type
+    let network = under.network();
+    prove!(network.segments() < 1 << 30);
     let places = places_of(alloc, under, grid, request)?;
     let sources = ends_of(alloc, &own.sources, request, &places)?;
     let destinations = ends_of(alloc, &own.destinations, request, &places)?;
     let rows = cost_rows(alloc, under, &sources.places, &destinations.places)?;
     let text = table_text(
         alloc,
-        under.network(),
+        network,
         number,
         request,
         own.annotations,

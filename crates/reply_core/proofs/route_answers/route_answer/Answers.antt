@@ -1,0 +1,44 @@
+use Rattle.std.proofs.Common.{ap, arith, length}
+use Rattle.list_lemmas.proofs.Fronts.{all_zip-length}
+use Rattle.road_base.specs.declared.segments.Place.{Place}
+use Rattle.reply_core.specs.Asked.{asked_in}
+use Rattle.reply_core.specs.Lacks.{StandsFor}
+use Rattle.reply_core.proofs.AnswerLemmas.{asked-count, few-of, some-of}
+use Rattle.reply_core.proofs.route_answers.route_answer.Goals as goal
+
+-- there are as many places as coordinates
+pub least_routes-requires-clause-some : goal.least_routes-requires-clause-some
+least_routes-requires-clause-some c =
+    let request = c.args.request.now in
+    let asked = asked-count request c.requires.fitting.radiuses c.requires.fitting.bearings in
+    let as_many = all_zip-length (StandsFor c.args.under.now.road) (asked_in request) c.in_ok-places.places.items c.in_ok-places.ensures.snapped in
+    let same = ap (length {A = Place}) c.deref.ensures.value in
+    let some = some-of request.service (length request.points) c.requires.fitting.least in
+    omega (arith, asked, as_many, same, some)
+
+pub least_routes-requires-clause-few : goal.least_routes-requires-clause-few
+least_routes-requires-clause-few c =
+    let request = c.args.request.now in
+    let asked = asked-count request c.requires.fitting.radiuses c.requires.fitting.bearings in
+    let as_many = all_zip-length (StandsFor c.args.under.now.road) (asked_in request) c.in_ok-places.places.items c.in_ok-places.ensures.snapped in
+    let same = ap (length {A = Place}) c.deref.ensures.value in
+    let few = few-of request.service (length request.points) c.requires.fitting.most in
+    omega (arith, asked, as_many, same, few)
+
+pub told-requires-clause-as_many : goal.told-requires-clause-as_many
+told-requires-clause-as_many c =
+    let request = c.args.request.now in
+    let asked = asked-count request c.requires.fitting.radiuses c.requires.fitting.bearings in
+    let as_many = all_zip-length (StandsFor c.args.under.now.road) (asked_in request) c.in_ok-places.places.items c.in_ok-places.ensures.snapped in
+    omega (arith, asked, as_many)
+
+-- and fewer routes
+pub told-requires-clause-legs : goal.told-requires-clause-legs
+told-requires-clause-legs c =
+    let request = c.args.request.now in
+    let asked = asked-count request c.requires.fitting.radiuses c.requires.fitting.bearings in
+    let as_many = all_zip-length (StandsFor c.args.under.now.road) (asked_in request) c.in_ok-places.places.items c.in_ok-places.ensures.snapped in
+    let same = ap (length {A = Place}) c.deref.ensures.value in
+    let one_each = c.in_ok-routes.ensures.one_each in
+    let few = few-of request.service (length request.points) c.requires.fitting.most in
+    omega (arith, asked, as_many, same, one_each, few)
