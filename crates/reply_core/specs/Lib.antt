@@ -3,4 +3,3 @@ pub mod Asked
 pub mod Faults
 pub mod Lacks
 pub mod Request
-pub mod Texts
