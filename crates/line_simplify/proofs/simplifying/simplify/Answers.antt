@@ -1,0 +1,64 @@
+use Rattle.std.proofs.Common.{◌≡◌, ◌∙◌, ℕ, ◌-◌, ◌≤◌, List, [], ◌∷◌, length, All, sym, subst, arith}
+use Rattle.std.specs.Prelude.{MatchOption}
+use Rattle.std.proofs.lemmas.List.{get_or_read, nil_from_length}
+use Rattle.std.proofs.lemmas.Result.{IfOk-weaker}
+use Rattle.road_base.specs.declared.coordinates.Point.{Point}
+use Rattle.line_simplify.specs.Steps.{IsFarthestAt}
+use Rattle.line_simplify.specs.Simplified.{IsSimplified, few, limit_of, offset_of, simplified}
+use Rattle.line_simplify.proofs.Ends.{next-end, part, stands-all, stands-first, stands-next, step-smaller}
+use Rattle.line_simplify.proofs.Lines.{simplified-few, simplified-is, simplified-rule}
+use Rattle.line_simplify.proofs.simplifying.simplify.Goals as goal
+
+-- fewer than three points
+pub returns-then-points-lt3-clause-value : goal.returns-then-points-lt3-clause-value
+returns-then-points-lt3-clause-value c =
+    IfOk-weaker c.from_slice.result (λ v. v.items ≡ c.args.points.now) (λ v. v.items ≡ simplified c.args.tolerance c.args.points.now) (λ v e. e ∙ simplified-few c.args.tolerance c.args.points.now c.if-points-lt3.true) c.from_slice.ensures.items
+
+pub returns-then-points-lt3-clause-rule : goal.returns-then-points-lt3-clause-rule
+returns-then-points-lt3-clause-rule c =
+    IfOk-weaker c.from_slice.result (λ v. v.items ≡ c.args.points.now) (λ v. IsSimplified c.args.tolerance c.args.points.now v.items)
+    (λ v e. subst (λ (xs : List Point). IsSimplified c.args.tolerance c.args.points.now xs) (sym e) (few c.args.points.now c.if-points-lt3.true)) c.from_slice.ensures.items
+
+-- at first
+pub loop-to-init : goal.loop-to-init
+loop-to-init c =
+    let points = c.args.points.now in
+    let x = c.index-points-0.result in
+    let le : 3 ≤ length points = c.if-points-lt3.false in
+    let e : c.in_ok-kept.kept.items ≡ x ∷ [] = c.in_ok-kept.ensures.items in
+    let i : c.in_ok-ends.ends.items ≡ (length points - 1) ∷ [] = c.in_ok-ends.ensures.items in
+    stands-first c.args.tolerance points c.in_ok-kept.kept.items c.in_ok-ends.ends.items x le (get_or_read points 0 x (omega (arith, le)) c.index-points-0.is) e i
+
+-- one step more
+pub loop-to-smaller : goal.loop-to-smaller
+loop-to-smaller c =
+    step-smaller c.args.tolerance c.args.points.now c.loop-to.kept.items c.loop-to.from c.loop-to.ends.items c.pop.new.self.items c.in-Some.to c.loop-to.invariant c.in-Some.ensures.items
+    c.index-points-to.result c.farthest-split.result c.step.new.kept.items c.in_ok-from.from c.step.new.ends.items c.in_ok-from.ensures
+
+pub loop-to-preserved : goal.loop-to-preserved
+loop-to-preserved c =
+    let points = c.args.points.now in
+    let from = c.loop-to.from in
+    let to = c.in-Some.to in
+    let x = c.index-points-from.result in
+    let y = c.index-points-to.result in
+    let split = c.farthest-split.result in
+    let e = c.in-Some.ensures.items in
+    let next = next-end c.args.tolerance points c.loop-to.kept.items from c.loop-to.ends.items c.pop.new.self.items to c.loop-to.invariant e in
+    let found : MatchOption split (All (λ q. offset_of x y q ≤ limit_of c.args.tolerance) (part points from to)) (IsFarthestAt (limit_of c.args.tolerance) x y (part points from to)) =
+    subst (λ (limit : ℕ). MatchOption split (All (λ q. offset_of x y q ≤ limit) (part points from to)) (IsFarthestAt limit x y (part points from to))) c.limit-limit.ensures c.farthest-split.ensures.value in
+    stands-next c.args.tolerance points c.loop-to.kept.items from c.loop-to.ends.items c.pop.new.self.items to c.loop-to.invariant e x y split c.step.new.kept.items c.in_ok-from.from c.step.new.ends.items
+    (get_or_read points from x c.loop-to.invariant.inside c.index-points-from.is) (get_or_read points to y next.1 c.index-points-to.is) found c.in_ok-from.ensures
+
+-- no end is left
+pub returns-clause-value : goal.returns-clause-value
+returns-clause-value c =
+    let none : length c.loop-to.ends.items ≡ 0 = sym c.loop-to.ends.ok.0 ∙ c.in_default.ensures.cases.0 in
+    stands-all c.args.tolerance c.args.points.now c.loop-to.kept.items c.loop-to.from c.loop-to.ends.items c.index-points-0.result c.loop-to.invariant (nil_from_length c.loop-to.ends.items none)
+
+pub returns-clause-rule : goal.returns-clause-rule
+returns-clause-rule c =
+    subst (λ (xs : List Point). IsSimplified c.args.tolerance c.args.points.now xs) (sym (returns-clause-value c)) (simplified-rule c.args.tolerance c.args.points.now)
+
+pub returns-clause-only : goal.returns-clause-only
+returns-clause-only c = λ other h. simplified-is c.args.tolerance c.args.points.now other h ∙ sym (returns-clause-value c)

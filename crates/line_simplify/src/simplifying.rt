@@ -1,0 +1,98 @@
+//! Which points of a line stay.
+
+ghost use Rattle.std.specs.Prelude.{◌≡◌, ◌+◌, ◌<◌, ◌≤◌, All, IfOk, IfSome, List, MatchOption, length};
+ghost use Rattle.road_base.specs.declared.coordinates.Point.{Point};
+ghost use Rattle.line_simplify.specs.Steps.{IsFarthestAt, IsStep};
+ghost use Rattle.line_simplify.specs.Simplified.{IsSimplified, limit_of, offset_of, simplified};
+
+use geo_integer::{plane_distance, point_at, project};
+use road_base::Point;
+use std::alloc::{AllocError, Global};
+
+/// The points that stay of a line with a tolerance in microdegrees of latitude, in their order. The first and
+/// the last one stay. It answers an error only where memory runs out.
+///
+/// Each point is looked at once for each part that is split and in which it lies: about n log n looks at n points
+/// on most lines, but half of n squared where each split parts off a single point.
+pub fn simplify(alloc: Global, points: &[Point], tolerance: u32) -> Result<Vec<Point>, AllocError>
+    ensures value { IfOk result (λ kept. kept.items ≡ simplified tolerance points.now) }
+    ensures rule { IfOk result (λ kept. IsSimplified tolerance points.now kept.items) }
+    ensures only { IfOk result (λ kept. (other : List Point) → IsSimplified tolerance points.now other → other ≡ kept.items) }
+{
+    if points.len() < 3 {
+        return Vec::from_slice(alloc, points);
+    }
+    let limit = limit(tolerance);
+    let mut kept = vec![in alloc; points[0]]?;
+    let mut from = 0;
+    // the points that stay behind `from`, as far as they are known: the last of them is the next one
+    let mut ends = vec![in alloc; points.len() - 1]?;
+    while let Some(to) = ends.pop() {
+        let end = points[to];
+        let split = farthest(points[from], &points[from + 1..to], end, limit);
+        from = step(&mut kept, &mut ends, from, to, end, split)?;
+    }
+    Ok(kept)
+}
+
+// One step from the last point that stays to the next end, the point `to`, which was taken off the stack: it
+// stays, or goes back where the points between are split, with the one at which they are above it. Answers which
+// point is the last that stays then.
+fn step(
+    kept: &mut Vec<Point>,
+    ends: &mut Vec<usize>,
+    from: usize,
+    to: usize,
+    end: Point,
+    split: Option<usize>,
+) -> Result<usize, AllocError>
+    requires { IfSome split (λ at. from + 1 + at < to) }
+    ensures { IfOk result (λ next. IsStep kept.old.items kept.new.items ends.old.items ends.new.items from to end next split) }
+{
+    match split {
+        Some(at) => {
+            ends.push(to)?;
+            ends.push(from + 1 + at)?;
+            Ok(from)
+        }
+        None => {
+            kept.push(end)?;
+            Ok(to)
+        }
+    }
+}
+
+// The square of a tolerance in 65536ths.
+#[tactic(auto, unfolding(crate::specs::Simplified::limit_of))]
+fn limit(tolerance: u32) -> u128
+    ensures { result ≡ limit_of tolerance }
+{
+    let wide = u128::from(tolerance) * 65536;
+    wide * wide
+}
+
+// Of the points between `a` and `b` the first of those that lie farthest off the line from `a` to `b`, by its
+// index. None where all lie within the limit.
+fn farthest(a: Point, between: &[Point], b: Point, limit: u128) -> Option<usize>
+    ensures value { MatchOption result (All (λ p. offset_of a b p ≤ limit) between.now) (IsFarthestAt limit a b between.now) }
+    ensures within { IfSome result (λ at. at < length between.now) }
+{
+    let mut most = limit;
+    let mut farthest = None;
+    for (at, point) in between.iter().enumerate() {
+        let offset = offset(*point, a, b);
+        if offset > most {
+            most = offset;
+            farthest = Some(at);
+        }
+    }
+    farthest
+}
+
+// The square of the distance of a point from its nearest place on the line from `a` to `b`.
+#[tactic(auto, unfolding(crate::specs::Simplified::offset_of))]
+fn offset(point: Point, a: Point, b: Point) -> u128
+    ensures { result ≡ offset_of a b point }
+{
+    plane_distance(point, point_at(a, b, project(point, a, b)))
+}
