@@ -1,5 +1,10 @@
 pub mod Costing
 pub mod Cuts
+pub mod Locals
+pub mod Numbered
 pub mod Piling
+pub mod Ranges
+pub mod Renumbered
+pub mod Searched
 pub mod Slices
 pub mod Zipping

@@ -3,10 +3,16 @@
 //!
 //! Each entry of a cell has one search inside the cell, over the cliques one level down; in cells of level 1 it goes over arcs
 //! alone. So the levels come from the lowest up, and the cells of one level don't depend on one another.
+//!
+//! The searches of a cell go over a small graph of its own: the vertices to which they come, under numbers from 0, with
+//! their arcs side by side.
 #![tactic(auto)]
 
 mod customizing;
+mod local;
+mod numbering;
 mod pieces;
+mod renamed;
 mod rows;
 mod scratch;
 mod side_by_side;

@@ -1,7 +1,8 @@
-//! What is used again and again: a search, begun anew at one entry after another.
+//! What is used again and again: the vertices inside a cell, and a search that is begun anew at one entry after another.
 
 ghost use Rattle.std.specs.Prelude.{◌≡◌, []};
 
+use crate::local::Local;
 use cost_lists::CostRow;
 use search_graph::{ArcRow, Cost, Start};
 use std::alloc::{AllocError, Global};
@@ -52,9 +53,16 @@ impl<C: Cost> Steps<C> for Nowhere {
 
 /// A search, and the list of its one start.
 #[derive(Drop)]
-pub struct Scratch<C: Cost> {
+pub struct Turn<C: Cost> {
     pub search: Search<C>,
     pub starts: Vec<Start<C>>,
+}
+
+/// What one worker uses again for each cell, and for each of its entries.
+#[derive(Drop)]
+pub struct Scratch<C: Cost> {
+    pub local: Local<C>,
+    pub turn: Turn<C>,
 }
 
 impl<C: Cost> Scratch<C> {
@@ -63,6 +71,8 @@ impl<C: Cost> Scratch<C> {
         let nowhere = Nowhere;
         let starts = Vec::new(alloc);
         let search = Search::begin(alloc, &nowhere, starts.as_slice())?;
-        Ok(Scratch { search, starts })
+        let turn = Turn { search, starts };
+        let local = Local::new(alloc);
+        Ok(Scratch { local, turn })
     }
 }

@@ -1,16 +1,17 @@
 -- The grammar, and reading from the left, say the same.
-use Rattle.std.proofs.Common.{◌≡◌, ◌⊎◌, inl, inr, ℕ, suc, zero, ℤ, pos, ◌+◌, ◌-◌, ◌<◌, ◌≤◌, Bool, true, false, List, [], ◌∷◌, ◌++◌, length, drop, Vec, Result, Ok, Err, refl, sym, ap, ap₂, ◌∙◌, subst, arith, append_assoc, length-append}
+use Rattle.std.proofs.Common.{◌≡◌, inl, inr, ℕ, suc, zero, ℤ, pos, ◌+◌, ◌-◌, ◌<◌, ◌≤◌, Bool, true, false, List, [], ◌∷◌, ◌++◌, length, drop, Vec, Result, Ok, Err, refl, sym, ap, ◌∙◌, subst, arith, append_assoc, length-append}
 use Rattle.std.proofs.lemmas.Bool.{cond-true, cond-false}
 use Rattle.std.proofs.Math.Seq.{drop-append_seam}
 use Rattle.std.specs.Global.{Global}
-use Rattle.polyline_text.specs.Grammar.{Path, continued, IsValue, moved, fits_32, IsStep, IsPoint, IsPathBehind, IsPath, Leaves, IsStepFault, IsEastFault, IsPointFault, IsFaultBehind}
-use Rattle.polyline_text.specs.Decoding.{value_in, checked, moved_by, coordinate_in, with_latitude, longitude_behind, point_in, behind_points, points_behind, points_in, decoded}
+use Rattle.polyline_text.specs.Grammar.{Path, continued, moved, fits_32, IsStep, IsPoint, IsPathBehind, IsPath, IsStepFault, IsPointFault, IsFaultBehind}
+use Rattle.polyline_text.specs.Decoding.{value_in, moved_by, coordinate_in, with_latitude, longitude_behind, point_in, behind_points, points_in, decoded}
 use Rattle.polyline_text.specs.Answers.{Answers, AnswersPath}
 use Rattle.polyline_text.specs.Readings.{Reads}
+use Rattle.polyline_text.specs.GrammarLaw.{IsOfGrammar, IsRead}
 use Rattle.polyline_text.specs.declared.decoding.DecodeError.{DecodeError}
 use Rattle.polyline_text.specs.declared.decoding.DecodeError.TheVariants.{BadPolyline, Memory}
 use Rattle.polyline_text.proofs.Results.{same_ok, same_err, not_both}
-use Rattle.polyline_text.proofs.Values.{HasValue, value_read, value_found, value_broken}
+use Rattle.polyline_text.proofs.Values.{value_read, value_found, value_broken}
 use Rattle.polyline_text.proofs.Reading.{one_point_read, fault_read, end_read}
 
 -- a step stands at the front of the bytes, and takes so many of them
@@ -258,3 +259,14 @@ pub complete : (digits : ℕ) (bytes : List ℕ) (path : Path) (r : Result (Vec 
 complete digits bytes path (Ok points) there is = same_ok points.items path (decoded digits bytes) is (path_found (length bytes) digits (pos 0) (pos 0) bytes path (omega arith) there)
 complete digits bytes path (Err (BadPolyline offset)) there is = not_both path offset (decoded digits bytes) (path_found (length bytes) digits (pos 0) (pos 0) bytes path (omega arith) there) is
 complete digits bytes path (Err Memory) there is = tt
+
+of_grammar : (digits : ℕ) (bytes : List ℕ) (r : Result Path ℕ) → decoded digits bytes ≡ r → IsOfGrammar digits bytes r
+of_grammar digits bytes (Ok points) is = path_read (length bytes) digits (pos 0) (pos 0) bytes points (omega arith) is
+of_grammar digits bytes (Err offset) is = path_broken (length bytes) digits (pos 0) (pos 0) bytes offset (omega arith) is
+
+-- the same of the two definitions alone
+pub decoded-of_grammar : (digits : ℕ) (bytes : List ℕ) → IsOfGrammar digits bytes (decoded digits bytes)
+decoded-of_grammar digits bytes = of_grammar digits bytes (decoded digits bytes) refl
+
+pub decoded-all : (digits : ℕ) (bytes : List ℕ) (points : Path) → IsRead digits bytes points
+decoded-all digits bytes points there = path_found (length bytes) digits (pos 0) (pos 0) bytes points (omega arith) there

@@ -1,5 +1,5 @@
 -- One result is not two.
-use Rattle.std.proofs.Common.{◌≡◌, ℕ, Result, Ok, Err, Bool, true, false}
+use Rattle.std.proofs.Common.{◌≡◌, ℕ, Result, Ok, Err}
 
 pub same_ok : {A : Type 0} (x y : A) (r : Result A ℕ) → r ≡ Ok x → r ≡ Ok y → x ≡ y
 same_ok x y r first second = cc

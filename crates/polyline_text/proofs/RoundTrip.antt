@@ -1,7 +1,7 @@
 -- What is written is read back.
-use Rattle.std.proofs.Common.{◌≡◌, ℕ, suc, zero, ℤ, pos, negsuc, ◌+◌, ◌-◌, ◌*◌, ◌/◌, ◌%◌, ◌^◌, ◌<◌, ◌≤◌, ◌+ℤ◌, ◌-ℤ◌, ◌*ℤ◌, ◌≤ℤ◌, Bool, true, false, List, [], ◌∷◌, ◌++◌, length, drop, map, Result, Ok, Err, refl, sym, ap, ap₂, inl, inr, ◌⊎◌, ◌∙◌, subst, arith, nat_lt, append_assoc, length-append, length-drop}
+use Rattle.std.proofs.Common.{◌≡◌, ℕ, suc, zero, ℤ, pos, negsuc, ◌+◌, ◌-◌, ◌*◌, ◌/◌, ◌%◌, ◌^◌, ◌<◌, ◌≤◌, ◌+ℤ◌, ◌-ℤ◌, ◌*ℤ◌, ◌≤ℤ◌, true, List, [], ◌∷◌, ◌++◌, length, drop, map, Ok, refl, sym, ap, ap₂, inl, inr, ◌⊎◌, ◌∙◌, arith, append_assoc, length-append}
 use Rattle.std.proofs.lemmas.Bool.Decides.{nat_tests}
-use Rattle.std.proofs.lemmas.Bool.{cond-true, cond-false, cases_lt}
+use Rattle.std.proofs.lemmas.Bool.{cond-true, cases_lt}
 use Rattle.std.proofs.lemmas.Int.{ints}
 use Rattle.std.proofs.Math.Nat.{pow-suc}
 use Rattle.std.proofs.Math.Seq.{drop-append_seam}
@@ -10,7 +10,7 @@ use Rattle.std.specs.Int.{int_div_euclid}
 use Rattle.polyline_text.specs.RoundTrip.{GivesBackPoints, GivesBackRounded, to_tens}
 use Rattle.polyline_text.specs.Encoding.{rounded, folded, groups_text, difference_text, text_from, encoded}
 use Rattle.polyline_text.specs.Grammar.{unfolded, unit_of, fits_32}
-use Rattle.polyline_text.specs.Decoding.{behind_group, value_in, checked, moved_by, coordinate_in, point_in, behind_points, points_in, decoded}
+use Rattle.polyline_text.specs.Decoding.{behind_group, value_in, checked, moved_by, coordinate_in, behind_points, points_in, decoded}
 use Rattle.polyline_text.proofs.Groups.{groups_text-last, groups_text-more}
 use Rattle.polyline_text.proofs.Values.{value_in-last, value_in-more}
 use Rattle.polyline_text.proofs.Reading.{point_of, one_point_read, end_read}

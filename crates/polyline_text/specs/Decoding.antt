@@ -1,4 +1,5 @@
--- Private to `src/decoding.rt`: the grammar read from the left. Public contracts speak of `Grammar`.
+-- The grammar read from the left, as a function from a text to its points or the offset of its first fault. That
+-- it says what `Grammar` says is a law, which `reading_is_the_grammar` has.
 use Rattle.std.specs.Prelude.{ℕ, suc, zero, ℤ, pos, ◌+◌, ◌-◌, ◌*◌, Bool, ◌&&◌, List, [], ◌∷◌, ◌++◌, length, drop, nat_lt, nat_le, if◌then◌else◌, Result, Ok, Err}
 use Rattle.polyline_text.specs.Grammar.{Path, moved, fits_32}
 

@@ -4,3 +4,4 @@ pub mod Decoding
 pub mod Answers
 pub mod Readings
 pub mod RoundTrip
+pub mod GrammarLaw

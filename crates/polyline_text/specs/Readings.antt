@@ -1,4 +1,4 @@
--- Private to `src/decoding.rt`: what its loop over the points answers.
+-- What `decode` answers, told by reading from the left.
 use Rattle.std.specs.Prelude.{◌≡◌, ℕ, ℤ, List, Vec, Result, Ok, Err, ⊤}
 use Rattle.std.specs.Global.{Global}
 use Rattle.polyline_text.specs.Decoding.{decoded}

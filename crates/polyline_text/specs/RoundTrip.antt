@@ -1,5 +1,5 @@
 -- What is encoded is the text of the points that were given, up to the rounding of 5 digits.
-use Rattle.std.specs.Prelude.{◌≡◌, ℕ, ℤ, pos, ◌*ℤ◌, ◌+ℤ◌, List, map}
+use Rattle.std.specs.Prelude.{ℤ, pos, ◌*ℤ◌, ◌+ℤ◌, List, map}
 use Rattle.std.specs.Int.{int_div_euclid}
 use Rattle.road_base.specs.declared.coordinates.Point.{Point}
 use Rattle.polyline_text.specs.Encoding.{encoded}

@@ -24,6 +24,7 @@ pub enum DecodeError {
 /// are taken. A text with points has them alone, and is answered by them unless memory is wanting.
 pub fn decode(alloc: Global, bytes: &[u8], digits: u32) -> Result<Vec<(i32, i32)>, DecodeError>
     requires { IsTrue (is_digits digits) }
+    ensures reads { Reads digits bytes.now result }
     ensures answers { Answers digits bytes.now result }
     ensures complete { (path : Path) → IsPath digits bytes.now path → AnswersPath path result }
 {

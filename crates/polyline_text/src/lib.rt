@@ -12,4 +12,4 @@ mod tests;
 
 pub use crate::decoding::{DecodeError, decode};
 pub use crate::encoding::encode;
-pub use crate::laws::decoding_undoes_encoding;
+pub use crate::laws::{decoding_undoes_encoding, reading_is_the_grammar};

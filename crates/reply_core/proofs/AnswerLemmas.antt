@@ -1,61 +1,26 @@
 -- How an answer comes from its parts.
-use Rattle.std.proofs.Common.{◌≡◌, ℕ, ◌*◌, ◌/◌, List, length, sym, ap, ap₂, refl, ◌∙◌, arith}
-use Rattle.std.specs.Prelude.{Option, Some, None, Result, Ok, Err, OnOk, option_map}
-use Rattle.std.specs.List.{AllZip, slice_get, zip}
+use Rattle.std.proofs.Common.{◌≡◌, inl, inr, ℕ, zero, suc, ◌<◌, ◌≤◌, ◌+◌, List, [], ◌∷◌, ◌++◌, length, sym, ap, subst, refl, ◌∙◌, arith}
+use Rattle.std.specs.Prelude.{Option, Some, None, option_map}
+use Rattle.std.specs.List.{AllZip, flat_map, slice_get, zip}
+use Rattle.std.specs.Option.{option_to_list}
 use Rattle.std.proofs.lemmas.List.{length-map}
 use Rattle.std.proofs.lemmas.Option.{same_Some, slice_get-map}
 use Rattle.std.proofs.lemmas.Slice.Zip.{length-zip}
 use Rattle.list_lemmas.proofs.Fronts.{all_zip-each, all_zip-first, slice_get-zip}
 use Rattle.road_base.specs.declared.coordinates.Point.{Point}
 use Rattle.road_base.specs.declared.segments.Place.{Place}
-use Rattle.geo_integer.specs.Position.{Position, position_of}
-use Rattle.geo_integer.specs.Plane.{distance_of}
-use Rattle.geo_integer.specs.Project.{position_at}
-use Rattle.edge_graph.specs.Segment.{Segment}
+use Rattle.geo_integer.specs.Position.{position_of}
 use Rattle.road_places.specs.Places.{IsPlaceOn}
 use Rattle.road_places.specs.RoadMetric.{RoadMetric}
-use Rattle.snap_index.specs.Nearest.{spot_on}
+use Rattle.road_walks.specs.FirstFailure.{IsFirstFailure}
+use Rattle.snap_index.specs.Firsts.{AreFirsts}
 use Rattle.snap_index.specs.declared.filters.Filter.{Filter}
-use Rattle.url_read.specs.declared.option_types.Bearing.{Bearing}
+use Rattle.option_values.specs.declared.option_types.Bearing.{Bearing}
+use Rattle.option_values.specs.declared.option_types.Chosen.{Chosen}
+use Rattle.option_values.specs.declared.option_types.Chosen.TheVariants.{All, Only}
 use Rattle.url_read.specs.declared.requests.Request.{Request}
-use Rattle.reply_core.specs.Answers.{waypoint_of, waypoint_on}
-use Rattle.reply_core.specs.Asked.{asked_in, filter_of, filters_of}
-use Rattle.reply_core.specs.Lacks.{StandsFor}
-use Rattle.reply_core.specs.Texts.{waypoint_text}
-
--- what holds after an `Ok` follows from what holds after it
-pub on_ok : {T E : Type 0} {P Q : Type 0} (r : Result T E) → (P → Q) → OnOk r P → OnOk r Q
-on_ok (Ok x) f h = f h
-on_ok (Err e) f h = h
-
--- the name of a segment is that of its first direction
-name-of : (segments : List Segment) (k : ℕ) (x : Segment) (name : List ℕ) → slice_get segments k ≡ Some x → option_map {U = List ℕ} (λ s. s.street.name) (slice_get segments (2 * k / 2)) ≡ Some name → x.street.name ≡ name
-name-of segments k x name is e =
-    let half : 2 * k / 2 ≡ k = omega arith in
-    same_Some x.street.name name (sym (ap (option_map {U = List ℕ} (λ (s : Segment). s.street.name)) (ap (slice_get segments) half ∙ is)) ∙ e)
-
--- the spot on a segment by its ends
-spot-by : (x : Segment) (at : ℕ) → spot_on x at ≡ position_at (position_of x.from) (position_of x.to) at
-unfolding spot_on
-spot-by x at = refl
-
-waypoint-at : (coordinate : Point) (at : ℕ) (point : Point) (name : List ℕ) (distance : ℕ) (x : Segment)
-    → position_at (position_of x.from) (position_of x.to) at ≡ position_of point → x.street.name ≡ name → distance ≡ distance_of (position_of coordinate) (position_of point)
-    → waypoint_text distance name point.lon point.lat ≡ waypoint_on (Some x) (position_of coordinate) at
-waypoint-at coordinate at point name distance x is named far =
-    let here : spot_on x at ≡ position_of point = spot-by x at ∙ is in
-    ap₂ (λ d n. waypoint_text d n point.lon point.lat) far (sym named)
-    ∙ sym (ap (λ (p : Position). waypoint_text (distance_of (position_of coordinate) p) x.street.name p.lon p.lat) here)
-
--- what the network tells of a place is its waypoint
-pub waypoint-is : (segments : List Segment) (coordinate : Point) (place : Place) (point : Point) (name : List ℕ) (distance : ℕ) (o : Option Segment)
-    → slice_get segments place.segment ≡ o → option_map {U = Position} (λ x. position_at (position_of x.from) (position_of x.to) place.at) o ≡ Some (position_of point)
-    → option_map {U = List ℕ} (λ s. s.street.name) (slice_get segments (2 * place.segment / 2)) ≡ Some name
-    → distance ≡ distance_of (position_of coordinate) (position_of point) → waypoint_text distance name point.lon point.lat ≡ waypoint_of segments (coordinate, place)
-waypoint-is segments coordinate place point name distance None is at named far = cc
-waypoint-is segments coordinate place point name distance (Some x) is at named far =
-    waypoint-at coordinate place.at point name distance x (same_Some _ _ at) (name-of segments place.segment x name is named) far
-    ∙ sym (ap (λ (o : Option Segment). waypoint_on o (position_of coordinate) place.at) is)
+use Rattle.reply_core.specs.Asked.{asked_in, chosen_from, filter_of, filters_of}
+use Rattle.reply_core.specs.Lacks.{IsStray, LacksPlace, HasPlace, StandsFor}
 
 -- the place stands for the coordinate, and lies on the network
 abbrev pub IsFoundFor : RoadMetric → Point × Filter → Place → Type 0
@@ -84,3 +49,43 @@ asked-at request k point radius bearing p r b =
     let filter : slice_get (filters_of request.radiuses request.bearings) k ≡ Some (filter_of (radius, bearing)) =
     slice_get-map filter_of (zip request.radiuses request.bearings) k ∙ ap (option_map filter_of) pair in
     slice_get-zip request.points (filters_of request.radiuses request.bearings) k point (filter_of (radius, bearing)) p filter
+
+-- a list of one element
+pub one-element : {A : Type 0} (xs : List A) (x : A) → length xs ≡ 1 → slice_get xs 0 ≡ Some x → xs ≡ x ∷ []
+one-element [] x one at = absurd (omega (arith, one))
+one-element (y ∷ []) x one at = ap (λ z. z ∷ []) (same_Some y x at)
+one-element (y ∷ z ∷ zs) x one at = absurd (omega (arith, one))
+
+-- where no first place is found though one is asked for, there is none
+pub none-found : (road : RoadMetric) (asked : Point × Filter) (number : ℕ) → 1 ≤ number → AreFirsts road.network.segments road.weights asked.1 (position_of asked.0) number [] → LacksPlace road asked
+none-found road asked number some firsts = λ s other is kept. elim (firsts.others s other is kept) [
+  | inl among ↦ among
+  | inr full ↦ omega (arith, full.0, some)
+]
+
+-- the first coordinate is the first that has no place, if it has none
+pub first-stray : (road : RoadMetric) (asked : List (Point × Filter)) (one : Point × Filter) → slice_get asked 0 ≡ Some one → LacksPlace road one → IsStray road asked 0
+first-stray road asked one at lacks = record {
+  it = one;
+  is_there = at;
+  fails = lacks;
+  before = λ k other lt there. absurd (omega (arith, lt));
+}
+
+module _ {A : Type 0} (P : A → Type 0) (all : List A) (each : (k : ℕ) (x : A) → slice_get all k ≡ Some x → P x) where
+  abbrev picked : List ℕ → List A
+  picked indexes = flat_map (λ i. option_to_list (slice_get all i)) indexes
+
+  picked-each : (indexes : List ℕ) (k : ℕ) (x : A) → slice_get (picked indexes) k ≡ Some x → P x
+  picked-each [] k x at = cc
+  picked-each (i ∷ more) k x at = by (slice_get all i) refl k at
+    where
+      by : (o : Option A) → slice_get all i ≡ o → (k : ℕ) → slice_get (option_to_list o ++ picked more) k ≡ Some x → P x
+      by None is k at = picked-each more k x at
+      by (Some y) is zero at = each i x (is ∙ at)
+      by (Some y) is (suc k) at = picked-each more k x at
+
+  -- what holds of each element of a list holds of each of the chosen ones
+  pub chosen-each : (which : Chosen) (k : ℕ) (x : A) → slice_get (chosen_from which all) k ≡ Some x → P x
+  chosen-each All k x at = each k x at
+  chosen-each (Only indexes) k x at = picked-each indexes k x at

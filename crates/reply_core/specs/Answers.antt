@@ -1,48 +1,47 @@
 -- What an answer to a target, or to a line, is, over a road network under one metric that was published under
 -- a number. The cases exclude each other and leave nothing out: the line is of no form; the target is refused;
--- the request asks for a higher number; a coordinate has no place; a leg has no permitted walk; there is a
--- least route.
-use Rattle.std.specs.Prelude.{◌≡◌, ℕ, ◌⊎◌, List, [], map, Option, Some, None, Result, Ok, Err}
+-- the request asks for a higher number; a coordinate has no place; a leg of a route has no permitted walk; there
+-- is what the request asks for.
+use Rattle.std.specs.Prelude.{◌≡◌, ℕ, ◌<◌, ◌⊎◌, List, [], ◌∷◌, map, Option, Some, None, Result, Ok, Err, length}
 use Rattle.std.proofs.Common.{inl, inr, refl}
-use Rattle.std.specs.List.{AllZip, slice_get, zip}
+use Rattle.std.specs.List.{AllZip}
 use Rattle.road_base.specs.declared.coordinates.Point.{Point}
 use Rattle.road_base.specs.declared.segments.Place.{Place}
-use Rattle.geo_integer.specs.Position.{Position, position_of}
-use Rattle.geo_integer.specs.Plane.{distance_of}
-use Rattle.edge_graph.specs.Segment.{Segment}
+use Rattle.option_values.specs.declared.option_types.Chosen.{Chosen}
+use Rattle.geo_integer.specs.Position.{position_of}
+use Rattle.search_graph.specs.declared.costs.DurLen.{DurLen}
+use Rattle.json_text.specs.Values.{JsonValue, compact_text}
 use Rattle.url_read.specs.Request.{request_of}
 use Rattle.url_read.specs.declared.refusals.Refusal.{Refusal}
 use Rattle.url_read.specs.declared.refusals.RefusalCode.{RefusalCode}
 use Rattle.url_read.specs.declared.refusals.RefusalCode.TheVariants as refused
+use Rattle.url_read.specs.declared.requests.NearestOptions.{NearestOptions}
 use Rattle.url_read.specs.declared.requests.Request.{Request}
+use Rattle.url_read.specs.declared.requests.RouteOptions.{RouteOptions}
+use Rattle.url_read.specs.declared.requests.Service.{Service}
+use Rattle.url_read.specs.declared.requests.Service.TheVariants as service
+use Rattle.url_read.specs.declared.requests.TableOptions.{TableOptions}
 use Rattle.road_places.specs.RoadMetric.{RoadMetric}
 use Rattle.road_places.specs.declared.walks.Route.{Route}
 use Rattle.road_walks.specs.Legs.{AreAlong, AreLeastRoutes}
-use Rattle.snap_index.specs.Nearest.{spot_on}
-use Rattle.reply_core.specs.Asked.{asked_in}
+use Rattle.road_walks.specs.Tables.{AreRowsOf}
+use Rattle.snap_index.specs.Firsts.{AreFirsts}
+use Rattle.snap_index.specs.declared.filters.Filter.{Filter}
+use Rattle.snap_index.specs.declared.snapping.Snapped.{Snapped}
+use Rattle.reply_texts.specs.Codes.{lack_code}
+use Rattle.reply_texts.specs.Refusals.{bad_request_value, lack_value, refusal_value}
+use Rattle.reply_texts.specs.Replies.{nearest_reply, route_reply, table_reply}
+use Rattle.reply_texts.specs.RouteLegs.{legs_told}
+use Rattle.reply_texts.specs.Waypoints.{waypoints_of}
+use Rattle.reply_texts.specs.declared.reply_codes.Code.{Code}
+use Rattle.reply_texts.specs.declared.reply_codes.Code.TheVariants as code
+use Rattle.reply_texts.specs.declared.lacks.Lack.{Lack}
+use Rattle.reply_core.specs.Asked.{asked_in, chosen_from}
 use Rattle.reply_core.specs.Lacks.{IsLack, IsRecent, StandsFor}
 use Rattle.reply_core.specs.Request.{target_of}
-use Rattle.reply_core.specs.Texts.{bad_request_text, found_text, lack_code, lack_text, refusal_text, waypoint_text}
 use Rattle.reply_core.specs.declared.answers.Answer.{Answer}
-use Rattle.reply_core.specs.declared.answers.Code.{Code}
-use Rattle.reply_core.specs.declared.answers.Code.TheVariants as code
-use Rattle.reply_core.specs.declared.lacks.Lack.{Lack}
 
--- what the reply tells of a coordinate's place, which lies on this segment: how far it lies from the
--- coordinate, its way's name, and where it lies
-abbrev pub waypoint_on : Option Segment → Position → ℕ → List ℕ
-waypoint_on None from at = []
-waypoint_on (Some segment) from at =
-    let spot = spot_on segment at in waypoint_text (distance_of from spot) segment.street.name spot.lon spot.lat
-
-abbrev pub waypoint_of : List Segment → Point × Place → List ℕ
-waypoint_of segments (coordinate, place) = waypoint_on (slice_get segments place.segment) (position_of coordinate) place.at
-
--- the waypoints of all coordinates, in their order
-abbrev pub waypoints_of : List Segment → List Point → List Place → List (List ℕ)
-waypoints_of segments coordinates places = map (waypoint_of segments) (zip coordinates places)
-
--- the status of an answer of this code: 200 for a route alone
+-- the status of an answer of this code: 200 for what was asked for alone
 abbrev pub status_of : Code → ℕ
 status_of code.Ok = 200
 status_of _ = 400
@@ -52,36 +51,72 @@ pub known_status : (kind : Code) → (status_of kind ≡ 200) ⊎ (status_of kin
 known_status code.Ok = inl refl
 known_status _ = inr refl
 
--- an answer of this code and text, without places and walks
-pub record Refuses (answer : Answer) (kind : Code) (body : List ℕ) : Type 0 where
+-- an answer of this code with the text of this value
+pub record Tells (answer : Answer) (kind : Code) (value : JsonValue) : Type 0 where
   pub code : answer.code ≡ kind
   pub status : answer.status ≡ status_of kind
+  pub text : answer.text ≡ compact_text value
+
+-- the same, without places and walks
+pub record Refuses (answer : Answer) (kind : Code) (value : JsonValue) : Type 0 where
+  pub tells : Tells answer kind value
   pub places : answer.places ≡ []
   pub walks : answer.walks ≡ []
-  pub text : answer.text ≡ body
 
 -- what the request lacks is told
 pub record SaysLack (road : RoadMetric) (number : ℕ) (request : Request) (answer : Answer) : Type 0 where
   pub what : Lack
   pub is_lack : IsLack road number request what
-  pub refuses : Refuses answer (lack_code what) (lack_text number what)
+  pub refuses : Refuses answer (lack_code what) (lack_value number what)
 
 -- the metric is recent enough; the places of the coordinates, a permitted walk along each leg, of which none
 -- could cost less, and the text of exactly these
-pub record SaysRoute (road : RoadMetric) (number : ℕ) (request : Request) (answer : Answer) : Type 0 where
+pub record SaysRoute (road : RoadMetric) (number : ℕ) (request : Request) (own : RouteOptions) (answer : Answer) : Type 0 where
   pub recent : IsRecent number request
-  pub code : answer.code ≡ code.Ok
-  pub status : answer.status ≡ 200
   pub snapped : AllZip (StandsFor road) (asked_in request) answer.places
   pub routes : List Route
   pub along : AreAlong road answer.places routes
   pub least : AreLeastRoutes road answer.places routes
   pub walks : answer.walks ≡ map (λ route. route.walk) routes
-  pub text : answer.text ≡ found_text number request.skip_waypoints (map (λ route. route.cost) routes) (waypoints_of road.network.segments request.points answer.places)
+  pub tells : Tells answer code.Ok (route_reply number request.skip_waypoints own (legs_told road answer.places routes) (waypoints_of road.network.segments request.points answer.places))
 
--- the answer to a request for a route
-abbrev pub IsRouteReply : RoadMetric → ℕ → Request → Answer → Type 0
-IsRouteReply road number request answer = SaysLack road number request answer ⊎ SaysRoute road number request answer
+-- the waypoints of the chosen ones of a request's coordinates, which have these places
+abbrev pub ends_told : RoadMetric → Request → Chosen → List Place → List JsonValue
+ends_told road request which places = waypoints_of road.network.segments (chosen_from which request.points) (chosen_from which places)
+
+-- the metric is recent enough; the places of the coordinates, for each source and each destination among them what
+-- a least permitted walk from the one to the other costs, where there is one, and the text of exactly these
+pub record SaysTable (road : RoadMetric) (number : ℕ) (request : Request) (own : TableOptions) (answer : Answer) : Type 0 where
+  pub recent : IsRecent number request
+  pub snapped : AllZip (StandsFor road) (asked_in request) answer.places
+  pub rows : List (List (Option DurLen))
+  pub least : AreRowsOf road (chosen_from own.sources answer.places) (chosen_from own.destinations answer.places) rows
+  pub walks : answer.walks ≡ []
+  pub tells : Tells answer code.Ok (table_reply number request.skip_waypoints own.annotations rows (ends_told road request own.sources answer.places) (ends_told road request own.destinations answer.places))
+
+-- the metric is recent enough; of all places for the one coordinate the nearest, as many as are asked for or as there
+-- are, and the text of exactly these
+pub record SaysNearest (road : RoadMetric) (number : ℕ) (request : Request) (own : NearestOptions) (answer : Answer) : Type 0 where
+  pub recent : IsRecent number request
+  pub coordinate : Point
+  pub filter : Filter
+  pub asked : asked_in request ≡ (coordinate, filter) ∷ []
+  pub found : List Snapped
+  pub first : AreFirsts road.network.segments road.weights filter (position_of coordinate) own.number found
+  pub some : 0 < length found
+  pub places : answer.places ≡ map (λ one. one.place) found
+  pub walks : answer.walks ≡ []
+  pub tells : Tells answer code.Ok (nearest_reply number road.network.segments coordinate answer.places)
+
+-- what the service was asked for
+abbrev pub SaysFound : RoadMetric → ℕ → Request → Service → Answer → Type 0
+SaysFound road number request (service.Route own) answer = SaysRoute road number request own answer
+SaysFound road number request (service.Table own) answer = SaysTable road number request own answer
+SaysFound road number request (service.Nearest own) answer = SaysNearest road number request own answer
+
+-- the answer to a request
+abbrev pub IsReply : RoadMetric → ℕ → Request → Answer → Type 0
+IsReply road number request answer = SaysLack road number request answer ⊎ SaysFound road number request request.service answer
 
 -- the code of the answer to a target that is refused
 abbrev pub code_of : RefusalCode → Code
@@ -95,8 +130,8 @@ code_of refused.TooBig = code.TooBig
 
 -- the answer to a request, or to the target that was refused
 abbrev pub IsRequestAnswer : RoadMetric → ℕ → Result Request Refusal → Answer → Type 0
-IsRequestAnswer road number (Ok request) answer = IsRouteReply road number request answer
-IsRequestAnswer road number (Err refusal) answer = Refuses answer (code_of refusal.code) (refusal_text (code_of refusal.code) refusal.message)
+IsRequestAnswer road number (Ok request) answer = IsReply road number request answer
+IsRequestAnswer road number (Err refusal) answer = Refuses answer (code_of refusal.code) (refusal_value (code_of refusal.code) refusal.message)
 
 -- the answer is one to the target
 abbrev pub IsAnswer : RoadMetric → ℕ → List ℕ → Answer → Type 0
@@ -104,7 +139,7 @@ IsAnswer road number target answer = IsRequestAnswer road number (request_of tar
 
 abbrev pub IsAnswerToAny : RoadMetric → ℕ → Option (List ℕ) → Answer → Type 0
 IsAnswerToAny road number (Some target) answer = IsAnswer road number target answer
-IsAnswerToAny road number None answer = Refuses answer code.BadRequest bad_request_text
+IsAnswerToAny road number None answer = Refuses answer code.BadRequest bad_request_value
 
 -- the answer is one to the line: to its target, or that it is of no form
 abbrev pub IsLineAnswer : RoadMetric → ℕ → List ℕ → Answer → Type 0

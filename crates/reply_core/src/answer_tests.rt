@@ -4,11 +4,12 @@ ghost use Rattle.std.specs.Prelude.{◌≤◌, All};
 ghost use Rattle.std.specs.List.Sorted.{IsStrictlyIncreasing};
 
 use crate::answering::{answer, line_answer};
-use crate::answers::{Answer, Code, ReplyFault};
+use crate::answers::{Answer, ReplyFault};
 use customized::{Metric, Roads, SERVER_LIMITS};
 use edge_graph::Network;
 use metric_make::base;
 use metric_publish::local_board::LocalBoard;
+use reply_texts::Code;
 use road_base::{Ids, Node, Object, Point, Tags, Way};
 use snap_index::Grid;
 use std::alloc::Global;
@@ -31,6 +32,13 @@ const BLOCK: Town = Town {
     nodes: &[(0, 0), (1, 0), (1, 1), (0, 1)],
     way: &[1, 2, 3, 4, 1],
     oneway: "yes",
+};
+
+/// The same block, driven both ways.
+const SQUARE: Town = Town {
+    nodes: &[(0, 0), (1, 0), (1, 1), (0, 1)],
+    way: &[1, 2, 3, 4, 1],
+    oneway: "no",
 };
 
 /// A lane that is driven one way.
@@ -375,8 +383,12 @@ fn a_refused_target_gets_its_code_and_message(rt: HostRuntime) -> Result<(), Rep
             "{\"code\":\"InvalidVersion\",\"message\":\"version v2\"}",
         ),
         (
-            "/route/v1/car/0,0;0,0",
-            "{\"code\":\"InvalidOptions\",\"message\":\"option overview\"}",
+            "/route/v1/car/0,0;0,0?steps=true",
+            "{\"code\":\"InvalidOptions\",\"message\":\"option steps\"}",
+        ),
+        (
+            "/route/v1/car/polyline(??g)",
+            "{\"code\":\"InvalidQuery\",\"message\":\"polyline byte 3\"}",
         ),
         (
             "/route/v1/car/0,0;0,0?a\"b=1",
@@ -434,5 +446,76 @@ fn a_line_is_get_one_blank_and_a_target(rt: HostRuntime) -> Result<(), ReplyFaul
     let answer = ask(&rt, rt.alloc(), LANE, Asked::Line(b"TRAFFIC - -"))?;
     assert_eq!(rt; answer.status, 400);
     assert_eq!(rt; answer.text.as_str(), "{\"code\":\"BadRequest\"}");
+    Ok(())
+}
+
+// The whole text of each, or what it ends in.
+#[test]
+fn each_service_is_answered(rt: HostRuntime) -> Result<(), ReplyFault> {
+    for (town, target, end) in [
+        (
+            CORNER,
+            "/route/v1/car/polyline(??gEgE).json?overview=false",
+            FIRST_ROUTE,
+        ),
+        (
+            CORNER,
+            "/route/v1/car/0.0005,0.001;0.0005,0.001?skip_waypoints=true",
+            "\"geometry\":\"gEcB??\",\"legs\":[{\"distance\":0.0,\"duration\":0.0,\"weight\":0.0,\"summary\":\"\",\"steps\":[]}]}]}",
+        ),
+        (
+            CORNER,
+            "/route/v1/car/0,0;0.001,0.001?overview=full&annotations=true&skip_waypoints=true",
+            "\"geometry\":\"??gE??gE\",\"legs\":[{\"distance\":222.2,\"duration\":19.8,\"weight\":19.8,\"summary\":\"\",\"steps\":[],\"annotation\":{\"distance\":[111.1,111.1],\"duration\":[9.9,9.9],\"weight\":[9.9,9.9],\"nodes\":[1,2,3],\"speed\":[11.2,11.2]}}]}]}",
+        ),
+        (
+            CORNER,
+            "/route/v1/car/0,0;0.001,0.001?overview=full&geometries=geojson&skip_waypoints=true",
+            "\"geometry\":{\"coordinates\":[[0.000000,0.000000],[0.000000,0.001000],[0.001000,0.001000]],\"type\":\"LineString\"},\"legs\":[{\"distance\":222.2,\"duration\":19.8,\"weight\":19.8,\"summary\":\"\",\"steps\":[]}]}]}",
+        ),
+        (
+            CORNER,
+            "/route/v1/car/0,0;0.001,0.001?geometries=polyline6&skip_waypoints=true",
+            "\"geometry\":\"??o}@??o}@\",\"legs\":[{\"distance\":222.2,\"duration\":19.8,\"weight\":19.8,\"summary\":\"\",\"steps\":[]}]}]}",
+        ),
+        (
+            SQUARE,
+            "/table/v1/car/0,0;0.001,0.001?skip_waypoints=true",
+            "{\"code\":\"Ok\",\"data_version\":\"7\",\"durations\":[[0.0,19.8],[19.8,0.0]]}",
+        ),
+        (
+            LANE,
+            "/table/v1/car/0.00075,0;0.00025,0?annotations=duration,distance&skip_waypoints=true",
+            "{\"code\":\"Ok\",\"data_version\":\"7\",\"durations\":[[0.0,null],[5.0,0.0]],\"distances\":[[0.0,null],[55.6,0.0]]}",
+        ),
+        (
+            LANE,
+            "/table/v1/car/0.00075,0;0.00025,0?sources=1&destinations=0;1;0",
+            "\"durations\":[[5.0,0.0,5.0]],\"sources\":[{\"distance\":0.0,\"name\":\"\",\"location\":[0.000250,0.000000]}],\"destinations\":[{\"distance\":0.0,\"name\":\"\",\"location\":[0.000750,0.000000]},{\"distance\":0.0,\"name\":\"\",\"location\":[0.000250,0.000000]},{\"distance\":0.0,\"name\":\"\",\"location\":[0.000750,0.000000]}]}",
+        ),
+        (
+            CORNER,
+            "/nearest/v1/car/0,0.001?number=2",
+            "{\"code\":\"Ok\",\"data_version\":\"7\",\"waypoints\":[{\"nodes\":[1,2],\"distance\":0.0,\"name\":\"\",\"location\":[0.000000,0.001000]},{\"nodes\":[2,3],\"distance\":0.0,\"name\":\"\",\"location\":[0.000000,0.001000]}]}",
+        ),
+        (
+            CORNER,
+            "/nearest/v1/car/0,0?number=5&skip_waypoints=true",
+            "\"waypoints\":[{\"nodes\":[1,2],\"distance\":0.0,\"name\":\"\",\"location\":[0.000000,0.000000]},{\"nodes\":[2,3],\"distance\":111.1,\"name\":\"\",\"location\":[0.000000,0.001000]}]}",
+        ),
+        (
+            DESERT,
+            "/nearest/v1/car/0,0",
+            "{\"code\":\"NoSegment\",\"data_version\":\"7\",\"message\":\"coordinate 0\"}",
+        ),
+        (
+            DESERT,
+            "/table/v1/car/0,0?since=8",
+            "{\"code\":\"AheadOfData\",\"data_version\":\"7\",\"message\":\"since 8\"}",
+        ),
+    ] {
+        let answer = ask(&rt, rt.alloc(), town, Asked::Target(target))?;
+        assert!(rt; answer.text.as_str().ends_with(end), "{target}");
+    }
     Ok(())
 }

@@ -5,14 +5,14 @@ ghost use Rattle.std.specs.Arc.{arc_value};
 ghost use Rattle.snap_index.specs.Ends.{all_ends};
 ghost use Rattle.reply_core.specs.Answers.{IsAnswer, IsLineAnswer, Refuses, code_of, status_of};
 ghost use Rattle.reply_core.specs.Request.{target_of};
-ghost use Rattle.reply_core.specs.Texts.{bad_request_text, refusal_text};
-ghost use Rattle.reply_core.specs.declared.answers.Code.TheVariants as code;
+ghost use Rattle.reply_texts.specs.Refusals.{bad_request_value, refusal_value};
+ghost use Rattle.reply_texts.specs.declared.reply_codes.Code.TheVariants as code;
 
-use crate::answers::{Answer, Code, ReplyFault};
-use crate::reply_texts::{BAD_REQUEST, refusal_text};
-use crate::route_answers::{refusal, route_answer};
+use crate::answers::{Answer, ReplyFault};
+use crate::request_answers::{refusal, request_answer};
 use customized::{Metric, Under};
 use metric_publish::held::Held;
+use reply_texts::{Code, bad_request_text, refusal_text};
 use snap_index::Grid;
 use std::alloc::{AllocError, Global};
 use url_read::{Refusal, RefusalCode, RequestFault, request};
@@ -22,8 +22,8 @@ const LONGEST_LINE: usize = 8192;
 
 /// The answer to a target under what was published: a refusal with status 400 for a target that is no request,
 /// for a request that asks for a higher number, for the first coordinate that has no place, or for the first leg
-/// that has no permitted walk, the first that applies; else a least route with status 200. The grid is that of
-/// the metric's network.
+/// of a route that has no permitted walk, the first that applies; else, with status 200, a least route, a table of
+/// what least walks cost, or the nearest places. The grid is that of the metric's network.
 ///
 /// It answers `Memory` only where memory runs out.
 pub fn answer(
@@ -74,7 +74,7 @@ fn target_answer(
     ensures status { IfOk result (λ answer. answer.status ≡ status_of answer.code) }
 {
     match request(alloc, target) {
-        Ok(request) => route_answer(alloc, under, number, grid, &request),
+        Ok(request) => request_answer(alloc, under, number, grid, &request),
         Err(RequestFault::Refused(refusal)) => Ok(refused(alloc, refusal)?),
         Err(RequestFault::Memory) => Err(ReplyFault::Memory),
     }
@@ -92,7 +92,7 @@ fn target_in(line: &[u8]) -> Option<&[u8]>
 
 // The target is refused.
 fn refused(alloc: Global, refused: Refusal) -> Result<Answer, AllocError>
-    ensures says { IfOk result (λ answer. Refuses answer (code_of refused.code) (refusal_text (code_of refused.code) refused.message)) }
+    ensures says { IfOk result (λ answer. Refuses answer (code_of refused.code) (refusal_value (code_of refused.code) refused.message)) }
     ensures status { IfOk result (λ answer. answer.status ≡ status_of answer.code) }
 {
     let code = code_of(refused.code);
@@ -117,9 +117,9 @@ fn code_of(kind: RefusalCode) -> Code
 
 // The line is of no form.
 fn bad_request(alloc: Global) -> Result<Answer, AllocError>
-    ensures says { IfOk result (λ answer. Refuses answer code.BadRequest bad_request_text) }
+    ensures says { IfOk result (λ answer. Refuses answer code.BadRequest bad_request_value) }
     ensures status { IfOk result (λ answer. answer.status ≡ status_of answer.code) }
 {
-    let text = String::from_str(alloc, BAD_REQUEST)?;
+    let text = String::from_str(alloc, bad_request_text())?;
     Ok(refusal(alloc, Code::BadRequest, text))
 }

@@ -2,6 +2,7 @@
 
 ghost use Rattle.std.specs.Prelude.{◌≡◌};
 
+use reply_texts::Code;
 use road_base::{Place, Text};
 use road_places::Walk;
 use std::alloc::{AllocError, AllocFailed};
@@ -24,35 +25,6 @@ impl<T: Drop> From<AllocFailed<T>> for ReplyFault {
     fn from(_error: AllocFailed<T>) -> ReplyFault {
         ReplyFault::Memory
     }
-}
-
-/// What became of a line or a target, in the words of OSRM's HTTP API, version 1.
-#[derive(Clone, Copy, Debug, PartialEq, Eq)]
-pub enum Code {
-    /// There is a route.
-    Ok,
-    /// The target isn't of the form of a path and a query.
-    InvalidUrl,
-    /// The service isn't served.
-    InvalidService,
-    /// The version isn't `v1`.
-    InvalidVersion,
-    /// An option is unknown, not of its form, or lacking.
-    InvalidOptions,
-    /// A coordinate isn't of its form, or there are too few.
-    InvalidQuery,
-    /// A coordinate isn't on the Earth.
-    InvalidValue,
-    /// There are too many coordinates.
-    TooBig,
-    /// The request asks for a metric of a higher number.
-    AheadOfData,
-    /// A coordinate has no place, since no segment that may be driven along is of its bearing and in its radius.
-    NoSegment,
-    /// No permitted walk leads along a leg.
-    NoRoute,
-    /// The line is of no form.
-    BadRequest,
 }
 
 /// A list of places.
@@ -123,9 +95,10 @@ pub struct Answer {
     pub code: Code,
     /// 200 exactly where the code is `Ok`, else 400
     pub status: u32,
-    /// where the request's coordinates are snapped to, in their order; empty where there is no route
+    /// where the request's coordinates are snapped to, in their order, or the nearest places of the one
+    /// coordinate; empty for a refusal
     pub places: Places,
-    /// the vertices of the least route of each leg; empty where there is no route
+    /// the vertices of the least route of each leg; empty for anything but a route
     pub walks: Walks,
     /// the reply's body, without a newline
     pub text: Text,

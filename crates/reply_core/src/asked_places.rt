@@ -54,7 +54,7 @@ fn place_of(under: &Under<'_>, grid: &Grid, coordinate: Point, filter: Filter) -
 }
 
 // The coordinate of this number, and its filter.
-fn asked_at(request: &Request, number: usize) -> (Point, Filter)
+pub(crate) fn asked_at(request: &Request, number: usize) -> (Point, Filter)
     requires number { number < length request.now.points }
     requires radiuses { length request.now.radiuses ≡ length request.now.points }
     requires bearings { length request.now.bearings ≡ length request.now.points }

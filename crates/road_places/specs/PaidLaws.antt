@@ -104,7 +104,7 @@ module _ (road : RoadMetric) where
     along_adds_up v walk d h =
         let part : (c : DurLen) → DurLen = λ c. rest_of (before c (parts_along q v)) (before c (parts_along p v)) in
         let between : part (cost_on road.weights v) ≡ d = ap part (cost_on-open road.weights v h.cost h.is_open)
-            ∙ rest_of-plus (before h.cost (parts_along q v)) (before h.cost (parts_along p v)) d h.is_cost in
+        ∙ rest_of-plus (before h.cost (parts_along q v)) (before h.cost (parts_along p v)) d h.is_cost in
         subst (λ l. AddUpTo road l (paid_along road.weights p q l) d) (sym h.is_walk) (record {
           turns = [];
           are_turns = tt;
@@ -137,7 +137,7 @@ module _ (road : RoadMetric) where
         let front : durlen_ops.plus runs.paid runs.arc ≡ durlen_ops.plus b (durlen_ops.plus m (total_of paid.turns)) = paid.is_sum ∙ ap (λ x. durlen_ops.plus x (durlen_ops.plus m (total_of paid.turns))) (sym begins) in
         let all : d ≡ durlen_ops.plus (durlen_ops.plus runs.paid runs.arc) l = runs.is_cost ∙ ap (durlen_ops.plus (durlen_ops.plus runs.paid runs.arc)) (sym ends) in
         let parts : durlen_ops.plus b (durlen_ops.plus m (durlen_ops.plus l durlen_ops.zero)) ≡ total_of (paid_along w p q (s ∷ (middle ++ t ∷ []))) =
-            ap (durlen_ops.plus b) (sym (total_of-append (map (cost_on w) middle) (l ∷ []))) ∙ sym (ap total_of (paid_along-ends w q p s middle t)) in
+        ap (durlen_ops.plus b) (sym (total_of-append (map (cost_on w) middle) (l ∷ []))) ∙ sym (ap total_of (paid_along-ends w q p s middle t)) in
         subst (λ (x : List ℕ). AddUpTo road x (paid_along w p q x) d) (sym runs.is_walk) (record {
           turns = paid.turns;
           are_turns = paid.are_turns;

@@ -3,8 +3,9 @@
 //!
 //! `specs/` is to be read in this order: `RoadMetric` (a network with its costs, and the graph of its turns),
 //! `Places` (how a place lies on the two directions of its segment, and what a part of a vertex costs),
-//! `Permitted` (walks from place to place) and `Ends` (where walks from a place start, and where walks to one
-//! end). `PartLaws` and `EndLaws` have what follows from these.
+//! `Permitted` (walks from place to place), `Paid` (what a walk pays at each of its vertices and turns) and `Ends`
+//! (where walks from a place start, and where walks to one end). `PartLaws`, `PaidLaws` and `EndLaws` have what
+//! follows from these.
 //!
 //! Nothing here knows of a search. A segment's parts and their costs are this project's rule.
 #![tactic(auto)]

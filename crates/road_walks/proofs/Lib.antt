@@ -1,4 +1,5 @@
 pub mod CheapestLemmas
 pub mod LeastLemmas
 pub mod LegLemmas
+pub mod TableLemmas
 pub mod TurnLemmas

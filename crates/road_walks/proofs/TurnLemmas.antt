@@ -27,9 +27,13 @@ use Rattle.road_walks.specs.Choosing.{IsLeastOf, IsCheapestOf, route_of}
 use Rattle.road_walks.specs.Least.{most_units}
 use Rattle.road_walks.proofs.CheapestLemmas.{no_dearer-trans}
 
+-- a list of one has that one alone
+pub only : (x y : Start DurLen) → Contains (x ∷ []) y → x ≡ y
+only x y h = elim (Contains-push_cases [] x y h) [ inl n ↦ absurd (omega (arith, n.1)) | inr e ↦ e ]
+
 module _ (road : RoadMetric) (p q : Place) (starts : List (Start DurLen)) (targets : List (Target DurLen)) (are_starts : AreAll (IsStart road.weights p) starts) (are_targets : AreAll (IsTarget road.weights q) targets) where
   -- a walk from one of the starts to one of the targets goes by turns
-  by_turns-from : (t : Target DurLen) → Contains targets t → (walk : List ℕ) (d : DurLen) → IsBetween durlen_ops (turn_graph road.network) road.weights starts t walk d → IsByTurns road p q walk d
+  pub by_turns-from : (t : Target DurLen) → Contains targets t → (walk : List ℕ) (d : DurLen) → IsBetween durlen_ops (turn_graph road.network) road.weights starts t walk d → IsByTurns road p q walk d
   by_turns-from t h walk d b = record {
     first = b.start;
     last = t;
@@ -51,10 +55,7 @@ module _ (road : RoadMetric) (p q : Place) (starts : List (Start DurLen)) (targe
     };
   }
 
-  only : (x y : Start DurLen) → Contains (x ∷ []) y → x ≡ y
-  only x y h = elim (Contains-push_cases [] x y h) [ inl n ↦ absurd (omega (arith, n.1)) | inr e ↦ e ]
-
-  by_turns-to : (walk : List ℕ) (d : DurLen) → (b : IsByTurns road p q walk d) → IsBetween durlen_ops (turn_graph road.network) road.weights starts b.last walk d
+  pub by_turns-to : (walk : List ℕ) (d : DurLen) → (b : IsByTurns road p q walk d) → IsBetween durlen_ops (turn_graph road.network) road.weights starts b.last walk d
   by_turns-to walk d b =
       let r = b.runs in
       let first = only b.first r.start r.among in

@@ -20,8 +20,8 @@ use road_places::{Route, starts, targets};
 use search_graph::{DurLen, Start, Target};
 use std::alloc::{AllocError, Global};
 
-// Where a walk from a place may start: each is a vertex of the frame, and costs at most one unit.
-fn starts_from(
+/// Where a walk from a place may start: each is a vertex of the frame, and costs at most one unit.
+pub(crate) fn starts_from(
     alloc: Global,
     under: &Under<'_>,
     from: Place,
@@ -37,8 +37,8 @@ fn starts_from(
     Ok(starts)
 }
 
-// Where a walk to a place may end: each is a vertex of the frame, and costs at most one unit.
-fn targets_to(
+/// Where a walk to a place may end: each is a vertex of the frame, and costs at most one unit.
+pub(crate) fn targets_to(
     alloc: Global,
     under: &Under<'_>,
     to: Place,

@@ -1,7 +1,6 @@
 //! What tells of a walk vertex by vertex.
 
-ghost use Rattle.std.specs.Prelude.{◌≡◌, ◌*◌, ◌<◌, [], ◌≢◌, All, IfOk, Some, length};
-ghost use Rattle.edge_graph.specs.NetworkView.{NetworkView};
+ghost use Rattle.std.specs.Prelude.{◌≡◌, ◌*◌, ◌<◌, All, IfOk, length};
 ghost use Rattle.search_graph.specs.declared.costs.DurLen.{DurLen};
 ghost use Rattle.road_places.specs.Paid.{AddUpTo, paid_along};
 ghost use Rattle.road_places.specs.Permitted.{IsPermitted};

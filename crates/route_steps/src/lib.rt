@@ -5,7 +5,7 @@
 //! a part of it is. `specs/` is to be read in this order: `Points` (where a walk leads) and `Annotations` (the
 //! nodes along it, and speeds). What it pays is told by `road_places`, in `Paid`.
 //!
-//! Each is one pass over the walk. Worked maps are tested in `worked_maps`.
+//! Each is one pass over the walk.
 #![tactic(auto)]
 
 mod annotations;

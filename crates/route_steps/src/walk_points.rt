@@ -1,6 +1,6 @@
 //! The points of a walk.
 
-ghost use Rattle.std.specs.Prelude.{◌≡◌, ℕ, ◌*◌, ◌<◌, ◌++◌, All, IfOk, OnOk, length, option_to_list};
+ghost use Rattle.std.specs.Prelude.{◌≡◌, ◌*◌, ◌<◌, ◌++◌, All, IfOk, OnOk, length};
 ghost use Rattle.std.specs.List.{filter_map};
 ghost use Rattle.road_places.specs.Places.{IsPlaceOn};
 ghost use Rattle.route_steps.specs.Points.{IsWalkOn, end_of, points_along};

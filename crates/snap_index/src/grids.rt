@@ -1,8 +1,10 @@
 //! Where the segments of a network lie, for snapping.
 
-ghost use Rattle.std.specs.Prelude.{◌≡◌, IfOk};
+ghost use Rattle.std.specs.Prelude.{◌≡◌, ◌<◌, ◌^◌, IfOk, OnOk, length};
 ghost use Rattle.snap_index.specs.Ends.{all_ends};
+ghost use Rattle.snap_index.specs.Index.{IsIndexOf};
 
+use crate::indexes::Index;
 use edge_graph::Network;
 use road_base::Point;
 use std::alloc::{AllocError, Global};
@@ -15,19 +17,37 @@ pub struct SegmentEnds {
     pub to: Point,
 }
 
-/// Where the segments of a network lie: 16 bytes a segment. Contracts see the list of their ends.
+/// Where the segments of a network lie, and an index of them: 21.1 bytes a segment, and 16 more while it is made.
+/// Contracts see the list of their ends.
 #[derive(Drop)]
 pub struct Grid {
     ends: Vec<SegmentEnds>,
+    index: Index,
 }
 
 impl Model for Grid {
     ghost use Rattle.std.specs.Prelude.{List};
     ghost use Rattle.snap_index.specs.declared.grids.SegmentEnds.{SegmentEnds};
+    ghost use Rattle.snap_index.specs.Index.{IsIndexOf};
 
     ghost Value = { List SegmentEnds };
 
     ghost view = { λ grid. grid.ends.items };
+
+    ghost invariant = { λ grid. IsIndexOf grid.ends.items grid.index };
+}
+
+// The ends of all segments, in their order.
+fn ends_of(alloc: Global, network: &Network) -> Result<Vec<SegmentEnds>, AllocError>
+    ensures ends { IfOk result (λ ends. ends.items ≡ all_ends network.now.segments) }
+    ensures few { OnOk result (length network.now.segments < 2 ^ 30) }
+{
+    let mut ends = Vec::new(alloc);
+    for segment in 0..network.segments() {
+        let (from, to) = network.ends(segment);
+        ends.push(SegmentEnds { from, to })?;
+    }
+    Ok(ends)
 }
 
 impl Grid {
@@ -35,12 +55,9 @@ impl Grid {
     pub fn of(alloc: Global, network: &Network) -> Result<Grid, AllocError>
         ensures { IfOk result (λ grid. grid ≡ all_ends network.now.segments) }
     {
-        let mut ends = Vec::new(alloc);
-        for segment in 0..network.segments() {
-            let (from, to) = network.ends(segment);
-            ends.push(SegmentEnds { from, to })?;
-        }
-        Ok(Grid { ends })
+        let ends = ends_of(alloc, network)?;
+        let index = Index::of(alloc, &ends)?;
+        Ok(Grid { ends, index })
     }
 
     /// The ends of all segments, in their order.
@@ -48,5 +65,12 @@ impl Grid {
         ensures { result.now ≡ self.now }
     {
         &self.ends
+    }
+
+    /// The index of these lines.
+    pub(crate) fn index(&self) -> &Index
+        ensures { IsIndexOf self.now result.now }
+    {
+        &self.index
     }
 }

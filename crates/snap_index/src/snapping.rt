@@ -1,33 +1,37 @@
 //! Snapping coordinates to roads.
 
-ghost use Rattle.std.specs.Prelude.{◌≡◌, ℕ, ℤ, ◌+◌, ◌*◌, ◌<◌, ◌≤◌, ◌^◌, ◌-ℤ◌, IfSome, IsTrue, length, MatchBool, MatchOption, unsigned_abs};
-ghost use Rattle.std.specs.List.{slice_get};
+ghost use Rattle.std.specs.Prelude.{◌≡◌, ℕ, ◌*◌, ◌<◌, ◌≤◌, IfOk, IfSome, length, MatchOption};
+ghost use Rattle.std.specs.List.{AllByRecursion};
 ghost use Rattle.geo_integer.specs.Position.{position_of};
-ghost use Rattle.geo_integer.specs.Project.{IsBetween, position_at};
-ghost use Rattle.snap_index.specs.Candidates.{HasOpen, IsBetterOf, IsFirstOf, IsOnLine, Precedes};
+ghost use Rattle.snap_index.specs.Candidates.{IsEmptySlot, places_found};
 ghost use Rattle.snap_index.specs.Ends.{all_ends};
-ghost use Rattle.snap_index.specs.Nearest.{remoteness};
+ghost use Rattle.snap_index.specs.Firsts.{AreFirsts};
+ghost use Rattle.snap_index.specs.declared.snapping.Snapped.{Snapped};
 ghost use Rattle.snap_index.specs.Snapped.{HasNoPlace, IsSnapped};
 
-use crate::filters::{Filter, Heading};
-use crate::grids::{Grid, SegmentEnds};
-use crate::keeping::{has_direction, is_in_reach};
+use crate::candidates::Candidate;
+use crate::filters::Filter;
+use crate::grids::Grid;
+use crate::keeping::is_in_reach;
+use crate::searching::search;
 use edge_graph::Network;
-use geo_integer::{cosine, plane_distance, point_at, project};
+use geo_integer::distance;
 use metric_make::BaseMetric;
 use road_base::{Place, Point};
+use std::alloc::{AllocError, Global};
 
-/// The nearest place on a segment, where it lies, and the square of its distance.
+/// A place that was found for a coordinate.
 #[derive(Clone, Copy)]
-pub(crate) struct Candidate {
-    pub(crate) place: Place,
-    pub(crate) spot: Point,
-    pub(crate) remoteness: u128,
+pub struct Snapped {
+    pub place: Place,
+    /// where the place lies
+    pub point: Point,
+    /// how many decimetres it lies from the coordinate
+    pub distance: u64,
 }
 
 /// The place that stands for a coordinate: the nearest one, on a segment that has an open direction and
-/// passes the filter. None where no segment does. The grid is that of the network. It looks at each segment
-/// twice, and at most of them by their latitudes alone.
+/// passes the filter. None where no segment does. The grid is that of the network.
 pub fn snap(
     network: &Network,
     grid: &Grid,
@@ -40,159 +44,74 @@ pub fn snap(
     ensures value { MatchOption result (HasNoPlace network.now.segments base.now.weights filter (position_of from)) (IsSnapped network.now.segments base.now.weights filter (position_of from)) }
     ensures placed { IfSome result (λ place. (place.segment < length network.now.segments) × (place.at ≤ 1024)) }
 {
-    let best = first_headed(network, grid, base, from, filter.heading)?;
+    let mut slots = [None];
+    search(grid, base, from, filter.heading, &mut slots);
+    let Some(best) = slots[0] else {
+        return None;
+    };
     // what comes first is the least far away, so that nothing else is in reach where it isn't
-    if is_in_reach(filter.radius, from, best.spot) {
-        Some(best.place)
-    } else {
-        None
+    if !is_in_reach(filter.radius, from, best.spot) {
+        return None;
     }
+    Some(best.place)
 }
 
-// Of all segments with an open direction of the heading the candidate that comes first, wherever it lies;
-// None where no segment has one.
-fn first_headed(
+/// The nearest places of a coordinate, nearest first: on each segment that has an open direction and passes the
+/// filter the nearest one, of two equally near ones the one on the segment of the lower number first, but no more
+/// than `number`. The grid is that of the network. It answers an error only where memory runs out.
+pub fn nearest(
+    alloc: Global,
     network: &Network,
     grid: &Grid,
     base: &BaseMetric,
     from: Point,
-    heading: Option<Heading>,
-) -> Option<Candidate>
+    number: u32,
+    filter: Filter,
+) -> Result<Vec<Snapped>, AllocError>
     requires grid { grid.now ≡ all_ends network.now.segments }
     requires weights { 2 * length network.now.segments ≤ length base.now.weights.vertex }
-    ensures { MatchOption result ((s : ℕ) → ¬ HasOpen network.now.segments base.now.weights heading s) (IsFirstOf network.now.segments base.now.weights heading (position_of from) (length network.now.segments)) }
+    ensures firsts { IfOk result (λ found. AreFirsts network.now.segments base.now.weights filter (position_of from) number found.items) }
+    ensures placed { IfOk result (λ found. AllByRecursion (λ (one : Snapped). (one.place.segment < length network.now.segments) × (one.place.at ≤ 1024)) found.items) }
 {
-    let lines = grid.ends();
-    let segment = likely(network, lines, base, from, heading)?;
-    let first = candidate_on(lines[segment as usize], from, segment);
-    Some(nearest(network, lines, base, from, heading, first))
+    let mut slots = empty_slots(alloc, number)?;
+    search(grid, base, from, filter.heading, &mut slots);
+    found(alloc, from, filter.radius, &slots)
 }
 
-// A segment with an open direction of the heading that is likely to be near; None where no segment has one.
-fn likely(
-    network: &Network,
-    lines: &[SegmentEnds],
-    base: &BaseMetric,
-    from: Point,
-    heading: Option<Heading>,
-) -> Option<u32>
-    requires lines { lines.now ≡ all_ends network.now.segments }
-    requires weights { 2 * length network.now.segments ≤ length base.now.weights.vertex }
-    ensures { MatchOption result ((s : ℕ) → ¬ HasOpen network.now.segments base.now.weights heading s) (λ s. (s < length network.now.segments) × HasOpen network.now.segments base.now.weights heading s) }
+// So many slots, none of which is filled.
+fn empty_slots(alloc: Global, number: u32) -> Result<Vec<Option<Candidate>>, AllocError>
+    ensures count { IfOk result (λ slots. length slots.items ≡ number) }
+    ensures empty { IfOk result (λ slots. AllByRecursion IsEmptySlot slots.items) }
 {
-    let cosine = cosine(from.lat);
-    let mut likely = None;
-    let mut least = u64::MAX;
-    for segment in 0..network.segments() {
-        let line = lines[segment as usize];
-        let rough = rough_distance(from, line.from, cosine);
-        if rough < least && has_direction(base, heading, line, segment) {
-            likely = Some(segment);
-            least = rough;
+    let mut slots = Vec::with_capacity(alloc, number as usize)?;
+    for _ in 0..number {
+        slots.push(None)?;
+    }
+    Ok(slots)
+}
+
+// The places of the slots, up to the first that isn't filled or lies out of reach.
+fn found(
+    alloc: Global,
+    from: Point,
+    radius: Option<u64>,
+    slots: &[Option<Candidate>],
+) -> Result<Vec<Snapped>, AllocError>
+    ensures { IfOk result (λ found. found.items ≡ places_found radius (position_of from) slots.now) }
+{
+    let mut found = Vec::new(alloc);
+    for i in 0..slots.len() {
+        let Some(candidate) = slots[i] else {
+            return Ok(found);
+        };
+        if !is_in_reach(radius, from, candidate.spot) {
+            return Ok(found);
         }
+        found.push(Snapped {
+            place: candidate.place,
+            point: candidate.spot,
+            distance: distance(from, candidate.spot),
+        })?;
     }
-    likely
-}
-
-// The way between two points along a meridian and a parallel, in 65536ths of a microdegree of latitude.
-fn rough_distance(from: Point, to: Point, cosine: u32) -> u64
-    requires { cosine ≤ 65536 }
-    ensures { result < 2 ^ 50 }
-{
-    u64::from(from.lon.abs_diff(to.lon)) * u64::from(cosine)
-        + u64::from(from.lat.abs_diff(to.lat)) * 65536
-}
-
-// The candidate that comes first of one and those of all segments with an open direction of the heading.
-fn nearest(
-    network: &Network,
-    lines: &[SegmentEnds],
-    base: &BaseMetric,
-    from: Point,
-    heading: Option<Heading>,
-    first: Candidate,
-) -> Candidate
-    requires lines { lines.now ≡ all_ends network.now.segments }
-    requires weights { 2 * length network.now.segments ≤ length base.now.weights.vertex }
-    requires first { IsFirstOf network.now.segments base.now.weights heading (position_of from) 0 first }
-    ensures { IsFirstOf network.now.segments base.now.weights heading (position_of from) (length network.now.segments) result }
-{
-    let mut best = first;
-    for segment in 0..network.segments() {
-        best = better(base, lines[segment as usize], segment, from, heading, best);
-    }
-    best
-}
-
-// Of the best so far and the nearest place on a line, which is this segment, the one that comes first, where
-// the segment has an open direction of the heading. Most lines lie too far away by their latitudes.
-fn better(
-    base: &BaseMetric,
-    line: SegmentEnds,
-    segment: u32,
-    from: Point,
-    heading: Option<Heading>,
-    best: Candidate,
-) -> Candidate
-    requires few { segment < 2 ^ 30 }
-    requires in_range { 2 * segment + 1 < length base.now.weights.vertex }
-    ensures { IsBetterOf base.now.weights heading (position_of from) line segment best result }
-{
-    if is_beyond(line, from, best.remoteness) {
-        return best;
-    }
-    let other = candidate_on(line, from, segment);
-    if precedes(best, other) || !has_direction(base, heading, line, segment) {
-        return best;
-    }
-    other
-}
-
-// Whether a line lies farther away than so remote by its latitudes alone.
-fn is_beyond(line: SegmentEnds, from: Point, far: u128) -> bool
-    ensures { IsTrue result → (at : ℕ) → at ≤ 1024 → far < remoteness (position_of from) (position_at (position_of line.from) (position_of line.to) at) }
-{
-    let gap = gap_between(from.lat, line.from.lat, line.to.lat);
-    far < u128::from(gap * gap) << 32
-}
-
-// How far a latitude lies outside of those between two others.
-fn gap_between(from: i32, a: i32, b: i32) -> u64
-    requires from { unsigned_abs from ≤ 90000000 }
-    requires first { unsigned_abs a ≤ 90000000 }
-    requires second { unsigned_abs b ≤ 90000000 }
-    ensures least { (y : ℤ) → IsBetween a b y → result ≤ unsigned_abs (y -ℤ from) }
-    ensures bound { result ≤ 180000000 }
-{
-    let low = a.min(b);
-    let high = a.max(b);
-    if from < low {
-        u64::from(low.abs_diff(from))
-    } else if high < from {
-        u64::from(from.abs_diff(high))
-    } else {
-        0
-    }
-}
-
-// The nearest place on a line, which is this segment.
-#[tactic(auto, unfolding(crate::specs::Nearest::remoteness))]
-fn candidate_on(line: SegmentEnds, from: Point, segment: u32) -> Candidate
-    ensures { IsOnLine line (position_of from) segment result }
-{
-    let at = project(from, line.from, line.to);
-    let spot = point_at(line.from, line.to, at);
-    Candidate {
-        place: Place { segment, at },
-        spot,
-        remoteness: plane_distance(from, spot),
-    }
-}
-
-// Whether one candidate comes first of two: the less remote one, the one on the segment of the lower number
-// where neither is.
-fn precedes(one: Candidate, other: Candidate) -> bool
-    ensures { MatchBool result (Precedes one other) (Precedes other one) }
-{
-    (one.remoteness, one.place.segment) <= (other.remoteness, other.place.segment)
+    Ok(found)
 }

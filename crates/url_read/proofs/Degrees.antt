@@ -3,7 +3,7 @@ use Rattle.std.proofs.Common.{◌≡◌, ℕ, ℤ, eqb, List, [], Option, Some, 
 use Rattle.std.specs.List.{before_first}
 use Rattle.decimal_text.specs.Decimal.{microdegrees_of}
 use Rattle.url_read.specs.Coordinates.{degrees_of, pair_of}
-use Rattle.url_read.specs.Cutting.{IsUncut}
+use Rattle.option_values.specs.Cutting.{IsUncut}
 
 pair_of-no_second : (lon : Option ℤ) → pair_of lon None ≡ None
 pair_of-no_second None = refl

@@ -2,7 +2,7 @@
 use Rattle.std.proofs.Common.{◌≡◌, ℕ, Bool, true, false, cond, eqb, List, [], ◌∷◌, Bor, Option, Some, None, refl, ◌∙◌, ap}
 use Rattle.std.specs.Option.{MatchOption, is_some}
 use Rattle.std.specs.List.{onto_first, slice_split}
-use Rattle.url_read.specs.Cutting.{IsCut, IsUncut}
+use Rattle.option_values.specs.Cutting.{IsCut, IsUncut}
 use Rattle.url_read.specs.Target.{Pieces, four_pieces}
 
 module _ (front service version profile first : List ℕ) where

@@ -1,5 +1,5 @@
 -- The last value of a name, found option by option.
-use Rattle.std.proofs.Common.{◌≡◌, ℕ, ◌+◌, ◌<◌, ◌≤◌, Bool, cond, eqb, List, [], ◌∷◌, length, drop, get_or, Option, Some, None, Bor, refl, sym, ◌∙◌, ap, ap₂, false}
+use Rattle.std.proofs.Common.{◌≡◌, ℕ, ◌+◌, ◌<◌, ◌≤◌, Bool, cond, eqb, List, [], length, drop, get_or, Option, Some, None, Bor, refl, sym, ◌∙◌, ap, false}
 use Rattle.std.specs.Option.{option_or, option_copied}
 use Rattle.std.specs.List.{slice_split}
 use Rattle.std.proofs.lemmas.List.{at_drop_more, at_drop_all}

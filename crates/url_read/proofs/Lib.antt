@@ -1,12 +1,8 @@
-pub mod Cuts
-pub mod Marks
 pub mod Degrees
 pub mod FifthPiece
-pub mod Numbered
-pub mod EachRead
-pub mod LastValues
 pub mod Judged
-pub mod Numbers
+pub mod LastValues
+pub mod Marks
+pub mod Numbered
 pub mod Suffixes
-pub mod Kept
-pub mod ChosenAmong
+pub mod TooMany

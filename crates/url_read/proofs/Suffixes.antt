@@ -1,9 +1,9 @@
 -- Coordinates without the `.json` at their end.
-use Rattle.std.proofs.Common.{◌≡◌, ℕ, ◌-◌, ◌≤◌, Bool, true, false, cond, eqb, List, length, take, codes, Option, Some, None, Bor, refl, sym, ◌∙◌, ap, subst, arith}
+use Rattle.std.proofs.Common.{◌≡◌, ℕ, ◌-◌, ◌≤◌, Bool, true, false, cond, eqb, List, length, take, codes, Option, Some, None, Bor, sym, ◌∙◌, ap, subst, arith}
 use Rattle.std.specs.Option.{MatchOption, unwrap_or}
 use Rattle.std.specs.List.{ends_with}
 use Rattle.std.specs.Str.{IsCharBoundary}
-use Rattle.std.specs.Str.Pattern.{FindsTextSuffix, StripsSuffix, HasSuffixMatch}
+use Rattle.std.specs.Str.Pattern.{FindsTextSuffix, StripsSuffix}
 use Rattle.std.proofs.lemmas.Str.Pattern.{ends_text}
 use Rattle.url_read.specs.Target.{without_json}
 

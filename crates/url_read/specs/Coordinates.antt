@@ -1,12 +1,14 @@
 -- The coordinates of a target: longitude and latitude in decimal degrees, parted by commas, the coordinates
--- by semicolons (OSRM's HTTP API, version 1; that they are kept in whole microdegrees is this project's rule).
-use Rattle.std.specs.Prelude.{ℕ, ℤ, ◌+◌, ◌==◌, List, [], ◌∷◌, map, Option, Some, None, Result, Ok, Err}
+-- by semicolons; or an encoded polyline between parentheses (OSRM's HTTP API, version 1; that they are kept in whole
+-- microdegrees is this project's rule).
+use Rattle.std.specs.Prelude.{ℕ, ℤ, ◌+◌, ◌-◌, ◌==◌, List, [], ◌∷◌, map, length, take, drop, codes, bytes_eq, Option, Some, None, Result, Ok, Err, if◌then◌else◌}
 use Rattle.std.specs.List.{before_first, after_first, slice_split}
 use Rattle.std.specs.Str.{byte}
 use Rattle.decimal_text.specs.Decimal.{microdegrees_of}
 use Rattle.road_base.specs.declared.coordinates.Point.{Point}
 use Rattle.road_base.specs.Points.{point_at}
-use Rattle.url_read.specs.Refusals.{bad_coordinate, out_of_range}
+use Rattle.polyline_text.specs.Decoding.{decoded}
+use Rattle.url_read.specs.Refusals.{bad_coordinate, bad_polyline, out_of_range}
 use Rattle.url_read.specs.declared.refusals.Refusal.{Refusal}
 
 abbrev pub pair_of : Option ℤ → Option ℤ → Option (ℤ × ℤ)
@@ -32,10 +34,25 @@ abbrev pub or_refused : {A : Type 0} → (ℕ → Refusal) → Result A ℕ → 
 or_refused refusal (Ok x) = Ok x
 or_refused refusal (Err number) = Err (refusal number)
 
--- the longitudes and latitudes of coordinates, or the first coordinate that is not of its form. A polyline,
--- which begins with `polyline(` or `polyline6(`, is no two decimals, so it is refused as coordinate 0
+-- the longitudes and latitudes of coordinates that are listed, or the first that is not of its form
+abbrev pub listed_degrees : List ℕ → Result (List (ℤ × ℤ)) Refusal
+listed_degrees coordinates = or_refused bad_coordinate (all_or_first (map degrees_of (slice_split (λ b. b == byte ";") coordinates)))
+
+-- what stands before the `)` at the end of a text, None where the text ends otherwise
+abbrev pub closed : List ℕ → Option (List ℕ)
+closed text = if bytes_eq (drop (length text - 1) text) (codes ")") then Some (take (length text - 1) text) else None
+
+-- those of a polyline of so many digits, or where its first fault is, counted from the opening parenthesis on
+abbrev pub polyline_degrees : ℕ → Option (List ℕ) → Result (List (ℤ × ℤ)) Refusal
+polyline_degrees digits None = Err (bad_coordinate 0)
+polyline_degrees digits (Some text) = or_refused bad_polyline (decoded digits text)
+
+-- those of coordinates: `polyline(..)` to 5 digits, `polyline6(..)` to 6, or a list
 abbrev pub degrees_in : List ℕ → Result (List (ℤ × ℤ)) Refusal
-degrees_in coordinates = or_refused bad_coordinate (all_or_first (map degrees_of (slice_split (λ b. b == byte ";") coordinates)))
+degrees_in coordinates =
+    if bytes_eq (take 9 coordinates) (codes "polyline(") then polyline_degrees 5 (closed (drop 9 coordinates))
+    else (if bytes_eq (take 10 coordinates) (codes "polyline6(") then polyline_degrees 6 (closed (drop 10 coordinates))
+    else listed_degrees coordinates)
 
 -- the points there, or the first coordinate that is not on the Earth
 abbrev pub points_at : List (ℤ × ℤ) → Result (List Point) Refusal

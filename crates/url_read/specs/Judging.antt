@@ -1,9 +1,10 @@
 -- The options of a query judged and read: the first that is no option of the service or not of its grammar is
 -- refused, then the first list that does not fit the number of coordinates (this project's rule).
-use Rattle.std.specs.Prelude.{ℕ, Bool, true, false, not, ◌==◌, ◌&&◌, List, [], codes, length, replicate, bytes_eq, nat_lt, Option, Some, None, Result, Ok, Err, option_map, if◌then◌else◌}
-use Rattle.std.specs.List.{find, list_all, list_any}
+use Rattle.std.specs.Prelude.{ℕ, Bool, true, false, not, ◌==◌, ◌&&◌, List, [], codes, Option, None, Result, Ok, option_map}
+use Rattle.std.specs.List.{find, list_any}
 use Rattle.std.specs.Str.{byte}
-use Rattle.url_read.specs.Values.{truth_of, all_read, radius_of, bearing_of, approach_of, hint_of, snapping_of, since_of, number_of, alternatives_of, route_annotations_of, every_annotation, geometries_of, overview_of, continue_straight_of, table_annotations_of, chosen_of}
+use Rattle.option_values.specs.Values.{truth_of, radius_of, bearing_of, approach_of, hint_of, snapping_of, since_of, number_of, alternatives_of, route_annotations_of, every_annotation, geometries_of, overview_of, continue_straight_of, table_annotations_of}
+use Rattle.option_values.specs.Entries.{one_each, chosen_among}
 use Rattle.url_read.specs.Options.{name_of, value_of, is_of, last_value_of, read_or}
 use Rattle.url_read.specs.Scopes.{has_value}
 use Rattle.url_read.specs.Refusals.{bad_option, and_then, or_else}
@@ -11,16 +12,15 @@ use Rattle.url_read.specs.declared.refusals.Refusal.{Refusal}
 use Rattle.url_read.specs.declared.scopes.Scope.{Scope}
 use Rattle.url_read.specs.declared.service_names.ServiceName.{ServiceName}
 use Rattle.url_read.specs.declared.service_names.ServiceName.TheVariants as name
-use Rattle.url_read.specs.declared.option_types.Bearing.{Bearing}
-use Rattle.url_read.specs.declared.option_types.Approach.{Approach}
-use Rattle.url_read.specs.declared.option_types.Snapping.TheVariants as snapping
-use Rattle.url_read.specs.declared.option_types.Alternatives.TheVariants as alternatives
-use Rattle.url_read.specs.declared.option_types.Geometries.TheVariants.{Polyline}
-use Rattle.url_read.specs.declared.option_types.Overview.TheVariants as overview
-use Rattle.url_read.specs.declared.option_types.ContinueStraight.TheVariants as straight
-use Rattle.url_read.specs.declared.option_types.TableAnnotations.{TableAnnotations}
-use Rattle.url_read.specs.declared.option_types.Chosen.{Chosen}
-use Rattle.url_read.specs.declared.option_types.Chosen.TheVariants as chosen
+use Rattle.option_values.specs.declared.option_types.Bearing.{Bearing}
+use Rattle.option_values.specs.declared.option_types.Approach.{Approach}
+use Rattle.option_values.specs.declared.option_types.Snapping.TheVariants as snapping
+use Rattle.option_values.specs.declared.option_types.Alternatives.TheVariants as alternatives
+use Rattle.option_values.specs.declared.option_types.Geometries.TheVariants.{Polyline}
+use Rattle.option_values.specs.declared.option_types.Overview.TheVariants as overview
+use Rattle.option_values.specs.declared.option_types.ContinueStraight.TheVariants as straight
+use Rattle.option_values.specs.declared.option_types.TableAnnotations.{TableAnnotations}
+use Rattle.option_values.specs.declared.option_types.Chosen.{Chosen}
 use Rattle.url_read.specs.declared.requests.RouteOptions.{RouteOptions}
 use Rattle.url_read.specs.declared.requests.TableOptions.{TableOptions}
 use Rattle.url_read.specs.declared.requests.NearestOptions.{NearestOptions}
@@ -42,15 +42,6 @@ refused_for option = option_map (λ o. bad_option (name_of o)) option
 abbrev pub options_refusal : Scope → ServiceName → List (List ℕ) → Option Refusal
 options_refusal scope service options = refused_for (find (λ option. not (is_legal scope service option)) options)
 
-abbrev pub as_many : {A : Type 0} → ℕ → Option (List A) → Option (List A)
-as_many count None = None
-as_many count (Some entries) = if length entries == count then Some entries else None
-
--- an entry for each coordinate: those of the value where it has as many, and absent ones where there is no value
-abbrev pub one_each : {A : Type 0} → A → (List ℕ → Option A) → ℕ → Option (List ℕ) → Option (List A)
-one_each absent read count None = Some (replicate count absent)
-one_each absent read count (Some value) = as_many count (all_read read value)
-
 abbrev pub hints_for : ℕ → List (List ℕ) → Result (List (List ℕ)) Refusal
 hints_for count options = or_else (one_each [] hint_of count (last_value_of (codes "hints") options)) (bad_option (codes "hints"))
 
@@ -62,16 +53,6 @@ bearings_for count options = or_else (one_each None bearing_of count (last_value
 
 abbrev pub approaches_for : ℕ → List (List ℕ) → Result (List (Option Approach)) Refusal
 approaches_for count options = or_else (one_each None approach_of count (last_value_of (codes "approaches") options)) (bad_option (codes "approaches"))
-
--- the chosen coordinates where there are so many
-abbrev pub among : ℕ → Option Chosen → Option Chosen
-among count None = None
-among count (Some chosen.All) = Some chosen.All
-among count (Some (chosen.Only indexes)) = if list_all (λ i. nat_lt i count) indexes then Some (chosen.Only indexes) else None
-
-abbrev pub chosen_among : ℕ → Option (List ℕ) → Option Chosen
-chosen_among count None = Some chosen.All
-chosen_among count (Some value) = among count (chosen_of value)
 
 -- the sources or the destinations of a table
 abbrev pub chosen_for : ℕ → List ℕ → List (List ℕ) → Result Chosen Refusal

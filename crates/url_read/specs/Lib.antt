@@ -1,10 +1,7 @@
 pub mod Coordinates
-pub mod Cutting
 pub mod Judging
-pub mod Kept
 pub mod Options
 pub mod Refusals
 pub mod Request
 pub mod Scopes
 pub mod Target
-pub mod Values

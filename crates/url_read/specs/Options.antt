@@ -1,10 +1,10 @@
 -- The options of a query, `name=value` parted by `&`, and which of them each service has (OSRM's HTTP API,
 -- version 1; that of a repeated option the last counts is this project's rule).
-use Rattle.std.specs.Prelude.{ℕ, Bool, true, false, ◌==◌, ◌&&◌, ◌||◌, List, [], ◌∷◌, length, codes, bytes_eq, Option, Some, None, is_some, unwrap_or, option_and_then, if◌then◌else◌}
+use Rattle.std.specs.Prelude.{ℕ, Bool, true, false, ◌==◌, ◌||◌, List, [], ◌∷◌, length, codes, bytes_eq, Option, Some, None, is_some, unwrap_or, option_and_then, if◌then◌else◌}
 use Rattle.std.specs.Option.{option_or}
 use Rattle.std.specs.List.{before_first, after_first, slice_split}
 use Rattle.std.specs.Str.{byte}
-use Rattle.url_read.specs.Values.{truth_of, all_read, radius_of, bearing_of, approach_of, hint_of, snapping_of, since_of, number_of, alternatives_of, route_annotations_of, geometries_of, overview_of, continue_straight_of, table_annotations_of, chosen_of}
+use Rattle.option_values.specs.Values.{truth_of, all_read, radius_of, bearing_of, approach_of, snapping_of, since_of, number_of, alternatives_of, route_annotations_of, geometries_of, overview_of, continue_straight_of, table_annotations_of, chosen_of}
 use Rattle.url_read.specs.declared.service_names.ServiceName.{ServiceName}
 use Rattle.url_read.specs.declared.service_names.ServiceName.TheVariants.{Route, Table, Nearest}
 

@@ -24,6 +24,10 @@ bad_option name = record { code = InvalidOptions; message = codes "option " ++ n
 abbrev pub bad_coordinate : ℕ → Refusal
 bad_coordinate number = record { code = InvalidQuery; message = codes "coordinate " ++ decimal number }
 
+-- the polyline between the parentheses has its first fault at this byte, from 0
+abbrev pub bad_polyline : ℕ → Refusal
+bad_polyline offset = record { code = InvalidQuery; message = codes "polyline byte " ++ decimal offset }
+
 -- the coordinate of this number, from 0, is not on the Earth
 abbrev pub out_of_range : ℕ → Refusal
 out_of_range number = record { code = InvalidValue; message = codes "coordinate " ++ decimal number }

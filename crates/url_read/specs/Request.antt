@@ -1,6 +1,6 @@
 -- What a target asks for: the requests of OSRM's HTTP API, version 1. The refusals and their order are this
 -- project's rule.
-use Rattle.std.specs.Prelude.{◌≡◌, ◌≤◌, ℕ, ℤ, Bool, true, false, ◌==◌, not, ◌&&◌, List, length, codes, bytes_eq, nat_eq, nat_lt, Option, Some, None, Result, Ok, Err, if◌then◌else◌}
+use Rattle.std.specs.Prelude.{◌≡◌, ◌≤◌, ℕ, ℤ, Bool, ◌==◌, not, ◌&&◌, List, length, codes, bytes_eq, nat_eq, nat_lt, Option, Some, None, Result, Ok, Err, if◌then◌else◌}
 use Rattle.std.specs.List.{ends_with}
 use Rattle.std.specs.Str.{is_utf8}
 use Rattle.percent_encoding.specs.Percent.{percent_decode}
@@ -9,13 +9,13 @@ use Rattle.url_read.specs.Target.{Pieces, mark_of, path_at, query_at, pieces_of,
 use Rattle.url_read.specs.Coordinates.{degrees_in, points_at}
 use Rattle.url_read.specs.Options.{options_of}
 use Rattle.url_read.specs.Judging.{options_refusal, values_for}
-use Rattle.url_read.specs.Scopes.{has_service, has_overview}
 use Rattle.url_read.specs.Refusals.{bad_path, bad_service, bad_version, bad_option, bad_count, too_many, too_many_results, and_then, unless}
 use Rattle.url_read.specs.declared.refusals.Refusal.{Refusal}
 use Rattle.url_read.specs.declared.scopes.Scope.{Scope}
 use Rattle.url_read.specs.declared.scopes.Scope.TheVariants.{Whole, Answered}
 use Rattle.url_read.specs.declared.service_names.ServiceName.{ServiceName}
 use Rattle.url_read.specs.declared.service_names.ServiceName.TheVariants as name
+use Rattle.option_values.specs.Entries.{AreThere}
 use Rattle.url_read.specs.declared.requests.OptionValues.{OptionValues}
 use Rattle.url_read.specs.declared.requests.Request.{Request}
 use Rattle.url_read.specs.declared.requests.Service.{Service}
@@ -27,11 +27,6 @@ service_named text =
     if bytes_eq text (codes "route") then Some name.Route
     else (if bytes_eq text (codes "table") then Some name.Table
     else (if bytes_eq text (codes "nearest") then Some name.Nearest else None))
-
--- where it is answered
-abbrev pub only_of : Scope → Option ServiceName → Option ServiceName
-only_of scope None = None
-only_of scope (Some service) = if has_service scope service then Some service else None
 
 abbrev pub name_of_service : Service → ServiceName
 name_of_service (Route own) = name.Route
@@ -85,23 +80,18 @@ request_at values points = record {
   since = values.since;
 }
 
-abbrev pub overview_refusal : Scope → Service → Option Refusal
-overview_refusal scope service = if has_overview scope service then None else Some (bad_option (codes "overview"))
+-- eighth, each coordinate is on the Earth
+abbrev pub points_for : Service → List (ℤ × ℤ) → Result (List Point) Refusal
+points_for service degrees = and_then (points_at degrees) (λ points. unless (size_refusal service (length points)) (Ok points))
 
--- last of the seventh, the overview; eighth, each coordinate is on the Earth
-abbrev pub points_for : Scope → Service → List (ℤ × ℤ) → Result (List Point) Refusal
-points_for scope service degrees =
-    unless (overview_refusal scope service)
-    (and_then (points_at degrees) (λ points. unless (size_refusal service (length points)) (Ok points)))
-
-abbrev pub with_values : Scope → List (ℤ × ℤ) → OptionValues → Result Request Refusal
-with_values scope degrees values = and_then (points_for scope values.service degrees) (λ points. Ok (request_at values points))
+abbrev pub with_values : List (ℤ × ℤ) → OptionValues → Result Request Refusal
+with_values degrees values = and_then (points_for values.service degrees) (λ points. Ok (request_at values points))
 
 -- sixth, there are enough coordinates; seventh, the options
 abbrev pub with_degrees : Scope → ServiceName → List (List ℕ) → List (ℤ × ℤ) → Result Request Refusal
 with_degrees scope service options degrees =
     if not (is_count service (length degrees)) then Err (bad_count (length degrees))
-    else unless (options_refusal scope service options) (and_then (values_for service (length degrees) options) (with_values scope degrees))
+    else unless (options_refusal scope service options) (and_then (values_for service (length degrees) options) (with_values degrees))
 
 -- third, the version is `v1`; fourth, the reply is JSON and not of another format; fifth, behind which a `.json`
 -- is dropped, each coordinate is of its form
@@ -115,7 +105,7 @@ of_service scope pieces query (Some service) =
 -- second, there is such a service
 abbrev pub of_pieces : Scope → Option Pieces → List ℕ → Result Request Refusal
 of_pieces scope None query = Err bad_path
-of_pieces scope (Some pieces) query = of_service scope pieces query (only_of scope (service_named pieces.service))
+of_pieces scope (Some pieces) query = of_service scope pieces query (service_named pieces.service)
 
 -- first, the path and the query are text, and the path has its four pieces
 abbrev pub of_parts : Scope → List ℕ → List ℕ → Result Request Refusal
@@ -134,15 +124,30 @@ whole_request_of target = request_in Whole target
 abbrev pub request_of : List ℕ → Result Request Refusal
 request_of target = request_in Answered target
 
+-- a table's sources and destinations are there; `nearest` is asked for one result or more
+abbrev pub AreOwn : ℕ → Service → Type 0
+AreOwn count (Route own) = Unit {0}
+AreOwn count (Table own) = AreThere count own.sources × AreThere count own.destinations
+AreOwn count (Nearest own) = 1 ≤ own.number
+
 -- values with an entry for each of so many coordinates
 pub record HasEach (count : ℕ) (values : OptionValues) : Type 0 where
+  pub own : AreOwn count values.service
   pub radiuses : length values.radiuses ≡ count
   pub bearings : length values.bearings ≡ count
   pub approaches : length values.approaches ≡ count
   pub hints : length values.hints ≡ count
 
+-- no more results are asked for than `nearest` may have
+abbrev pub AreFew : Service → Type 0
+AreFew (Route own) = Unit {0}
+AreFew (Table own) = Unit {0}
+AreFew (Nearest own) = own.number ≤ most_results
+
 -- a request of so many coordinates as its service may have, with an entry for each
 pub record IsFitting (request : Request) : Type 0 where
+  pub own : AreOwn (length request.points) request.service
+  pub few : AreFew request.service
   pub least : fewest (name_of_service request.service) ≤ length request.points
   pub most : length request.points ≤ most (name_of_service request.service)
   pub radiuses : length request.radiuses ≡ length request.points

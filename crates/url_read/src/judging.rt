@@ -5,12 +5,12 @@ ghost use Rattle.url_read.specs.Judging.{is_legal, options_refusal};
 ghost use Rattle.url_read.specs.Options.{options_of};
 ghost use Rattle.url_read.specs.Refusals.{IsRefusalIn};
 
-use crate::cutting::cut;
 use crate::messages::bad_option;
 use crate::options::{is_of, name_of};
 use crate::refusals::RequestFault;
 use crate::scopes::{Scope, has_value};
 use crate::service_names::ServiceName;
+use option_values::cut;
 use std::alloc::Global;
 
 // Whether each option of a query is one of the service, of its grammar, or else the first that is not.

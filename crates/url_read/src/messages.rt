@@ -1,7 +1,7 @@
 //! The refusals of targets, with their messages.
 
 ghost use Rattle.std.specs.Prelude.{◌≡◌, IfOk, string_bytes};
-ghost use Rattle.url_read.specs.Refusals.{bad_path, bad_service, bad_version, bad_option, bad_coordinate, out_of_range, bad_count, too_many, too_many_results};
+ghost use Rattle.url_read.specs.Refusals.{bad_path, bad_service, bad_version, bad_option, bad_coordinate, bad_polyline, out_of_range, bad_count, too_many, too_many_results};
 
 use crate::refusals::{Refusal, RefusalCode};
 use road_base::Text;
@@ -53,6 +53,14 @@ pub(crate) fn bad_coordinate(alloc: Global, number: usize) -> Result<Refusal, Al
     ensures { IfOk result (λ refusal. refusal ≡ bad_coordinate number) }
 {
     let message = format!(in alloc; "coordinate {number}")?;
+    Ok(refused(RefusalCode::InvalidQuery, message))
+}
+
+// The polyline between the parentheses has its first fault at this byte, from 0.
+pub(crate) fn bad_polyline(alloc: Global, offset: usize) -> Result<Refusal, AllocError>
+    ensures { IfOk result (λ refusal. refusal ≡ bad_polyline offset) }
+{
+    let message = format!(in alloc; "polyline byte {offset}")?;
     Ok(refused(RefusalCode::InvalidQuery, message))
 }
 

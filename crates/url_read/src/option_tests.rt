@@ -370,11 +370,12 @@ fn a_nearest_has_a_number(rt: HostRuntime) {
 
 #[test]
 fn what_is_answered_so_far_is_asked_for(rt: HostRuntime) {
-    let cases: [&[u8]; 4] = [
-        b"/route/v1/car/0,0;0,1?overview=false&hints=;",
-        b"/route/v1/car/0,0;0,1.json?overview=full&overview=false&steps=false&annotations=false",
-        b"/route/v1/car/0,0;0,1?overview=false&alternatives=3&geometries=geojson&continue_straight=false",
+    let cases: [&[u8]; 5] = [
+        b"/route/v1/car/0,0;0,1?hints=;",
+        b"/route/v1/car/0,0;0,1.json?overview=full&steps=false&annotations=true",
         b"/route/v1/car/0%2C0;0,1?o%76erview=f%61lse&radiuses=5;&bearings=45,10;&since=9",
+        b"/table/v1/car/0,0;0,1?annotations=distance",
+        b"/table/v1/car/polyline(????)",
     ];
     for target in cases {
         let asked = request(rt.alloc(), target).ok().expect(&rt, "a request");

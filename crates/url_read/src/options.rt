@@ -3,15 +3,12 @@
 ghost use Rattle.std.specs.Prelude.{◌≡◌, option_copied};
 ghost use Rattle.url_read.specs.Options.{name_of, value_named, is_common, is_of_route, is_of_table, is_of_nearest, is_of};
 
-use crate::chosen_lists::is_chosen;
-use crate::cutting::cut;
-use crate::entries::are_read;
-use crate::option_types::{Approach, Bearing};
-use crate::option_values::{
-    alternatives_of, continue_straight_of, geometries_of, number_of, overview_of,
-    route_annotations_of, since_of, snapping_of, table_annotations_of, truth_of,
-};
 use crate::service_names::ServiceName;
+use option_values::{
+    Approach, Bearing, alternatives_of, are_read, continue_straight_of, cut, geometries_of,
+    is_chosen, number_of, overview_of, route_annotations_of, since_of, snapping_of,
+    table_annotations_of, truth_of,
+};
 
 // The value of an option of this name, None where it has another.
 pub(crate) fn value_named<'a>(name: &str, option: &'a str) -> Option<&'a str>

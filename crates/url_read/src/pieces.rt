@@ -3,7 +3,7 @@
 ghost use Rattle.std.specs.Prelude.{◌≡◌, Some, None, MatchOption, ◌||◌};
 ghost use Rattle.url_read.specs.Target.{pieces_of, is_empty, without_json};
 
-use crate::cutting::cut;
+use option_values::cut;
 
 // The pieces of a path that a request is read from, none of them empty.
 #[derive(Clone, Copy, Drop)]

@@ -1,9 +1,8 @@
 //! What a target asks for.
 
-use crate::entry_lists::{Approaches, Bearings, Hints, Radiuses};
-use crate::option_types::{
-    Alternatives, Chosen, ContinueStraight, Geometries, Overview, RouteAnnotations, Snapping,
-    TableAnnotations,
+use option_values::{
+    Alternatives, Approaches, Bearings, Chosen, ContinueStraight, Geometries, Hints, Overview,
+    Radiuses, RouteAnnotations, Snapping, TableAnnotations,
 };
 use road_base::Points;
 

@@ -1,7 +1,7 @@
 //! How many coordinates a service has, and how many results.
 
 ghost use Rattle.std.specs.Prelude.{◌≡◌, ◌≤◌, None, OnOk, IfErr};
-ghost use Rattle.url_read.specs.Request.{fewest, most, is_count, name_of_service, size_refusal, results_refusal};
+ghost use Rattle.url_read.specs.Request.{fewest, most, is_count, name_of_service, size_refusal, results_refusal, AreFew};
 ghost use Rattle.url_read.specs.Refusals.{IsRefusalIn};
 
 use crate::messages::{too_many, too_many_results};
@@ -58,7 +58,8 @@ fn name_of_service(service: &Service) -> ServiceName
 // Whether there are no more coordinates than a service may have, and it is asked for no more results.
 pub(crate) fn check_size(alloc: Global, service: &Service, count: usize) -> Result<(), RequestFault>
     ensures fits { OnOk result (size_refusal service.now count ≡ None) }
-    ensures few { OnOk result (count ≤ most (name_of_service service.now)) }
+    ensures most { OnOk result (count ≤ most (name_of_service service.now)) }
+    ensures few { OnOk result (AreFew service.now) }
     ensures refusal { IfErr result (IsRefusalIn (size_refusal service.now count)) }
 {
     let most = most(name_of_service(service));
@@ -70,6 +71,7 @@ pub(crate) fn check_size(alloc: Global, service: &Service, count: usize) -> Resu
 
 fn check_results(alloc: Global, service: &Service) -> Result<(), RequestFault>
     ensures fits { OnOk result (results_refusal service.now ≡ None) }
+    ensures few { OnOk result (AreFew service.now) }
     ensures refusal { IfErr result (IsRefusalIn (results_refusal service.now)) }
 {
     match service {

@@ -3,9 +3,7 @@
 ghost use Rattle.std.specs.Prelude.{◌≡◌, ◌≤◌, true, Some, Ok, IfOk, IfErr, IfSome, length};
 ghost use Rattle.url_read.specs.Options.{options_of};
 ghost use Rattle.url_read.specs.Refusals.{IsFaultOf};
-ghost use Rattle.url_read.specs.Request.{is_count, most, of_pieces, points_for, only_of, request_in, request_of, service_named, whole_request_of, with_degrees, with_values, name_of_service, HasEach, IsFitting};
-ghost use Rattle.url_read.specs.Scopes.{has_service};
-ghost use Rattle.url_read.specs.declared.service_names.ServiceName.TheVariants.{Route};
+ghost use Rattle.url_read.specs.Request.{is_count, most, of_pieces, points_for, request_in, request_of, service_named, whole_request_of, with_degrees, with_values, name_of_service, AreFew, HasEach, IsFitting};
 
 use crate::coordinates::degrees_in;
 use crate::judging::check_options;
@@ -15,22 +13,19 @@ use crate::pieces::{Pieces, pieces_of, without_json};
 use crate::points::points_at;
 use crate::refusals::RequestFault;
 use crate::requests::{OptionValues, Request, Service};
-use crate::scopes::{Scope, has_overview, has_service};
+use crate::scopes::Scope;
 use crate::service_names::{ServiceName, service_named};
 use crate::sizes::{check_size, is_count};
 use crate::values::values_for;
 use road_base::{Point, Points};
 use std::alloc::Global;
 
-/// The request of a target of what is answered so far, or its first refusal: as [`whole_request`], but the
-/// services `table` and `nearest` are refused as unknown ones are, `steps=true` and `annotations` other than
-/// `false` as options that aren't of their grammar, and last of all options, before the coordinates' ranges,
-/// `overview` where its last value isn't `false`.
+/// The request of a target of what is answered so far, or its first refusal: as [`whole_request`], but
+/// `steps=true` is refused as an option that isn't of its grammar.
 pub fn request(alloc: Global, target: &[u8]) -> Result<Request, RequestFault>
     ensures request { IfOk result (λ request. request_of target.now ≡ Ok request) }
-    ensures least { IfOk result (λ request. 2 ≤ length request.points) }
+    ensures least { IfOk result (λ request. 1 ≤ length request.points) }
     ensures most { IfOk result (λ request. length request.points ≤ 500) }
-    ensures route { IfOk result (λ request. name_of_service request.service ≡ Route) }
     ensures fitting { IfOk result IsFitting }
     ensures refusal { IfErr result (IsFaultOf (request_of target.now)) }
 {
@@ -41,14 +36,16 @@ pub fn request(alloc: Global, target: &[u8]) -> Result<Request, RequestFault>
 ///
 /// The path ends before the first `?` that has as many `(` as `)` before it; then percent escapes are read in path
 /// and query. Coordinates are parted by `;`, each a longitude and a latitude in decimal degrees with a comma
-/// between; six digits after the point are kept, and a seventh rounds. A route has 2 to 500 of them, a table 1 to
+/// between; six digits after the point are kept, and a seventh rounds; or they are `polyline(..)` or `polyline6(..)`,
+/// an encoded polyline of 5 or 6 digits. A route has 2 to 500 of them, a table 1 to
 /// 100, `nearest` one, within 180 degrees of longitude and 90 of latitude either way. The profile may be any text.
 /// Of an option that is given more than once the last counts, and each is judged.
 ///
 /// Refusals come in this order: `InvalidUrl` with the message `path` for what isn't UTF-8, or a path that isn't
 /// four nonempty pieces, each behind a slash; `InvalidService` with `service NAME`; `InvalidVersion` with
 /// `version NAME`; `InvalidOptions` with `option format` for coordinates that end in `.flatbuffers`;
-/// `InvalidQuery` with `coordinate I`, counted from 0, for the first that isn't of its form, then with
+/// `InvalidQuery` with `coordinate I`, counted from 0, for the first that isn't of its form (0 for a polyline that
+/// doesn't end in `)`), or with `polyline byte N`, counted from the opening parenthesis, for its first fault, then with
 /// `N coordinates` for too few, or for `nearest` not one; `InvalidOptions` with `option NAME` for the first option
 /// from the left that its service doesn't have or that isn't of its grammar, then for the first of `hints`,
 /// `radiuses`, `bearings`, `approaches`, `sources` and `destinations` that has another number of entries than there
@@ -68,7 +65,6 @@ pub fn whole_request(alloc: Global, target: &[u8]) -> Result<Request, RequestFau
 fn request_in(alloc: Global, scope: Scope, target: &[u8]) -> Result<Request, RequestFault>
     ensures request { IfOk result (λ request. request_in scope target.now ≡ Ok request) }
     ensures fitting { IfOk result IsFitting }
-    ensures answered { IfOk result (λ request. has_service scope (name_of_service request.service) ≡ true) }
     ensures refusal { IfErr result (IsFaultOf (request_in scope target.now)) }
 {
     let (path, query) = parted(target);
@@ -93,10 +89,9 @@ fn request_of_pieces(
 ) -> Result<Request, RequestFault>
     ensures request { IfOk result (λ request. of_pieces scope (Some (record { service = pieces.entry.service.now; version = pieces.entry.version.now; coordinates = pieces.entry.coordinates.now })) query.now ≡ Ok request) }
     ensures fitting { IfOk result IsFitting }
-    ensures answered { IfOk result (λ request. has_service scope (name_of_service request.service) ≡ true) }
     ensures refusal { IfErr result (IsFaultOf (of_pieces scope (Some (record { service = pieces.entry.service.now; version = pieces.entry.version.now; coordinates = pieces.entry.coordinates.now })) query.now)) }
 {
-    let Some(service) = service_in(scope, pieces.service) else {
+    let Some(service) = service_named(pieces.service) else {
         return Err(RequestFault::Refused(bad_service(alloc, pieces.service)?));
     };
     if pieces.version != "v1" {
@@ -107,19 +102,6 @@ fn request_of_pieces(
     }
     let degrees = degrees_in(alloc, without_json(pieces.coordinates))?;
     request_at(alloc, scope, service, &degrees, query)
-}
-
-// The service of a name, None where there is none or it is not answered.
-fn service_in(scope: Scope, name: &str) -> Option<ServiceName>
-    ensures service { result ≡ only_of scope (service_named name.now) }
-    ensures answered { IfSome result (λ service. has_service scope service ≡ true) }
-{
-    let service = service_named(name)?;
-    if has_service(scope, service) {
-        Some(service)
-    } else {
-        None
-    }
 }
 
 // The request of a service at these longitudes and latitudes, with the options of a query.
@@ -141,24 +123,23 @@ fn request_at(
     }
     check_options(alloc, scope, service, query)?;
     let values = values_for(alloc, service, count, query)?;
-    request_with(alloc, scope, values, degrees)
+    request_with(alloc, values, degrees)
 }
 
 // The request of these values of options at these longitudes and latitudes, of which there are enough.
 fn request_with(
     alloc: Global,
-    scope: Scope,
     values: OptionValues,
     degrees: &[(i64, i64)],
 ) -> Result<Request, RequestFault>
     requires enough { is_count (name_of_service values.service) (length degrees.now) ≡ true }
     requires each { HasEach (length degrees.now) values }
-    ensures request { IfOk result (λ request. with_values scope degrees.now values ≡ Ok request) }
+    ensures request { IfOk result (λ request. with_values degrees.now values ≡ Ok request) }
     ensures fitting { IfOk result IsFitting }
     ensures name { IfOk result (λ request. name_of_service request.service ≡ name_of_service values.service) }
-    ensures refusal { IfErr result (IsFaultOf (with_values scope degrees.now values)) }
+    ensures refusal { IfErr result (IsFaultOf (with_values degrees.now values)) }
 {
-    let points = points_for(alloc, scope, &values.service, degrees)?;
+    let points = points_for(alloc, &values.service, degrees)?;
     Ok(Request {
         points: Points::of(points),
         service: values.service,
@@ -176,18 +157,15 @@ fn request_with(
 // The points at these longitudes and latitudes, of which there are not too many for the service.
 fn points_for(
     alloc: Global,
-    scope: Scope,
     service: &Service,
     degrees: &[(i64, i64)],
 ) -> Result<Vec<Point>, RequestFault>
-    ensures points { IfOk result (λ points. points_for scope service.now degrees.now ≡ Ok points.items) }
+    ensures points { IfOk result (λ points. points_for service.now degrees.now ≡ Ok points.items) }
     ensures count { IfOk result (λ points. length points.items ≡ length degrees.now) }
-    ensures few { IfOk result (λ points. length points.items ≤ most (name_of_service service.now)) }
-    ensures refusal { IfErr result (IsFaultOf (points_for scope service.now degrees.now)) }
+    ensures most { IfOk result (λ points. length points.items ≤ most (name_of_service service.now)) }
+    ensures few { IfOk result (λ points. AreFew service.now) }
+    ensures refusal { IfErr result (IsFaultOf (points_for service.now degrees.now)) }
 {
-    if !has_overview(scope, service) {
-        return Err(RequestFault::Refused(bad_option(alloc, "overview")?));
-    }
     let points = points_at(alloc, degrees)?;
     check_size(alloc, service, points.len())?;
     Ok(points)

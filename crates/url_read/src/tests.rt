@@ -46,13 +46,13 @@ fn the_first_refusal_of_a_target_is_told(rt: HostRuntime) {
         (b"/match/v2/car/0,0", InvalidService, b"service match"),
         (
             b"/table/v1/car/0,0;0,0?overview=false",
-            InvalidService,
-            b"service table",
+            InvalidOptions,
+            b"option overview",
         ),
         (
             b"/nearest/v1/car/0,0?overview=false",
-            InvalidService,
-            b"service nearest",
+            InvalidOptions,
+            b"option overview",
         ),
         (
             b"/Route/v1/car/0,0;0,0?overview=false",
@@ -96,10 +96,21 @@ fn the_first_refusal_of_a_target_is_told(rt: HostRuntime) {
         (
             b"/route/v1/car/polyline(?\"?)?overview=false",
             InvalidQuery,
-            b"coordinate 0",
+            b"polyline byte 1",
         ),
         (
             b"/route/v1/car/polyline6(??;0,0",
+            InvalidQuery,
+            b"coordinate 0",
+        ),
+        (
+            b"/route/v1/car/polyline(??g).json",
+            InvalidQuery,
+            b"polyline byte 3",
+        ),
+        (b"/route/v1/car/polyline6()", InvalidQuery, b"0 coordinates"),
+        (
+            b"/table/v1/car/polyline(????",
             InvalidQuery,
             b"coordinate 0",
         ),
@@ -136,11 +147,6 @@ fn the_first_refusal_of_a_target_is_told(rt: HostRuntime) {
             b"option overview",
         ),
         (
-            b"/route/v1/car/0,0;0,0?overview=false&overview=full",
-            InvalidOptions,
-            b"option overview",
-        ),
-        (
             b"/route/v1/car/0,0;0,0?overview=full&foo=1",
             InvalidOptions,
             b"option foo",
@@ -154,11 +160,6 @@ fn the_first_refusal_of_a_target_is_told(rt: HostRuntime) {
             b"/route/v1/car/0,0;0,0?steps=true&steps=false&overview=false",
             InvalidOptions,
             b"option steps",
-        ),
-        (
-            b"/route/v1/car/0,0;0,0?annotations=nodes&overview=false",
-            InvalidOptions,
-            b"option annotations",
         ),
         (
             b"/route/v1/car/0,0;0,0.001?overview=false&bearings=361,10;",
@@ -185,16 +186,7 @@ fn the_first_refusal_of_a_target_is_told(rt: HostRuntime) {
             InvalidOptions,
             b"option \xc3\xa9 \"",
         ),
-        (
-            b"/route/v1/car/0,0;0,0?",
-            InvalidOptions,
-            b"option overview",
-        ),
-        (
-            b"/route/v1/car/200,0;0,0",
-            InvalidOptions,
-            b"option overview",
-        ),
+        (b"/route/v1/car/200,0;0,0", InvalidValue, b"coordinate 0"),
         (
             b"/route/v1/car/200,0;0,0?overview=false",
             InvalidValue,
@@ -226,6 +218,24 @@ fn a_request_has_its_points_in_order(rt: HostRuntime) {
     assert_eq!(rt; (first.lon, first.lat), (-2, 1_000_000));
     assert_eq!(rt; (second.lon, second.lat), (179_500_000, -2_250_000));
     assert_eq!(rt; (third.lon, third.lat), (180_000_000, -90_000_000));
+}
+
+#[test]
+fn a_polyline_has_points_too(rt: HostRuntime) {
+    let targets: [&[u8]; 2] = [
+        b"/route/v1/car/polyline(??gEgE)?overview=false",
+        b"/route/v1/car/polyline6%28??o}@o}@).json",
+    ];
+    for target in targets {
+        let asked = request(rt.alloc(), target).ok().expect(&rt, "a request");
+        let [first, second] = asked.points.as_slice() else {
+            panic!(rt; "two points");
+        };
+        assert_eq!(rt; (first.lon, first.lat), (0, 0));
+        assert_eq!(rt; (second.lon, second.lat), (1_000, 1_000));
+    }
+    let far = b"/nearest/v1/car/polyline6(agdtjD?)";
+    assert!(rt; is_refused(&rt, far, InvalidValue, b"coordinate 0"));
 }
 
 // A target of so many coordinates, the last of them this one.

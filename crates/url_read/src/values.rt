@@ -1,32 +1,29 @@
 //! The values of all options of a request.
 
-ghost use Rattle.std.specs.Prelude.{◌≡◌, Ok, IfOk, IfErr, codes, false, length};
-ghost use Rattle.url_read.specs.Judging.{hints_for, radiuses_for, bearings_for, approaches_for, chosen_for, route_options, table_options, nearest_options, service_for, values_for};
+ghost use Rattle.std.specs.Prelude.{◌≡◌, ◌≤◌, Ok, IfOk, IfErr, codes, false, length};
+ghost use Rattle.url_read.specs.Judging.{hints_for, radiuses_for, bearings_for, approaches_for, chosen_for, route_options, table_annotations, table_options, nearest_options, service_for, values_for};
 ghost use Rattle.url_read.specs.Options.{options_of, read_or};
-ghost use Rattle.url_read.specs.Values.{truth_of, alternatives_of, route_annotations_of, every_annotation, geometries_of, overview_of, continue_straight_of};
-ghost use Rattle.url_read.specs.declared.option_types.Alternatives.TheVariants as alternatives;
-ghost use Rattle.url_read.specs.declared.option_types.Geometries.TheVariants.{Polyline};
-ghost use Rattle.url_read.specs.declared.option_types.Overview.TheVariants as overview;
-ghost use Rattle.url_read.specs.declared.option_types.ContinueStraight.TheVariants as straight;
+ghost use Rattle.option_values.specs.Values.{truth_of, snapping_of, since_of, alternatives_of, route_annotations_of, every_annotation, geometries_of, overview_of, continue_straight_of};
+ghost use Rattle.option_values.specs.declared.option_types.Alternatives.TheVariants as alternatives;
+ghost use Rattle.option_values.specs.declared.option_types.Geometries.TheVariants.{Polyline};
+ghost use Rattle.option_values.specs.declared.option_types.Snapping.TheVariants as snapping;
+ghost use Rattle.option_values.specs.declared.option_types.Overview.TheVariants as overview;
+ghost use Rattle.option_values.specs.declared.option_types.ContinueStraight.TheVariants as straight;
 ghost use Rattle.url_read.specs.Refusals.{IsFaultOf};
-ghost use Rattle.url_read.specs.Request.{name_of_service, HasEach};
+ghost use Rattle.option_values.specs.Entries.{AreThere};
+ghost use Rattle.url_read.specs.Request.{name_of_service, AreOwn, HasEach};
 
-use crate::chosen_lists::chosen_among;
-use crate::entries::{hints_each, one_each};
-use crate::entry_lists::{Approaches, Bearings, Hints, Radiuses};
 use crate::last_values::last_value_of;
 use crate::messages::bad_option;
-use crate::option_types::{
-    Alternatives, Chosen, ContinueStraight, Geometries, Overview, RouteAnnotations, Snapping,
-    TableAnnotations,
-};
-use crate::option_values::{
-    alternatives_of, continue_straight_of, every_annotation, geometries_of, number_of, overview_of,
-    route_annotations_of, since_of, snapping_of, table_annotations_of, truth_of,
-};
 use crate::refusals::RequestFault;
 use crate::requests::{NearestOptions, OptionValues, RouteOptions, Service, TableOptions};
 use crate::service_names::ServiceName;
+use option_values::{
+    Alternatives, Approaches, Bearings, Chosen, ContinueStraight, Geometries, Hints, Overview,
+    Radiuses, RouteAnnotations, Snapping, TableAnnotations, alternatives_of, chosen_among,
+    continue_straight_of, every_annotation, geometries_of, hints_each, number_of, one_each,
+    overview_of, route_annotations_of, since_of, snapping_of, table_annotations_of, truth_of,
+};
 use std::alloc::Global;
 
 // What a table tells where it isn't asked.
@@ -60,12 +57,8 @@ pub(crate) fn values_for(
         hints,
         generate_hints: truth_or(true, "generate_hints", query),
         skip_waypoints: truth_or(false, "skip_waypoints", query),
-        snapping: last_value_of("snapping", query)
-            .and_then(snapping_of)
-            .unwrap_or(Snapping::Default),
-        since: last_value_of("since", query)
-            .and_then(since_of)
-            .unwrap_or(0),
+        snapping: snapping_in(query),
+        since: since_in(query),
     })
 }
 
@@ -73,9 +66,28 @@ pub(crate) fn values_for(
 fn truth_or(default: bool, name: &str, query: &str) -> bool
     ensures { result ≡ read_or default truth_of name.now (options_of query.now) }
 {
-    last_value_of(name, query)
-        .and_then(truth_of)
-        .unwrap_or(default)
+    match last_value_of(name, query) {
+        Some(value) => truth_of(value).unwrap_or(default),
+        None => default,
+    }
+}
+
+fn snapping_in(query: &str) -> Snapping
+    ensures { result ≡ read_or snapping.Default snapping_of (codes "snapping") (options_of query.now) }
+{
+    match last_value_of("snapping", query) {
+        Some(value) => snapping_of(value).unwrap_or(Snapping::Default),
+        None => Snapping::Default,
+    }
+}
+
+fn since_in(query: &str) -> u32
+    ensures { result ≡ read_or 0 since_of (codes "since") (options_of query.now) }
+{
+    match last_value_of("since", query) {
+        Some(value) => since_of(value).unwrap_or(0),
+        None => 0,
+    }
 }
 
 fn hints_for(alloc: Global, count: usize, query: &str) -> Result<Hints, RequestFault>
@@ -130,6 +142,7 @@ fn service_for(
     query: &str,
 ) -> Result<Service, RequestFault>
     ensures own { IfOk result (λ own. service_for service count (options_of query.now) ≡ Ok own) }
+    ensures there { IfOk result (AreOwn count) }
     ensures name { IfOk result (λ own. name_of_service own ≡ service) }
     ensures refusal { IfErr result (IsFaultOf (service_for service count (options_of query.now))) }
 {
@@ -156,45 +169,51 @@ fn route_options(query: &str) -> RouteOptions
 fn alternatives_in(query: &str) -> Alternatives
     ensures { result ≡ read_or alternatives.Off alternatives_of (codes "alternatives") (options_of query.now) }
 {
-    last_value_of("alternatives", query)
-        .and_then(alternatives_of)
-        .unwrap_or(Alternatives::Off)
+    match last_value_of("alternatives", query) {
+        Some(value) => alternatives_of(value).unwrap_or(Alternatives::Off),
+        None => Alternatives::Off,
+    }
 }
 
 fn route_annotations_in(query: &str) -> RouteAnnotations
     ensures { result ≡ read_or (every_annotation false) route_annotations_of (codes "annotations") (options_of query.now) }
 {
-    last_value_of("annotations", query)
-        .and_then(route_annotations_of)
-        .unwrap_or(every_annotation(false))
+    match last_value_of("annotations", query) {
+        Some(value) => route_annotations_of(value).unwrap_or(every_annotation(false)),
+        None => every_annotation(false),
+    }
 }
 
 fn geometries_in(query: &str) -> Geometries
     ensures { result ≡ read_or Polyline geometries_of (codes "geometries") (options_of query.now) }
 {
-    last_value_of("geometries", query)
-        .and_then(geometries_of)
-        .unwrap_or(Geometries::Polyline)
+    match last_value_of("geometries", query) {
+        Some(value) => geometries_of(value).unwrap_or(Geometries::Polyline),
+        None => Geometries::Polyline,
+    }
 }
 
 fn overview_in(query: &str) -> Overview
     ensures { result ≡ read_or overview.Simplified overview_of (codes "overview") (options_of query.now) }
 {
-    last_value_of("overview", query)
-        .and_then(overview_of)
-        .unwrap_or(Overview::Simplified)
+    match last_value_of("overview", query) {
+        Some(value) => overview_of(value).unwrap_or(Overview::Simplified),
+        None => Overview::Simplified,
+    }
 }
 
 fn continue_straight_in(query: &str) -> ContinueStraight
     ensures { result ≡ read_or straight.Default continue_straight_of (codes "continue_straight") (options_of query.now) }
 {
-    last_value_of("continue_straight", query)
-        .and_then(continue_straight_of)
-        .unwrap_or(ContinueStraight::Default)
+    match last_value_of("continue_straight", query) {
+        Some(value) => continue_straight_of(value).unwrap_or(ContinueStraight::Default),
+        None => ContinueStraight::Default,
+    }
 }
 
 fn table_options(alloc: Global, count: usize, query: &str) -> Result<TableOptions, RequestFault>
     ensures own { IfOk result (λ own. table_options count (options_of query.now) ≡ Ok own) }
+    ensures there { IfOk result (λ own. AreThere count own.sources × AreThere count own.destinations) }
     ensures refusal { IfErr result (IsFaultOf (table_options count (options_of query.now))) }
 {
     let sources = chosen_for(alloc, count, "sources", query)?;
@@ -202,15 +221,23 @@ fn table_options(alloc: Global, count: usize, query: &str) -> Result<TableOption
     Ok(TableOptions {
         sources,
         destinations,
-        annotations: last_value_of("annotations", query)
-            .and_then(table_annotations_of)
-            .unwrap_or(DURATION),
+        annotations: table_annotations_in(query),
     })
+}
+
+fn table_annotations_in(query: &str) -> TableAnnotations
+    ensures { result ≡ table_annotations (options_of query.now) }
+{
+    match last_value_of("annotations", query) {
+        Some(value) => table_annotations_of(value).unwrap_or(DURATION),
+        None => DURATION,
+    }
 }
 
 // The sources or the destinations of a table.
 fn chosen_for(alloc: Global, count: usize, name: &str, query: &str) -> Result<Chosen, RequestFault>
     ensures chosen { IfOk result (λ chosen. chosen_for count name.now (options_of query.now) ≡ Ok chosen) }
+    ensures there { IfOk result (AreThere count) }
     ensures refusal { IfErr result (IsFaultOf (chosen_for count name.now (options_of query.now))) }
 {
     match chosen_among(alloc, count, last_value_of(name, query))? {
@@ -220,11 +247,12 @@ fn chosen_for(alloc: Global, count: usize, name: &str, query: &str) -> Result<Ch
 }
 
 fn nearest_options(query: &str) -> NearestOptions
-    ensures { result ≡ nearest_options (options_of query.now) }
+    ensures own { result ≡ nearest_options (options_of query.now) }
+    ensures some { 1 ≤ result.number }
 {
-    NearestOptions {
-        number: last_value_of("number", query)
-            .and_then(number_of)
-            .unwrap_or(1),
-    }
+    let number = match last_value_of("number", query) {
+        Some(value) => number_of(value).unwrap_or(1),
+        None => 1,
+    };
+    NearestOptions { number }
 }

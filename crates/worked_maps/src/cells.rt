@@ -80,8 +80,8 @@ fn told(alloc: Global, metric: &Metric) -> Result<String, AllocError> {
     Ok(text)
 }
 
-/// The metric of a map by the settings alone, cut into cells by these limits.
-pub fn customized(
+// The metric of a map by the settings alone, cut into cells by these limits.
+fn customized(
     rt: &(impl Threads + Sync),
     alloc: Global,
     objects: &[Object],

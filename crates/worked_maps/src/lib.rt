@@ -1,5 +1,5 @@
-//! Tests over worked maps, of what no clause says: that geometry, networks, metrics, cells, what walks cost
-//! inside these and what walks are told by come out as their definitions are meant, and are made where memory is ample.
+//! Tests over worked maps, of what no clause says: that geometry, networks, metrics, cells and what walks cost
+//! inside these come out as their definitions are meant, and are made where memory is ample.
 #![tactic(auto)]
 
 #[cfg(test)]
@@ -8,8 +8,6 @@ mod cells;
 mod geometry;
 #[cfg(test)]
 mod hard_maps;
-#[cfg(test)]
-mod legs;
 #[cfg(test)]
 mod metrics;
 #[cfg(test)]

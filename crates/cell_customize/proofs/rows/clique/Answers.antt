@@ -1,8 +1,8 @@
 -- The inside of the cell stands on exact cliques below it.
 use Rattle.cell_customize.proofs.rows.clique.Goals as goal
 
-pub rows-requires-clause-inner : goal.rows-requires-clause-inner
-rows-requires-clause-inner g c = record {
+pub all_rows-requires-clause-inner : goal.all_rows-requires-clause-inner
+all_rows-requires-clause-inner g c = record {
   framed = c.known.ensures.framed;
   small = c.requires.weights;
   exact = c.requires.cliques;

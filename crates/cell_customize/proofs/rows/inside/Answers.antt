@@ -1,21 +1,21 @@
 -- What the search finds is the least cost inside the cell.
-use Rattle.std.proofs.Common.{◌≢◌, ℕ, ◌∙◌, subst}
+use Rattle.std.proofs.Common.{ℕ, subst}
 use Rattle.cell_frame.specs.Borders.{Holds}
 use Rattle.cell_frame.specs.Inside.{IsInsideValue}
-use Rattle.cell_customize.proofs.Costing.{inside_value}
+use Rattle.cell_customize.proofs.Searched.{found_inside, if_ok, none_inside}
 use Rattle.cell_customize.proofs.rows.inside.Goals as goal
-
-pub run-requires-clause-under_way : goal.run-requires-clause-under_way
-run-requires-clause-under_way g c = rw c.as_slice-starts.ensures.value c.requires.begun.under_way
-
-pub returns-clause-begun : goal.returns-clause-begun
-returns-clause-begun g c = record { starts = c.requires.begun.starts; under_way = rw c.as_slice-starts.ensures.value at c.in_ok-run.ensures.under_way }
-
-pub returns-clause-value : goal.returns-clause-value
-returns-clause-value g c =
-    let other : c.args.entry ≢ c.args.exit = c.if-entry-exit.false in
-    inside_value g.met.C.Cost.laws c.args.over.now.frame.now c.args.over.now.weights.now c.args.over.now.cliques.now c.args.over.now.parts.now.cell c.requires.inner c.args.entry c.requires.entry c.args.exit c.requires.exit other c.as_slice-starts.result.now (c.as_slice-starts.ensures.value ∙ c.requires.begun.starts) c.cost.result c.cost.ensures
 
 pub returns-then-entry-exit-clause-value : goal.returns-then-entry-exit-clause-value
 returns-then-entry-exit-clause-value g c =
-    subst (λ (x : ℕ). IsInsideValue g.C.Cost.ops c.args.over.now.frame.now.graph c.args.over.now.weights.now (Holds c.args.over.now.frame.now.cells c.args.over.now.parts.now.cell) c.args.entry x c.nothing_paid.result) c.if-entry-exit.true c.nothing_paid.ensures
+    let o = c.args.small.now.steps.now in
+    subst (λ (x : ℕ). IsInsideValue g.C.Cost.ops o.frame.now.graph o.weights.now (Holds o.frame.now.cells o.parts.now.cell) c.args.entry x c.nothing_paid.result) c.if-entry-exit.true c.nothing_paid.ensures
+
+pub returns-in-None-clause-value : goal.returns-in-None-clause-value
+returns-in-None-clause-value g c =
+    let o = c.args.small.now.steps.now in
+    none_inside g.met.C.Cost.laws o.frame.now o.weights.now o.cliques.now o.parts.now.cell c.requires.inner c.args.small.now.local.now c.requires.filled c.args.entry c.requires.entry c.args.exit c.requires.exit c.if-entry-exit.false c.args.start c.requires.start c.in-None.ensures.none
+
+pub returns-in-Some-clause-value : goal.returns-in-Some-clause-value
+returns-in-Some-clause-value g c =
+    let o = c.args.small.now.steps.now in
+    if_ok _ _ c.reached.result c.reached.ensures.cost (λ cost h. found_inside g.met.C.Cost.laws o.frame.now o.weights.now o.cliques.now o.parts.now.cell c.requires.inner c.args.small.now.local.now c.requires.filled c.args.entry c.requires.entry c.args.exit c.requires.exit c.if-entry-exit.false c.args.start c.in-Some.until c.requires.start c.in-Some.ensures.some cost h)

@@ -1,25 +1,48 @@
-use Rattle.std.proofs.Common.{◌≡◌, true, length}
+use Rattle.std.proofs.Common.{◌≡◌, ◌<◌, ℕ, List, arith, length, subst, sym, true, false}
+use Rattle.std.specs.Prelude.{None, Some, Option}
 use Rattle.geo_integer.specs.Position.{position_of}
-use Rattle.snap_index.proofs.SnapLemmas.{none_headed, out_of_reach, placed-is, snapped-is}
+use Rattle.snap_index.specs.Candidates.{AreSlots}
+use Rattle.snap_index.specs.Ends.{all_ends}
+use Rattle.snap_index.specs.Index.{IsJudged}
+use Rattle.snap_index.specs.declared.grids.SegmentEnds.{SegmentEnds}
+use Rattle.snap_index.proofs.FoundLemmas.{none-kept, out_of_reach, placed-is, snapped-is}
+use Rattle.snap_index.proofs.SlotLemmas.{read-is}
 use Rattle.snap_index.proofs.snapping.snap.Goals as goal
 
 -- no segment has an open direction of the heading
-pub returns-in_err-best-clause-value : goal.returns-in_err-best-clause-value
-returns-in_err-best-clause-value c =
-    let none = none_headed c.args.network.now.segments c.args.base.now.weights c.args.filter (position_of c.args.from) c.in_err-best.ensures in
-    rw c.from_residual.ensures none
+pub returns-in_default-clause-value : goal.returns-in_default-clause-value
+returns-in_default-clause-value c =
+    let judged : (s : ℕ) → IsJudged (all_ends c.args.network.now.segments) c.args.base.now.weights c.args.filter.heading (position_of c.args.from) None c.search.new.slots s =
+    subst (λ (lines : List SegmentEnds). (s : ℕ) → IsJudged lines c.args.base.now.weights c.args.filter.heading (position_of c.args.from) None c.search.new.slots s) c.requires.grid c.search.ensures.judged in
+    let lt : 0 < length c.search.new.slots = omega arith in
+    none-kept c.args.network.now.segments c.args.base.now.weights c.args.filter (position_of c.args.from) c.search.new.slots (read-is c.search.new.slots 0 _ None lt c.in_default.is) judged
 
--- the first is in reach
-pub returns-then-is_in_reach-clause-value : goal.returns-then-is_in_reach-clause-value
-returns-then-is_in_reach-clause-value c =
-    snapped-is c.args.network.now.segments c.args.base.now.weights c.args.filter (position_of c.args.from) c.in_ok-best.best c.in_ok-best.ensures (c.is_in_reach.ensures.0 c.if-is_in_reach.true)
+-- the first isn't in reach, so nothing is
+pub returns-then-not-is_in_reach-clause-value : goal.returns-then-not-is_in_reach-clause-value
+returns-then-not-is_in_reach-clause-value c =
+    let are : AreSlots (all_ends c.args.network.now.segments) c.args.base.now.weights c.args.filter.heading (position_of c.args.from) c.search.new.slots =
+    subst (λ (lines : List SegmentEnds). AreSlots lines c.args.base.now.weights c.args.filter.heading (position_of c.args.from) c.search.new.slots) c.requires.grid c.search.ensures.slots in
+    let judged : (s : ℕ) → IsJudged (all_ends c.args.network.now.segments) c.args.base.now.weights c.args.filter.heading (position_of c.args.from) None c.search.new.slots s =
+    subst (λ (lines : List SegmentEnds). (s : ℕ) → IsJudged lines c.args.base.now.weights c.args.filter.heading (position_of c.args.from) None c.search.new.slots s) c.requires.grid c.search.ensures.judged in
+    let lt : 0 < length c.search.new.slots = omega arith in
+    out_of_reach c.args.network.now.segments c.args.base.now.weights c.args.filter (position_of c.args.from) c.search.new.slots c.in-Some.best (read-is c.search.new.slots 0 _ (Some c.in-Some.best) lt c.in-Some.is) are judged
+    (λ h. let yes : c.is_in_reach.result ≡ true = c.is_in_reach.ensures.1 h in let no : c.is_in_reach.result ≡ false = c.if-not-is_in_reach.true in cc)
 
-pub returns-then-is_in_reach-clause-placed : goal.returns-then-is_in_reach-clause-placed
-returns-then-is_in_reach-clause-placed c =
-    placed-is c.args.network.now.segments c.args.base.now.weights c.args.filter.heading (position_of c.args.from) (length c.args.network.now.segments) c.in_ok-best.best c.in_ok-best.ensures
+-- or it is
+pub returns-clause-value : goal.returns-clause-value
+returns-clause-value c =
+    let are : AreSlots (all_ends c.args.network.now.segments) c.args.base.now.weights c.args.filter.heading (position_of c.args.from) c.search.new.slots =
+    subst (λ (lines : List SegmentEnds). AreSlots lines c.args.base.now.weights c.args.filter.heading (position_of c.args.from) c.search.new.slots) c.requires.grid c.search.ensures.slots in
+    let judged : (s : ℕ) → IsJudged (all_ends c.args.network.now.segments) c.args.base.now.weights c.args.filter.heading (position_of c.args.from) None c.search.new.slots s =
+    subst (λ (lines : List SegmentEnds). (s : ℕ) → IsJudged lines c.args.base.now.weights c.args.filter.heading (position_of c.args.from) None c.search.new.slots s) c.requires.grid c.search.ensures.judged in
+    let lt : 0 < length c.search.new.slots = omega arith in
+    snapped-is c.args.network.now.segments c.args.base.now.weights c.args.filter (position_of c.args.from) c.search.new.slots c.in-Some.best (read-is c.search.new.slots 0 _ (Some c.in-Some.best) lt c.in-Some.is) are judged (c.is_in_reach.ensures.0 c.if-not-is_in_reach.false)
 
--- or it isn't, and nothing is
-pub returns-else-is_in_reach-clause-value : goal.returns-else-is_in_reach-clause-value
-returns-else-is_in_reach-clause-value c =
-    out_of_reach c.args.network.now.segments c.args.base.now.weights c.args.filter (position_of c.args.from) c.in_ok-best.best c.in_ok-best.ensures
-    (λ h. let in_reach : c.is_in_reach.result ≡ true = c.is_in_reach.ensures.1 h in let away = c.if-is_in_reach.false in cc)
+pub returns-clause-placed : goal.returns-clause-placed
+returns-clause-placed c =
+    let are : AreSlots (all_ends c.args.network.now.segments) c.args.base.now.weights c.args.filter.heading (position_of c.args.from) c.search.new.slots =
+    subst (λ (lines : List SegmentEnds). AreSlots lines c.args.base.now.weights c.args.filter.heading (position_of c.args.from) c.search.new.slots) c.requires.grid c.search.ensures.slots in
+    let judged : (s : ℕ) → IsJudged (all_ends c.args.network.now.segments) c.args.base.now.weights c.args.filter.heading (position_of c.args.from) None c.search.new.slots s =
+    subst (λ (lines : List SegmentEnds). (s : ℕ) → IsJudged lines c.args.base.now.weights c.args.filter.heading (position_of c.args.from) None c.search.new.slots s) c.requires.grid c.search.ensures.judged in
+    let lt : 0 < length c.search.new.slots = omega arith in
+    placed-is c.args.network.now.segments c.args.base.now.weights c.args.filter (position_of c.args.from) c.search.new.slots c.in-Some.best (read-is c.search.new.slots 0 _ (Some c.in-Some.best) lt c.in-Some.is) are judged

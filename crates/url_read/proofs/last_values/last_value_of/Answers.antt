@@ -1,5 +1,5 @@
 -- Each turn has the next option.
-use Rattle.std.proofs.Common.{◌≡◌, length, get_or, lit<, sym, ap, ap₂, ◌∙◌, arith}
+use Rattle.std.proofs.Common.{◌≡◌, length, get_or, lit<, sym, ap, ◌∙◌, arith}
 use Rattle.std.specs.Option.{option_copied, option_or}
 use Rattle.std.proofs.lemmas.List.{length_push}
 use Rattle.std.proofs.lemmas.Iterator.Consumers.{YieldsList-turn, YieldsList-end}

@@ -1,0 +1,93 @@
+-- The inside of a cell can be gone over under numbers of one's own, and what a search finds there is the least cost inside.
+use Rattle.std.proofs.Common.{◌≡◌, ◌≢◌, ℕ, ◌-◌, ◌<◌, ◌≤◌, inl, inr, cond, Option, Some, None, Result, Ok, Err, IfOk, List, [], ◌∷◌, length, refl, sym, ap, subst, arith}
+use Rattle.std.specs.List.{Contains, slice_get}
+use Rattle.std.proofs.lemmas.Option.{slice_get_within}
+use Rattle.std.proofs.lemmas.Bool.Decides.{eqb_tells}
+use Rattle.list_lemmas.proofs.Gets.{Contains_get}
+use Rattle.search_graph.specs.Costs.{CostOps, CostLaws}
+use Rattle.search_graph.specs.declared.ends.Start.{Start}
+use Rattle.search_graph.specs.Digraph.{Weighting}
+use Rattle.step_search.specs.Spaces.{Space, IsSpace}
+use Rattle.step_search.specs.Paths.{AreStarts, IsLeastPathCost}
+use Rattle.cell_frame.specs.declared.cells.Cell.{Cell}
+use Rattle.cell_frame.specs.Borders.{Framed, IsCell, Holds, at_cell, cell_of}
+use Rattle.cell_frame.specs.Cliqued.{Rows}
+use Rattle.cell_frame.specs.Inside.{IsInsideValue}
+use Rattle.cell_frame.specs.PartSpace.{row_heads}
+use Rattle.cut_walks.specs.Answering.{only_one}
+use Rattle.cell_customize.specs.declared.local.Local.{Local}
+use Rattle.cell_customize.specs.Inner.{inner_space, IsInner}
+use Rattle.cell_customize.specs.Numbers.{AreBelow}
+use Rattle.cell_customize.specs.Local.{IsSearched}
+use Rattle.cell_customize.specs.Filled.{IsFilled, small_space}
+use Rattle.cell_customize.specs.Renaming.{IsRenaming}
+use Rattle.cell_customize.proofs.Locals.{IsRenaming-local}
+use Rattle.cell_customize.proofs.Costing.{inside_value}
+use Rattle.cell_customize.proofs.Renumbered.{IsSpace-renamed, cost_renamed, none_renamed}
+
+-- what follows of each value
+pub if_ok : {V E : Type 0} (P Q : V → Type 0) (r : Result V E) → IfOk r P → ((v : V) → P v → Q v) → IfOk r Q
+if_ok P Q (Ok v) h f = f v h
+if_ok P Q (Err e) h f = tt
+
+module _ {C : Type 0} (ops : CostOps C) (f : Framed) (w : Weighting C) (cliques : List (Rows C)) (k : Cell) (inner : IsInner ops f w cliques k) where
+  exits_below : (u : ℕ) → u < f.graph.vertices → AreBelow f.graph.vertices (row_heads f (λ v. k.level - 1) u)
+  exits_below u lt j v e = elim (eqb_tells (k.level - 1) 0) [
+    | inl p ↦
+        let none : row_heads f (λ v. k.level - 1) u ≡ [] = ap (λ b. cond b [] (at_cell f.exits (cell_of f.cells (k.level - 1) u))) p.0 in
+        let past : j < length {A = ℕ} [] = slice_get_within [] j v (subst (λ (xs : List ℕ). slice_get xs j ≡ Some v) none e) in
+        absurd (omega (arith, past))
+    | inr p ↦
+        let some : row_heads f (λ v. k.level - 1) u ≡ at_cell f.exits (cell_of f.cells (k.level - 1) u) = ap (λ b. cond b [] (at_cell f.exits (cell_of f.cells (k.level - 1) u))) p.0 in
+        let here : slice_get (at_cell f.exits (cell_of f.cells (k.level - 1) u)) j ≡ Some v = subst (λ (xs : List ℕ). slice_get xs j ≡ Some v) some e in
+        let n : f.cells.vertices ≡ f.graph.vertices = inner.framed.vertices in
+        let high : k.level ≤ length f.cells.levels = inner.is_cell.1 in
+        let one : 1 ≤ k.level - 1 = omega (arith, p.1) in
+        let most : k.level - 1 ≤ length f.cells.levels = omega (arith, high) in
+        let within : u < f.cells.vertices = omega (arith, lt, n) in
+        let is_cell : IsCell f.cells (cell_of f.cells (k.level - 1) u) = (one, most, (inner.framed.kept.level (k.level - 1) one most).placed u within) in
+        let exit = (inner.framed.exits (cell_of f.cells (k.level - 1) u) v is_cell).0 (Contains_get _ j v here) in
+        let below : v < f.cells.vertices = exit.0.0 in
+        omega (arith, below, n)
+  ]
+
+  pub IsSearched-inner : IsSearched ops (inner_space ops f w k)
+  IsSearched-inner = record { space = inner.lawful.space; heads = exits_below }
+
+  pub entries_below : AreBelow f.graph.vertices (at_cell f.entries k)
+  entries_below j v e =
+      let entry = (inner.framed.entries k v inner.is_cell).0 (Contains_get (at_cell f.entries k) j v e) in
+      let n : f.cells.vertices ≡ f.graph.vertices = inner.framed.vertices in
+      let below : v < f.cells.vertices = entry.0.0 in
+      omega (arith, below, n)
+
+  module _ (local : Local C) (filled : IsFilled ops f w k local) where
+    pub renames : IsRenaming (inner_space ops f w k) (small_space ops f w k local) local.numbers
+    renames = IsRenaming-local (inner_space ops f w k) local.numbers local.spans.items local.hops.items local.heads.items filled.whole filled.distinct
+
+    pub IsSpace-small : IsSpace ops (small_space ops f w k local)
+    IsSpace-small = IsSpace-renamed ops (inner_space ops f w k) (small_space ops f w k local) local.numbers renames inner.lawful.space
+
+-- one start at a vertex, where nothing is paid
+pub AreStarts-small : {C : Type 0} {ops : CostOps C} (laws : CostLaws ops) (S : Space C) (start : ℕ) → start < S.vertices → (starts : List (Start C)) → starts ≡ record { vertex = start; cost = ops.zero } ∷ [] → AreStarts ops S starts
+AreStarts-small {C} {ops} laws S start lt starts is s h =
+    let same : record { vertex = start; cost = ops.zero } ≡ s = sym (only_one (record { vertex = start; cost = ops.zero }) s (subst (λ (xs : List (Start C)). Contains xs s) is h)) in
+    (subst (λ (x : Start C). x.vertex < S.vertices) same lt, subst (λ (x : Start C). ops.units x.cost 1) same (laws.units_more ops.zero 0 1 laws.zero_units (omega arith)))
+
+-- what the search finds under other numbers is the least cost inside the cell
+pub found_inside : {C : Type 0} {ops : CostOps C} (laws : CostLaws ops) (f : Framed) (w : Weighting C) (cliques : List (Rows C)) (k : Cell) (inner : IsInner ops f w cliques k) (local : Local C) → IsFilled ops f w k local →
+    (entry : ℕ) → Contains (at_cell f.entries k) entry → (exit : ℕ) → Contains (at_cell f.exits k) exit → entry ≢ exit → (start until : ℕ) → slice_get local.numbers start ≡ Some entry → slice_get local.numbers until ≡ Some exit →
+    (cost : Option C) → IsLeastPathCost ops (small_space ops f w k local) (record { vertex = start; cost = ops.zero } ∷ []) until cost → IsInsideValue ops f.graph w (Holds f.cells k) entry exit cost
+found_inside {C} {ops} laws f w cliques k inner local filled entry among exit is other start until named aim cost h =
+    let renaming = renames ops f w cliques k inner local filled in
+    inside_value laws f w cliques k inner entry among exit is other (record { vertex = entry; cost = ops.zero } ∷ []) refl cost
+    (cost_renamed ops (inner_space ops f w k) (small_space ops f w k local) local.numbers renaming start entry named until exit aim cost h)
+
+-- and where the exit has no number there is no walk
+pub none_inside : {C : Type 0} {ops : CostOps C} (laws : CostLaws ops) (f : Framed) (w : Weighting C) (cliques : List (Rows C)) (k : Cell) (inner : IsInner ops f w cliques k) (local : Local C) → IsFilled ops f w k local →
+    (entry : ℕ) → Contains (at_cell f.entries k) entry → (exit : ℕ) → Contains (at_cell f.exits k) exit → entry ≢ exit → (start : ℕ) → slice_get local.numbers start ≡ Some entry → ((b : ℕ) → ¬ (slice_get local.numbers b ≡ Some exit)) →
+    IsInsideValue ops f.graph w (Holds f.cells k) entry exit None
+none_inside {C} {ops} laws f w cliques k inner local filled entry among exit is other start named none =
+    let renaming = renames ops f w cliques k inner local filled in
+    inside_value laws f w cliques k inner entry among exit is other (record { vertex = entry; cost = ops.zero } ∷ []) refl None
+    (none_renamed ops (inner_space ops f w k) (small_space ops f w k local) local.numbers renaming start entry named exit none)

@@ -1,0 +1,6 @@
+pub mod AllRead
+pub mod ChosenAmong
+pub mod Cuts
+pub mod EachRead
+pub mod Kept
+pub mod Numbers

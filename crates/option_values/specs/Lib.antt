@@ -1,0 +1,4 @@
+pub mod Values
+pub mod Entries
+pub mod Cutting
+pub mod Kept

@@ -1,0 +1,55 @@
+-- Routes and their legs (OSRM's HTTP API, version 1).
+use Rattle.std.specs.Prelude.{ℕ, ℤ, ◌||◌, Bool, List, [], ◌∷◌, ◌++◌, codes, map}
+use Rattle.road_base.specs.declared.coordinates.Point.{Point}
+use Rattle.search_graph.specs.declared.costs.DurLen.{DurLen}
+use Rattle.json_text.specs.Values.{JsonValue, text, whole}
+use Rattle.json_text.specs.Wholes.{array_of, object_of, optional_member}
+use Rattle.option_values.specs.declared.option_types.RouteAnnotations.{RouteAnnotations}
+use Rattle.url_read.specs.declared.requests.RouteOptions.{RouteOptions}
+use Rattle.reply_texts.specs.Costs.{costs_value}
+use Rattle.reply_texts.specs.Lines.{joined, overview_line}
+use Rattle.reply_texts.specs.Optional.{member_if}
+use Rattle.reply_texts.specs.Totals.{leg_totals, route_totals, totals_members}
+use Rattle.reply_texts.specs.declared.cost_parts.CostPart.TheVariants as part
+
+-- a leg of a route: what it costs; what is paid of each of its vertices, and the nodes that these join; and the
+-- points of its line
+pub record Leg : Type 0 where
+  pub cost : DurLen
+  pub paid : List DurLen
+  pub nodes : List ℤ
+  pub points : List Point
+
+-- some annotation is asked for
+abbrev pub is_annotated : RouteAnnotations → Bool
+is_annotated asked = asked.distance || asked.duration || asked.weight || asked.nodes || asked.speed
+
+unfoldable pub nodes_value : List ℤ → JsonValue
+nodes_value nodes = array_of (map whole nodes)
+
+-- of each vertex of a walk what is paid of it, and the nodes that these join
+unfoldable pub annotation_value : RouteAnnotations → List DurLen → List ℤ → JsonValue
+annotation_value asked paid nodes = object_of (
+    member_if asked.distance (codes "distance") (costs_value part.Length paid)
+    ++ member_if asked.duration (codes "duration") (costs_value part.Duration paid)
+    ++ member_if asked.weight (codes "weight") (costs_value part.Weight paid)
+    ++ member_if asked.nodes (codes "nodes") (nodes_value nodes)
+    ++ member_if asked.speed (codes "speed") (costs_value part.Speed paid)
+    )
+
+-- a leg, without its steps
+unfoldable pub leg_value : RouteAnnotations → Leg → JsonValue
+leg_value asked leg = object_of (
+    totals_members (leg_totals leg.cost)
+    ++ (codes "summary", text []) ∷ (codes "steps", array_of [])
+    ∷ member_if (is_annotated asked) (codes "annotation") (annotation_value asked leg.paid leg.nodes)
+    )
+
+-- a route of these legs, with the line through all of them
+unfoldable pub route_value : RouteOptions → List Leg → JsonValue
+route_value options legs = object_of (
+    totals_members (route_totals (map (λ leg. leg.cost) legs))
+    ++ (codes "weight_name", text (codes "duration"))
+    ∷ (optional_member (codes "geometry") (overview_line options.overview options.geometries (joined (map (λ leg. leg.points) legs)))
+    ++ (codes "legs", array_of (map (leg_value options.annotations) legs)) ∷ [])
+    )

@@ -1,0 +1,10 @@
+pub mod Codes
+pub mod Refusals
+pub mod Optional
+pub mod Waypoints
+pub mod Costs
+pub mod Totals
+pub mod Lines
+pub mod Legs
+pub mod RouteLegs
+pub mod Replies

@@ -1,0 +1,43 @@
+-- What a reply tells of a coordinate's place on a road (a waypoint of OSRM's HTTP API, version 1).
+use Rattle.std.specs.Prelude.{ℕ, List, [], ◌∷◌, ◌++◌, codes, map, Option, Some, None}
+use Rattle.std.specs.List.{slice_get, zip}
+use Rattle.road_base.specs.declared.coordinates.Point.{Point}
+use Rattle.road_base.specs.declared.segments.Place.{Place}
+use Rattle.geo_integer.specs.Position.{Position, position_of}
+use Rattle.geo_integer.specs.Plane.{distance_of}
+use Rattle.geo_integer.specs.Project.{position_at}
+use Rattle.edge_graph.specs.Segment.{Segment}
+use Rattle.json_text.specs.Values.{JsonValue, text, tenths, whole, location}
+use Rattle.json_text.specs.Wholes.{array_of, object_of}
+
+-- how far a place lies from its coordinate in decimetres, its way's name, and where it lies
+abbrev pub place_members : ℕ → List ℕ → Position → List (List ℕ × JsonValue)
+place_members distance name spot = (codes "distance", tenths distance) ∷ (codes "name", text name) ∷ (codes "location", location spot.lon spot.lat) ∷ []
+
+-- the same of a place on this segment; of no segment, which no place is on, there is nothing to tell
+abbrev pub members_on : Option Segment → Position → ℕ → List (List ℕ × JsonValue)
+members_on None from at = []
+members_on (Some segment) from at =
+    let spot = position_at (position_of segment.from) (position_of segment.to) at in
+    place_members (distance_of from spot) segment.street.name spot
+
+-- a coordinate that is snapped to this place: members in front, and those of the place
+unfoldable pub waypoint_value : List (List ℕ × JsonValue) → List Segment → Point → Place → JsonValue
+waypoint_value front segments coordinate place = object_of (front ++ members_on (slice_get segments place.segment) (position_of coordinate) place.at)
+
+-- a waypoint of a route or a table has nothing in front
+abbrev pub waypoint_of : List Segment → Point × Place → JsonValue
+waypoint_of segments (coordinate, place) = waypoint_value [] segments coordinate place
+
+-- the waypoints of coordinates, in their order
+abbrev pub waypoints_of : List Segment → List Point → List Place → List JsonValue
+waypoints_of segments coordinates places = map (waypoint_of segments) (zip coordinates places)
+
+-- the segment's two nodes, in the order of its way
+abbrev pub nodes_on : Option Segment → List (List ℕ × JsonValue)
+nodes_on None = []
+nodes_on (Some segment) = (codes "nodes", array_of (whole segment.tail ∷ whole segment.head ∷ [])) ∷ []
+
+-- a place next to a coordinate is told with them
+abbrev pub neighbour_of : List Segment → Point → Place → JsonValue
+neighbour_of segments coordinate place = waypoint_value (nodes_on (slice_get segments place.segment)) segments coordinate place

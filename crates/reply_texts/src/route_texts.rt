@@ -1,0 +1,160 @@
+//! Replies with a route.
+
+ghost use Rattle.std.specs.Prelude.{◌≡◌, ℕ, ◌^◌, ◌<◌, Some, IfOk, OnOk, [], ◌∷◌, codes, length, map, string_bytes, sum_by};
+ghost use Rattle.std.specs.List.{slice_get};
+ghost use Rattle.json_text.specs.Values.{compact_text};
+ghost use Rattle.json_text.specs.Drafts.{TakesKey, TakesValue, with_value};
+ghost use Rattle.json_text.specs.Wholes.{array_of, with_member};
+ghost use Rattle.road_places.specs.Places.{IsPlaceOn};
+ghost use Rattle.road_places.specs.RoadMetric.{road_of};
+ghost use Rattle.reply_texts.specs.Legs.{route_value};
+ghost use Rattle.reply_texts.specs.Replies.{route_reply};
+ghost use Rattle.reply_texts.specs.RouteLegs.{ArePermitted, legs_told};
+ghost use Rattle.reply_texts.specs.Totals.{route_totals};
+ghost use Rattle.reply_texts.specs.Waypoints.{waypoints_of};
+
+use crate::legs::push_legs;
+use crate::members::{push_text_member, push_totals};
+use crate::refusal_texts::begin_version_reply;
+use crate::reply_codes::Code;
+use crate::route_lines::push_route_line;
+use crate::totals::Totals;
+use crate::waypoints::{Stops, push_waypoints_member};
+use edge_graph::Network;
+use json_text::Json;
+use metric_make::BaseMetric;
+use road_base::Place;
+use road_places::Route;
+use std::alloc::{AllocError, Global};
+use url_read::{Request, RouteOptions};
+
+// How long the routes are together, in decimetres.
+fn length_of(routes: &[Route]) -> u128
+    requires { length routes.now < 2 ^ 32 }
+    ensures { result ≡ sum_by (λ route. route.cost.length) routes.now }
+{
+    routes
+        .iter()
+        .map(|route| u128::from(route.cost.length))
+        .sum()
+}
+
+// How many deciseconds they take together.
+fn duration_of(routes: &[Route]) -> u128
+    requires { length routes.now < 2 ^ 32 }
+    ensures { result ≡ sum_by (λ route. route.cost.duration) routes.now }
+{
+    routes
+        .iter()
+        .map(|route| u128::from(route.cost.duration))
+        .sum()
+}
+
+// What the legs cost together.
+fn route_totals(routes: &[Route]) -> Totals
+    requires { length routes.now < 2 ^ 32 }
+    ensures { result ≡ route_totals (map (λ route. route.cost) routes.now) }
+{
+    let duration = duration_of(routes);
+    Totals {
+        length: length_of(routes),
+        duration,
+        weight: duration,
+    }
+}
+
+// A route through these places.
+fn push_route(
+    alloc: Global,
+    json: &mut Json,
+    network: &Network,
+    base: &BaseMetric,
+    options: &RouteOptions,
+    places: &[Place],
+    routes: &[Route],
+) -> Result<(), AllocError>
+    requires takes { TakesValue json.old }
+    requires legs { length routes.now < 2 ^ 32 }
+    requires placed { (k : ℕ) (place : Place) → slice_get places.now k ≡ Some place → IsPlaceOn network.now place }
+    requires permitted { ArePermitted (road_of network.now base.now) places.now routes.now }
+    ensures { OnOk result (json.new ≡ with_value (route_value options.now (legs_told (road_of network.now base.now) places.now routes.now)) json.old) }
+{
+    json.begin_object()?;
+    push_totals(json, route_totals(routes))?;
+    push_text_member(json, "weight_name", "duration")?;
+    push_route_line(alloc, json, network, base, options, places, routes)?;
+    json.key("legs")?;
+    push_legs(
+        alloc,
+        json,
+        network,
+        base,
+        options.annotations,
+        places,
+        routes,
+    )?;
+    json.end_object()?;
+    Ok(())
+}
+
+// The one route of a reply.
+fn push_routes_member(
+    alloc: Global,
+    json: &mut Json,
+    network: &Network,
+    base: &BaseMetric,
+    options: &RouteOptions,
+    places: &[Place],
+    routes: &[Route],
+) -> Result<(), AllocError>
+    requires takes { TakesKey json.old }
+    requires legs { length routes.now < 2 ^ 32 }
+    requires placed { (k : ℕ) (place : Place) → slice_get places.now k ≡ Some place → IsPlaceOn network.now place }
+    requires permitted { ArePermitted (road_of network.now base.now) places.now routes.now }
+    ensures ok { OnOk result (json.new ≡ with_member (codes "routes") (array_of (route_value options.now (legs_told (road_of network.now base.now) places.now routes.now) ∷ [])) json.old) }
+    ensures more { OnOk result (TakesKey json.new) }
+{
+    json.key("routes")?;
+    json.begin_list()?;
+    push_route(alloc, json, network, base, options, places, routes)?;
+    json.end_list()?;
+    Ok(())
+}
+
+/// The reply to a request with a route through its coordinates, for which these places stand, under a metric of
+/// this number: its legs are these routes. What is told of a leg's cost, line and annotation is all of the one
+/// walk. An `Err` is want of memory.
+pub fn route_text(
+    alloc: Global,
+    network: &Network,
+    base: &BaseMetric,
+    number: u32,
+    request: &Request,
+    options: &RouteOptions,
+    places: &[Place],
+    routes: &[Route],
+) -> Result<String, AllocError>
+    requires few { length network.now.segments < 2 ^ 30 }
+    requires legs { length routes.now < 2 ^ 32 }
+    requires as_many { length places.now ≡ length request.now.points }
+    requires placed { (k : ℕ) (place : Place) → slice_get places.now k ≡ Some place → IsPlaceOn network.now place }
+    requires permitted { ArePermitted (road_of network.now base.now) places.now routes.now }
+    ensures { IfOk result (λ text. string_bytes text ≡ compact_text (route_reply number request.now.skip_waypoints options.now (legs_told (road_of network.now base.now) places.now routes.now) (waypoints_of network.now.segments request.now.points places.now))) }
+{
+    let mut json = Json::new(alloc);
+    let stops = Stops {
+        coordinates: request.points.as_slice(),
+        places,
+    };
+    begin_version_reply(&mut json, Code::Ok, number)?;
+    push_routes_member(alloc, &mut json, network, base, options, places, routes)?;
+    push_waypoints_member(
+        &mut json,
+        network,
+        request.skip_waypoints,
+        "waypoints",
+        &stops,
+    )?;
+    json.end_object()?;
+    Ok(json.into_text())
+}

@@ -1,0 +1,39 @@
+-- The crate's own: of what a table of costs is made.
+use Rattle.std.specs.Prelude.{ℕ, ◌<◌, List, Option}
+use Rattle.std.specs.List.{AllZip, Contains}
+use Rattle.road_base.specs.declared.segments.Place.{Place}
+use Rattle.search_graph.specs.declared.costs.DurLen.{DurLen}
+use Rattle.search_graph.specs.declared.ends.Start.{Start}
+use Rattle.search_graph.specs.declared.ends.Target.{Target}
+use Rattle.search_graph.specs.Digraph.{Weighting}
+use Rattle.search_graph.specs.Durations.{durlen_ops}
+use Rattle.table_query.specs.LeastCosts.{IsLeastAmong}
+use Rattle.road_places.specs.Ends.{AreAll}
+use Rattle.road_places.specs.Permitted.{IsAlongOne, IsByTurns, IsStart, IsTarget}
+use Rattle.road_places.specs.RoadMetric.{RoadMetric}
+
+-- the starts are all where walks from p may start, each one of n vertices and at most of one unit
+pub record AreStartsFrom (n : ℕ) (w : Weighting DurLen) (p : Place) (starts : List (Start DurLen)) : Type 0 where
+  pub all : AreAll (IsStart w p) starts
+  pub fit : (s : Start DurLen) → Contains starts s → (s.vertex < n) × durlen_ops.units s.cost 1
+
+-- the targets are all where walks to q may end, each one of n vertices and at most of one unit
+pub record AreTargetsTo (n : ℕ) (w : Weighting DurLen) (q : Place) (targets : List (Target DurLen)) : Type 0 where
+  pub all : AreAll (IsTarget w q) targets
+  pub fit : (t : Target DurLen) → Contains targets t → (t.vertex < n) × durlen_ops.units t.cost 1
+
+-- some walk of one vertex from p to q costs d
+abbrev pub CanCostAlong : Weighting DurLen → Place → Place → DurLen → Type 0
+CanCostAlong w p q d = (walk : List ℕ) × IsAlongOne w p q walk d
+
+-- some walk of two or more vertices from p to q costs d
+abbrev pub CanCostByTurns : RoadMetric → Place → Place → DurLen → Type 0
+CanCostByTurns road p q d = (walk : List ℕ) × IsByTurns road p q walk d
+
+-- the least that such a walk costs
+abbrev pub IsCellByTurns : RoadMetric → Place → Place → Option DurLen → Type 0
+IsCellByTurns road p q value = IsLeastAmong durlen_ops (CanCostByTurns road p q) value
+
+-- from p to each of the destinations, in their order
+abbrev pub IsRowByTurns : RoadMetric → List Place → Place → List (Option DurLen) → Type 0
+IsRowByTurns road destinations p row = AllZip (IsCellByTurns road p) destinations row

@@ -1,0 +1,47 @@
+//! Where the walks of a table start and end.
+
+ghost use Rattle.std.specs.Prelude.{◌≡◌, ℕ, Some, IfOk};
+ghost use Rattle.std.specs.List.{AllZip, slice_get};
+ghost use Rattle.road_places.specs.Places.{IsPlaceOn};
+ghost use Rattle.road_walks.specs.TableParts.{AreStartsFrom, AreTargetsTo};
+
+use crate::by_turns::{starts_from, targets_to};
+use customized::Under;
+use road_base::Place;
+use search_graph::DurLen;
+use std::alloc::{AllocError, Global};
+use table_query::{Starts, Targets};
+
+/// Where the walks from each of the sources may start.
+pub(crate) fn starts_of(
+    alloc: Global,
+    under: &Under<'_>,
+    sources: &[Place],
+) -> Result<Vec<Starts<DurLen>>, AllocError>
+    requires { (k : ℕ) (place : _) → slice_get sources.now k ≡ Some place → IsPlaceOn under.now.road.network place }
+    ensures { IfOk result (λ lists. AllZip (AreStartsFrom under.now.frame.graph.vertices under.now.road.weights) sources.now lists.items) }
+{
+    let mut lists = Vec::with_capacity(alloc, sources.len())?;
+    for source in sources {
+        let starts = starts_from(alloc, under, *source)?;
+        lists.push(Starts::of(starts))?;
+    }
+    Ok(lists)
+}
+
+/// Where the walks to each of the destinations may end.
+pub(crate) fn targets_of(
+    alloc: Global,
+    under: &Under<'_>,
+    destinations: &[Place],
+) -> Result<Vec<Targets<DurLen>>, AllocError>
+    requires { (k : ℕ) (place : _) → slice_get destinations.now k ≡ Some place → IsPlaceOn under.now.road.network place }
+    ensures { IfOk result (λ lists. AllZip (AreTargetsTo under.now.frame.graph.vertices under.now.road.weights) destinations.now lists.items) }
+{
+    let mut lists = Vec::with_capacity(alloc, destinations.len())?;
+    for destination in destinations {
+        let targets = targets_to(alloc, under, *destination)?;
+        lists.push(Targets::of(targets))?;
+    }
+    Ok(lists)
+}

@@ -1,0 +1,130 @@
+//! What least walks cost from each of a list of places to each of another.
+
+ghost use Rattle.std.specs.Prelude.{◌≡◌, ℕ, ◌<◌, Some, IfOk, option_map};
+ghost use Rattle.std.specs.List.{AllZip, Contains, slice_get};
+ghost use Rattle.search_graph.specs.Durations.{durlen_ops};
+ghost use Rattle.table_query.specs.Tables.{IsTable};
+ghost use Rattle.road_places.specs.Places.{IsPlaceOn};
+ghost use Rattle.road_places.specs.RoadMetric.{turn_graph};
+ghost use Rattle.road_walks.specs.Least.{most_units};
+ghost use Rattle.road_walks.specs.TableParts.{IsCellByTurns, IsRowByTurns};
+ghost use Rattle.road_walks.specs.Tables.{AreRowsOf, AreWithin, IsCellOf, IsRowOf};
+
+use crate::along_one::along_one;
+use crate::rows::Rows;
+use crate::table_ends::{starts_of, targets_of};
+use customized::Under;
+use plain_search::SearchFault;
+use road_base::Place;
+use road_places::Route;
+use search_graph::DurLen;
+use std::alloc::{AllocError, Global};
+use table_query::{Row, Starts, Targets, lesser, table};
+
+// What the least walks over the turns cost from each list of starts to each list of targets.
+fn over_turns(
+    alloc: Global,
+    under: &Under<'_>,
+    sources: &[Starts<DurLen>],
+    targets: &[Targets<DurLen>],
+) -> Result<Vec<Row<DurLen>>, AllocError>
+    requires sources { (list : _) (s : _) → Contains sources.now list → Contains list s → (s.vertex < under.now.frame.graph.vertices) × durlen_ops.units s.cost 1 }
+    requires targets { (list : _) (t : _) → Contains targets.now list → Contains list t → (t.vertex < under.now.frame.graph.vertices) × durlen_ops.units t.cost 1 }
+    ensures { IfOk result (λ rows. IsTable durlen_ops (turn_graph under.now.road.network) under.now.road.weights sources.now targets.now rows.items) }
+{
+    let frame = under.frame();
+    let base = under.base();
+    match table(alloc, frame.graph(), base.weights(), sources, targets) {
+        Ok(rows) => Ok(rows),
+        Err(SearchFault::Memory) => Err(AllocError),
+    }
+}
+
+// For each source what the least walks of two or more vertices to the destinations cost.
+fn rows_by_turns(
+    alloc: Global,
+    under: &Under<'_>,
+    sources: &[Place],
+    destinations: &[Place],
+) -> Result<Vec<Row<DurLen>>, AllocError>
+    requires sources { (k : ℕ) (place : _) → slice_get sources.now k ≡ Some place → IsPlaceOn under.now.road.network place }
+    requires destinations { (k : ℕ) (place : _) → slice_get destinations.now k ≡ Some place → IsPlaceOn under.now.road.network place }
+    ensures { IfOk result (λ rows. AllZip (IsRowByTurns under.now.road destinations.now) sources.now rows.items) }
+{
+    let starts = starts_of(alloc, under, sources)?;
+    let targets = targets_of(alloc, under, destinations)?;
+    let rows = over_turns(alloc, under, &starts, &targets)?;
+    Ok(rows)
+}
+
+// What a route costs, where there is one.
+fn cost_of(route: Option<Route>) -> Option<DurLen>
+    ensures { result ≡ option_map (λ r. r.cost) route }
+{
+    let route = route?;
+    Some(route.cost)
+}
+
+// What the least walk from a place to another costs, where that of two or more vertices costs `by_turns`.
+fn cell_of(
+    alloc: Global,
+    under: &Under<'_>,
+    from: Place,
+    to: Place,
+    by_turns: Option<DurLen>,
+) -> Result<Option<DurLen>, AllocError>
+    requires from { IsPlaceOn under.now.road.network from }
+    requires to { IsPlaceOn under.now.road.network to }
+    requires by_turns { IsCellByTurns under.now.road from to by_turns }
+    ensures { IfOk result (IsCellOf under.now.road from to) }
+{
+    let along = along_one(alloc, under.base(), from, to)?;
+    let along = cost_of(along);
+    Ok(lesser(along, by_turns))
+}
+
+// The row of a source, where the least walks of two or more vertices cost `by_turns`.
+fn row_of(
+    alloc: Global,
+    under: &Under<'_>,
+    from: Place,
+    destinations: &[Place],
+    by_turns: &[Option<DurLen>],
+) -> Result<Row<DurLen>, AllocError>
+    requires from { IsPlaceOn under.now.road.network from }
+    requires destinations { (k : ℕ) (place : _) → slice_get destinations.now k ≡ Some place → IsPlaceOn under.now.road.network place }
+    requires by_turns { IsRowByTurns under.now.road destinations.now from by_turns.now }
+    ensures { IfOk result (IsRowOf under.now.road destinations.now from) }
+{
+    let mut values = Vec::with_capacity(alloc, destinations.len())?;
+    for column in 0..destinations.len() {
+        let value = cell_of(alloc, under, from, destinations[column], by_turns[column])?;
+        values.push(value)?;
+    }
+    Ok(Row::of(values))
+}
+
+/// For each of the sources a row, and in it for each of the destinations the least that a permitted walk from the
+/// one to the other costs, or None exactly where no permitted walk leads there. What each costs grows with the
+/// number of the network's vertices at most. It answers an error only where memory runs out.
+pub fn cost_rows(
+    alloc: Global,
+    under: &Under<'_>,
+    sources: &[Place],
+    destinations: &[Place],
+) -> Result<Rows, AllocError>
+    requires sources { (k : ℕ) (place : _) → slice_get sources.now k ≡ Some place → IsPlaceOn under.now.road.network place }
+    requires destinations { (k : ℕ) (place : _) → slice_get destinations.now k ≡ Some place → IsPlaceOn under.now.road.network place }
+    ensures least { IfOk result (AreRowsOf under.now.road sources.now destinations.now) }
+    ensures bound { IfOk result (AreWithin (most_units under.now.road.network)) }
+{
+    let by_turns = rows_by_turns(alloc, under, sources, destinations)?;
+    let _small = under.base();
+    let mut rows = Vec::with_capacity(alloc, sources.len())?;
+    for number in 0..sources.len() {
+        let values = by_turns[number].as_slice();
+        let row = row_of(alloc, under, sources[number], destinations, values)?;
+        rows.push(row)?;
+    }
+    Ok(Rows::of(rows))
+}

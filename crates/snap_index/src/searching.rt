@@ -1,0 +1,271 @@
+//! The search of a grid for the first segments.
+//!
+//! It looks at all that lies within reach of a point, and farther as long as too little is found there. Each look
+//! goes once through the order of the index, and passes by what lies farther away than the reach, or than all that
+//! the slots have.
+
+ghost use Rattle.std.specs.Prelude.{◌≡◌, ℕ, ◌+◌, ◌*◌, ◌/◌, ◌<◌, ◌≤◌, ◌^◌, ◌⊎◌, IfSome, IsTrue, List, length};
+ghost use Rattle.std.specs.List.{slice_get};
+ghost use Rattle.geo_integer.specs.Position.{position_of};
+ghost use Rattle.snap_index.specs.Candidates.{AreSlots, Ascend, LastIs, Stands, StandsOn};
+ghost use Rattle.snap_index.specs.Index.{AreJudged, HasAt, IsFarther, IsIndexOf, IsJudged, IsLeastCosine, IsPassed};
+ghost use Rattle.snap_index.specs.declared.grids.SegmentEnds.{SegmentEnds};
+
+use crate::candidates::{Candidate, candidate_on, put};
+use crate::extents::{Extent, extent_of, is_beyond};
+use crate::filters::Heading;
+use crate::grids::{Grid, SegmentEnds};
+use crate::indexes::Index;
+use crate::keeping::has_direction;
+use geo_integer::cosine;
+use metric_make::BaseMetric;
+use road_base::Point;
+
+/// How far a search reaches: the square of a distance, and a cosine that is no greater than that half-way to any
+/// spot within it. None where it reaches everywhere.
+#[derive(Clone, Copy)]
+pub(crate) struct Window {
+    pub(crate) cosine: u32,
+    pub(crate) reach: Option<u128>,
+}
+
+/// How many microdegrees of latitude the first look reaches, some 70 metres.
+const NARROWEST: u32 = 600;
+
+/// The microdegrees of latitude from pole to pole.
+const WIDEST: u32 = 180_000_000;
+
+// Puts the first segments with an open direction of the heading into the slots, none of which is filled yet.
+pub(crate) fn search(
+    grid: &Grid,
+    base: &BaseMetric,
+    from: Point,
+    heading: Option<Heading>,
+    slots: &mut [Option<Candidate>],
+)
+    requires weights { 2 * length grid.now ≤ length base.now.weights.vertex }
+    requires slots { AreSlots grid.now base.now.weights heading (position_of from) slots.old }
+    ensures slots { AreSlots grid.now base.now.weights heading (position_of from) slots.new }
+    ensures judged { (s : ℕ) → IsJudged grid.now base.now.weights heading (position_of from) None slots.new s }
+{
+    let mut width = NARROWEST;
+    for _ in 0..20 {
+        if look_within(grid, base, from, heading, width, slots) {
+            return;
+        }
+        width = next_width(width, last_remoteness(slots));
+    }
+    let everywhere = Window {
+        cosine: 0,
+        reach: None,
+    };
+    look(grid, base, from, heading, everywhere, slots);
+}
+
+// Puts the first segments within so many microdegrees of latitude into the slots. It tells whether nothing
+// farther away can come before these.
+fn look_within(
+    grid: &Grid,
+    base: &BaseMetric,
+    from: Point,
+    heading: Option<Heading>,
+    width: u32,
+    slots: &mut [Option<Candidate>],
+) -> bool
+    requires width { width ≤ 180000000 }
+    requires weights { 2 * length grid.now ≤ length base.now.weights.vertex }
+    requires slots { AreSlots grid.now base.now.weights heading (position_of from) slots.old }
+    ensures slots { AreSlots grid.now base.now.weights heading (position_of from) slots.new }
+    ensures judged { IsTrue result → (s : ℕ) → IsJudged grid.now base.now.weights heading (position_of from) None slots.new s }
+{
+    let reach = reach_of(width);
+    let window = Window {
+        cosine: least_cosine(from, width),
+        reach: Some(reach),
+    };
+    look(grid, base, from, heading, window, slots);
+    is_enough(last_remoteness(slots), reach)
+}
+
+// Whether all slots are filled, with what lies within reach.
+fn is_enough(last: Option<u128>, reach: u128) -> bool
+    ensures { IsTrue result → (n : ℕ) × (last ≡ Some n) × (n ≤ reach) }
+{
+    match last {
+        None => false,
+        Some(last) => last <= reach,
+    }
+}
+
+// The square of a distance by its microdegrees of latitude.
+fn reach_of(width: u32) -> u128
+    requires { width ≤ 180000000 }
+    ensures { result ≡ width * 65536 * (width * 65536) }
+{
+    let distance = u128::from(width) * 65536;
+    distance * distance
+}
+
+// The cosine at the farthest latitude that is half-way to a spot within so many microdegrees of latitude.
+fn least_cosine(from: Point, width: u32) -> u32
+    requires { width ≤ 180000000 }
+    ensures { IsLeastCosine (position_of from) result (Some (width * 65536 * (width * 65536))) }
+{
+    let farthest = from.lat.unsigned_abs() + (width + 1) / 2;
+    cosine(farthest.min(90_000_000) as i32)
+}
+
+// How far the next look reaches: as far as what was found, or else twice as far.
+fn next_width(width: u32, last: Option<u128>) -> u32
+    ensures { result ≤ 180000000 }
+{
+    match last {
+        None => width.saturating_mul(2).min(WIDEST),
+        Some(last) => (last.isqrt() / 65536 + 1).min(u128::from(WIDEST)) as u32,
+    }
+}
+
+// How remote the last one of all slots is; None where one isn't filled, or there are none.
+fn last_remoteness(slots: &[Option<Candidate>]) -> Option<u128>
+    ensures { IfSome result (λ last. LastIs last slots.now) }
+{
+    if slots.is_empty() {
+        return None;
+    }
+    let Some(last) = slots[slots.len() - 1] else {
+        return None;
+    };
+    Some(last.remoteness)
+}
+
+// Puts the first segments within reach into the slots: looks at all that aren't passed by.
+fn look(
+    grid: &Grid,
+    base: &BaseMetric,
+    from: Point,
+    heading: Option<Heading>,
+    window: Window,
+    slots: &mut [Option<Candidate>],
+)
+    requires weights { 2 * length grid.now ≤ length base.now.weights.vertex }
+    requires cosine { IsLeastCosine (position_of from) window.cosine window.reach }
+    requires slots { AreSlots grid.now base.now.weights heading (position_of from) slots.old }
+    ensures slots { AreSlots grid.now base.now.weights heading (position_of from) slots.new }
+    ensures judged { (s : ℕ) → IsJudged grid.now base.now.weights heading (position_of from) window.reach slots.new s }
+{
+    let lines = grid.ends();
+    let index = grid.index();
+    let mut at = 0;
+    while at < index.order.len() {
+        at = look_at(lines, index, base, from, heading, window, at, slots);
+    }
+}
+
+// Looks at the segment at a number of the order, or passes by it and some behind it, and gives the next number.
+fn look_at(
+    lines: &[SegmentEnds],
+    index: &Index,
+    base: &BaseMetric,
+    from: Point,
+    heading: Option<Heading>,
+    window: Window,
+    at: usize,
+    slots: &mut [Option<Candidate>],
+) -> usize
+    requires index { IsIndexOf lines.now index.now }
+    requires at { at < length index.now.order.items }
+    requires weights { 2 * length lines.now ≤ length base.now.weights.vertex }
+    requires cosine { IsLeastCosine (position_of from) window.cosine window.reach }
+    requires slots { AreSlots lines.now base.now.weights heading (position_of from) slots.old }
+    ensures later { at < result }
+    ensures slots { AreSlots lines.now base.now.weights heading (position_of from) slots.new }
+    ensures stay { StandsOn slots.old slots.new }
+    ensures judged { AreJudged lines.now base.now.weights heading (position_of from) window.reach index.now.order.items at result slots.new }
+{
+    let far = farthest(window.reach, slots);
+    let passed = passed_by(index, from, window.cosine, far, at);
+    if passed > 0 {
+        return at + passed;
+    }
+    let segment = index.order[at];
+    let line = lines[segment as usize];
+    if is_beyond(from, window.cosine, far, extent_of(line)) {
+        return at + 1;
+    }
+    consider(lines, base, from, heading, segment, slots);
+    at + 1
+}
+
+// Puts a segment into its slot, if it has an open direction of the heading.
+fn consider(
+    lines: &[SegmentEnds],
+    base: &BaseMetric,
+    from: Point,
+    heading: Option<Heading>,
+    segment: u32,
+    slots: &mut [Option<Candidate>],
+)
+    requires segment { segment < length lines.now }
+    requires few { length lines.now < 2 ^ 30 }
+    requires weights { 2 * length lines.now ≤ length base.now.weights.vertex }
+    requires slots { AreSlots lines.now base.now.weights heading (position_of from) slots.old }
+    ensures slots { AreSlots lines.now base.now.weights heading (position_of from) slots.new }
+    ensures stay { StandsOn slots.old slots.new }
+    ensures judged { IsJudged lines.now base.now.weights heading (position_of from) None slots.new segment }
+{
+    let line = lines[segment as usize];
+    if !has_direction(base, heading, line, segment) {
+        return;
+    }
+    put(candidate_on(line, from, segment), slots);
+}
+
+// How remote a segment can be at most that isn't passed by: the lesser of the reach and of what the last slot has.
+fn farthest(reach: Option<u128>, slots: &[Option<Candidate>]) -> Option<u128>
+    requires { Ascend slots.now }
+    ensures { (remote s : ℕ) → IsFarther result remote → IsFarther reach remote ⊎ Stands remote s slots.now }
+{
+    match (reach, last_remoteness(slots)) {
+        (Some(reach), Some(last)) => Some(reach.min(last)),
+        (None, last) => last,
+        (reach, None) => reach,
+    }
+}
+
+// How many numbers of the order can be passed by from one on, since all lines there lie beyond.
+fn passed_by(index: &Index, from: Point, cosine: u32, far: Option<u128>, at: usize) -> usize
+    requires { at < 2 ^ 63 }
+    ensures passed { (lines : List SegmentEnds) (i s : ℕ) (line : SegmentEnds) → IsIndexOf lines index.now → at ≤ i → i < at + result
+        → slice_get index.now.order.items i ≡ Some s → slice_get lines s ≡ Some line → IsPassed (position_of from) cosine far line }
+    ensures bound { result ≤ 4096 }
+{
+    if is_passed(&index.groups, at, 4096, from, cosine, far) {
+        return 4096;
+    }
+    if is_passed(&index.blocks, at, 256, from, cosine, far) {
+        return 256;
+    }
+    if is_passed(&index.leaves, at, 16, from, cosine, far) {
+        return 16;
+    }
+    0
+}
+
+// Whether this is the first of so many numbers that have one of these extents, and it lies beyond.
+fn is_passed(
+    extents: &[Extent],
+    at: usize,
+    size: usize,
+    from: Point,
+    cosine: u32,
+    far: Option<u128>,
+) -> bool
+    requires { 0 < size }
+    ensures { IsTrue result → (i : ℕ) (line : SegmentEnds) → at ≤ i → i < at + size → HasAt extents.now (i / size) line → IsPassed (position_of from) cosine far line }
+{
+    if at % size != 0 || at / size >= extents.len() {
+        return false;
+    }
+    let extent = extents[at / size];
+    is_beyond(from, cosine, far, extent)
+}

@@ -1,0 +1,3 @@
+pub mod LeastCosts
+pub mod LesserLaws
+pub mod Tables

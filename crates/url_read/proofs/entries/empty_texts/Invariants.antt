@@ -1,6 +1,0 @@
-use Rattle.std.proofs.Common.{◌≡◌, [], replicate}
-use Rattle.url_read.proofs.entries.empty_texts.Given as goal
-
--- so many empty texts so far
-abbrev pub invariant-loop : goal.invariant-loop
-invariant-loop l = l.texts.items ≡ replicate l.counter []
