@@ -5,7 +5,7 @@ use Rattle.std.specs.Str.Lines.{lines, strip_carriage_return}
 use Rattle.reply_core.specs.Answers.{IsAnswerToAny, IsLineAnswer}
 use Rattle.reply_core.specs.Request.{target_of}
 use Rattle.road_places.specs.RoadMetric.{RoadMetric}
-use Rattle.reply_core.specs.Texts.{busy_text}
+use Rattle.reply_texts.specs.Refusals.{busy_text}
 use Rattle.reply_core.specs.declared.answers.Answer.{Answer}
 use Rattle.road_io.specs.Told.{appends_none, appends_then, front_of_first, front_of_second}
 use Rattle.road_io.specs.Views.{OutputView}

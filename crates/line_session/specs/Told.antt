@@ -3,7 +3,7 @@
 use Rattle.std.specs.Prelude.{◌≡◌, ℕ, List, [], ◌∷◌, ◌++◌, ◌⊎◌, ◌==◌}
 use Rattle.std.specs.List.{slice_split}
 use Rattle.std.specs.Str.Lines.{strip_carriage_return}
-use Rattle.reply_core.specs.Texts.{busy_text}
+use Rattle.reply_texts.specs.Refusals.{busy_text}
 use Rattle.line_session.specs.Publication.{Publication, IsReplyLine, newline}
 
 -- the reply to a line under the last publication, and the last publication after it

@@ -1,5 +1,5 @@
 -- How a table of costs comes from a table over the turns.
-use Rattle.std.proofs.Common.{◌≡◌, ℕ, ◌<◌, zero, suc, inl, inr, List, [], ◌∷◌, length, get_or, Option, Some, None, All, arith, sym, subst}
+use Rattle.std.proofs.Common.{◌≡◌, ℕ, ◌<◌, zero, suc, inl, inr, List, [], ◌∷◌, get_or, Option, Some, None, All, arith, refl, sym, subst}
 use Rattle.std.specs.Option.{ForSome}
 use Rattle.std.specs.List.{AllZip, Contains, slice_get}
 use Rattle.std.specs.Prelude.{option_map}
@@ -19,7 +19,7 @@ use Rattle.table_query.specs.LeastCosts.{IsLeastAmong, IsLesserOf}
 use Rattle.table_query.specs.LesserLaws.{EitherOf, least-either, least-same}
 use Rattle.table_query.specs.Tables.{CostsBetween, IsCell, IsRow, IsTable}
 use Rattle.road_places.specs.PartLaws.{before_units, parts_within, rest_units}
-use Rattle.road_places.specs.Permitted.{IsAlong, IsByTurns, IsStart, IsTarget}
+use Rattle.road_places.specs.Permitted.{IsAlongOne, IsByTurns, IsStart, IsTarget}
 use Rattle.road_places.specs.Places.{IsPlaceOn, before, parts_along}
 use Rattle.road_places.specs.RoadMetric.{RoadMetric, turn_graph}
 use Rattle.road_places.specs.declared.walks.Route.{Route}
@@ -47,6 +47,13 @@ all_zip-each_second P R Q f [] (y ∷ ys) each h k b at = absurd h
 all_zip-each_second P R Q f (x ∷ xs) [] each h k b at = absurd h
 all_zip-each_second P R Q f (x ∷ xs) (y ∷ ys) each h zero b at = subst Q (let e : y ≡ b = cc in e) (f x y (each 0 x refl) h.0)
 all_zip-each_second P R Q f (x ∷ xs) (y ∷ ys) each h (suc k) b at = all_zip-each_second P R Q f xs ys (λ j a e. each (suc j) a e) h.1 k b at
+
+-- what holds of each pair holds of the pair at a place
+pub all_zip-at : {A B : Type 0} (R : A → B → Type 0) (xs : List A) (ys : List B) (k : ℕ) (x : A) (y : B) → AllZip R xs ys → slice_get xs k ≡ Some x → slice_get ys k ≡ Some y → R x y
+all_zip-at R [] ys k x y h at there = cc
+all_zip-at R (a ∷ xs) [] k x y h at there = absurd h
+all_zip-at R (a ∷ xs) (b ∷ ys) zero x y h at there = subst (λ z. R z y) (let e : a ≡ x = cc in e) (subst (λ z. R a z) (let e : b ≡ y = cc in e) h.0)
+all_zip-at R (a ∷ xs) (b ∷ ys) (suc k) x y h at there = all_zip-at R xs ys k x y h.1 at there
 
 all-from_get : {A : Type 0} (Q : A → Type 0) (xs : List A) → ((k : ℕ) (a : A) → slice_get xs k ≡ Some a → Q a) → All Q xs
 all-from_get Q xs h = λ k a lt. h k (get_or xs k a) (slice_get-get_or xs k a lt)
@@ -90,7 +97,7 @@ module _ (road : RoadMetric) (n : ℕ) where
       (λ p list row k cells. row-by_turns p destinations list targets row k t cells) sources starts rows s h
 
 -- what the least walk of one vertex costs is the least that such a walk does
-pub along-cost : (w : Weighting DurLen) (p q : Place) (route : Option Route) → IsLeastOf (λ walk d. (v : ℕ) × IsAlong w p q v walk d) route → IsLeastAmong durlen_ops (CanCostAlong w p q) (option_map (λ r. r.cost) route)
+pub along-cost : (w : Weighting DurLen) (p q : Place) (route : Option Route) → IsLeastOf (IsAlongOne w p q) route → IsLeastAmong durlen_ops (CanCostAlong w p q) (option_map (λ (r : Route). r.cost) route)
 along-cost w p q None h = λ d k. h k.0 d k.1
 along-cost w p q (Some route) h = ((route.walk, h.0), λ d k. h.1 k.0 d k.1)
 
@@ -111,7 +118,7 @@ module _ (road : RoadMetric) (small : AreSmall durlen_ops (turn_graph road.netwo
 
   -- a walk of one vertex costs at most one unit
   along-units : (p q : Place) (d : DurLen) → IsPlaceOn road.network q → CanCostAlong road.weights p q d → durlen_ops.units d (most_units road.network)
-  along-units p q d on (walk, v, a) =
+  along-units p q d on (walk, (v, a)) =
       let whole = before_units a.cost (parts_along q v) 1 (parts_within q v on.within) (small.vertex_unit v a.cost a.is_open) in
       durlen_laws.units_more d 1 (most_units road.network) (rest_units (before a.cost (parts_along q v)) (before a.cost (parts_along p v)) d 1 a.is_cost whole) (omega arith)
 

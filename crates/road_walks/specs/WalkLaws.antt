@@ -7,6 +7,7 @@ use Rattle.search_graph.specs.Digraph.{Weighting}
 use Rattle.search_graph.specs.Durations.{durlen_ops}
 use Rattle.plain_search.specs.Answers.{IsFound}
 use Rattle.plain_search.specs.declared.found.Found.{Found}
+use Rattle.table_query.specs.Tables.{IsTable}
 use Rattle.edge_graph.specs.NetworkView.{NetworkView, graph_of}
 use Rattle.road_places.specs.RoadMetric.{turn_graph}
 
@@ -15,3 +16,8 @@ use Rattle.road_places.specs.RoadMetric.{turn_graph}
 pub stands_for_walks : (network : NetworkView) (w : Weighting DurLen) (starts : List (Start DurLen)) (t : Target DurLen) (answer : Option (Found DurLen))
     → IsFound durlen_ops (graph_of network) w starts t answer → IsFound durlen_ops (turn_graph network) w starts t answer
 stands_for_walks network w starts t answer h = h
+
+-- and so a table over the network's graph is one over the turns
+pub stands_for_tables : (network : NetworkView) (w : Weighting DurLen) (sources : List (List (Start DurLen))) (targets : List (List (Target DurLen))) (rows : List (List (Option DurLen)))
+    → IsTable durlen_ops (graph_of network) w sources targets rows → IsTable durlen_ops (turn_graph network) w sources targets rows
+stands_for_tables network w sources targets rows h = h

@@ -2,7 +2,7 @@
 use Rattle.std.proofs.Common.{◌<◌, ◌++◌, length, arith}
 use Rattle.std.proofs.lemmas.Bool.Decides.{nat_tests}
 use Rattle.std.proofs.lemmas.Result.{on_err_weaker}
-use Rattle.reply_core.specs.Texts.{busy_text}
+use Rattle.reply_texts.specs.Refusals.{busy_text}
 use Rattle.road_io.specs.Told.{AppendsFront}
 use Rattle.line_session.specs.Publication.{newline}
 use Rattle.line_session.proofs.LeadLaws.{adds_busy, adds_reply}
