@@ -1021,11 +1021,44 @@ fn request(target: &str) -> Result<Request, Refusal> {
 }
 
 fn coordinates_of(text: &str) -> Result<Vec<(i64, i64)>, Refusal> {
+    for (front, scale) in [("polyline(", 10), ("polyline6(", 1)] {
+        if let Some(line) = text.strip_prefix(front) {
+            let line = line.strip_suffix(')').ok_or_else(|| ("InvalidQuery", String::from("coordinate 0")))?;
+            return decoded_line(line.as_bytes(), scale).map_err(|byte| ("InvalidQuery", format!("polyline byte {byte}")));
+        }
+    }
     let coordinate = |(number, text): (usize, &str)| {
         let pair = text.split_once(',').and_then(|(lon, lat)| Some((microdegrees(lon.as_bytes())?, microdegrees(lat.as_bytes())?)));
         pair.ok_or_else(|| ("InvalidQuery", format!("coordinate {number}")))
     };
     text.split(';').enumerate().map(coordinate).collect()
+}
+
+/// The points of an encoded line, longitude first, or its first faulty byte.
+fn decoded_line(text: &[u8], scale: i64) -> Result<Vec<(i64, i64)>, usize> {
+    let (mut points, mut sums, mut at) = (Vec::new(), [0i64; 2], 0);
+    while at < text.len() {
+        for sum in &mut sums {
+            let (mut value, mut groups) = (0u64, 0);
+            loop {
+                let byte = *text.get(at).ok_or(text.len())?;
+                if !(63..=126).contains(&byte) || groups == 7 {
+                    return Err(at);
+                }
+                value |= u64::from((byte - 63) & 31) << (5 * groups);
+                (groups, at) = (groups + 1, at + 1);
+                if byte - 63 < 32 {
+                    break;
+                }
+            }
+            *sum += if value & 1 == 1 { !((value >> 1) as i64) } else { (value >> 1) as i64 };
+            if i32::try_from(*sum * scale).is_err() {
+                return Err(at - 1);
+            }
+        }
+        points.push((sums[1] * scale, sums[0] * scale));
+    }
+    Ok(points)
 }
 
 /// Whether the service has the option and it may have this value.
