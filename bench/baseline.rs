@@ -576,12 +576,20 @@ fn directions(network: &Network, place: Place) -> Vec<(u32, Cost, u64)> {
     open.collect()
 }
 
+/// Marks the first vertex of a walk among the vertices before others.
+const START: u32 = 1 << 31;
+
+struct Route {
+    cost: Cost,
+    walk: Vec<u32>,
+}
+
 /// What every search uses anew: a label counts only where its stamp is that of the search.
 struct Labels {
     stamp: u32,
     stamps: Vec<u32>,
     costs: Vec<Cost>,
-    /// The vertex before; a start is marked by being its own.
+    /// The vertex before; one from which the search started is marked by `START`.
     parents: Vec<u32>,
     settled: Vec<bool>,
     heap: BinaryHeap<Reverse<(Cost, u32)>>,
@@ -610,45 +618,194 @@ impl Labels {
         }
     }
 
-    fn expand(&mut self, network: &Network, v: u32, paid: Cost) {
+    fn expand(&mut self, network: &Network, v: u32, paid: Cost, mark: u32) {
         for turn in network.first[v as usize]..network.first[v as usize + 1] {
             let e = network.turns[turn as usize];
             if let Some(cost) = network.costs[e as usize] {
                 let penalty = u64::from(network.penalties[turn as usize]);
-                self.offer(e, plus(paid, plus((penalty, 0), cost)), v);
+                self.offer(e, plus(paid, plus((penalty, 0), cost)), v | mark);
             }
         }
     }
 }
 
-fn least_route(network: &Network, labels: &mut Labels, from: Place, to: Place) -> Option<Cost> {
-    let (starts, targets) = (directions(network, from), directions(network, to));
-    let mut best: Option<Cost> = None;
-    let mut better = |cost: Cost| best = Some(best.map_or(cost, |least| least.min(cost)));
-    labels.stamp += 1;
-    labels.heap.clear();
-    for (v, cost, parts) in &starts {
-        labels.expand(network, *v, minus(*cost, before(*cost, *parts)));
-        for (_, _, last) in targets.iter().filter(|target| target.0 == *v && target.2 >= *parts) {
-            better(minus(before(*cost, *last), before(*cost, *parts)));
+impl Labels {
+    /// Begins a search from a place.
+    fn start(&mut self, network: &Network, from: Place) {
+        self.stamp += 1;
+        self.heap.clear();
+        for (v, cost, parts) in directions(network, from) {
+            self.expand(network, v, minus(cost, before(cost, parts)), START);
         }
     }
-    let mut wanted = targets.len();
-    while let Some(Reverse((cost, v))) = labels.heap.pop() {
-        if labels.settled[v as usize] {
-            continue;
-        }
-        labels.settled[v as usize] = true;
-        if let Some((_, own, parts)) = targets.iter().find(|target| target.0 == v) {
-            better(plus(minus(cost, *own), before(*own, *parts)));
-            wanted -= 1;
-            if wanted == 0 {
-                break;
+
+    /// Settles the next vertex; None where nothing is left.
+    fn settle(&mut self, network: &Network) -> Option<(u32, Cost)> {
+        loop {
+            let Reverse((cost, v)) = self.heap.pop()?;
+            if !self.settled[v as usize] {
+                self.settled[v as usize] = true;
+                self.expand(network, v, cost, 0);
+                return Some((v, cost));
             }
         }
-        labels.expand(network, v, cost);
     }
-    best
+
+    fn cost_of(&self, v: u32) -> Option<Cost> {
+        let i = v as usize;
+        (self.stamps[i] == self.stamp && self.settled[i]).then(|| self.costs[i])
+    }
+
+    fn walk_to(&self, last: u32) -> Vec<u32> {
+        let mut walk = vec![last];
+        let mut parent = self.parents[last as usize];
+        while parent & START == 0 {
+            walk.push(parent);
+            parent = self.parents[parent as usize];
+        }
+        walk.push(parent & !START);
+        walk.reverse();
+        walk
+    }
+}
+
+/// What a walk of one vertex costs between two places, and the vertex.
+fn along_one(network: &Network, from: Place, to: Place) -> Option<(Cost, u32)> {
+    let (starts, targets) = (directions(network, from), directions(network, to));
+    let pairs = starts.iter().filter_map(|(v, cost, parts)| {
+        let (_, _, last) = targets.iter().find(|target| target.0 == *v && target.2 >= *parts)?;
+        Some((minus(before(*cost, *last), before(*cost, *parts)), *v))
+    });
+    pairs.min()
+}
+
+fn least_route(network: &Network, labels: &mut Labels, from: Place, to: Place) -> Option<Route> {
+    let targets = directions(network, to);
+    labels.start(network, from);
+    let mut wanted = targets.len();
+    while wanted > 0 {
+        let Some((v, _)) = labels.settle(network) else { break };
+        wanted -= usize::from(targets.iter().any(|target| target.0 == v));
+    }
+    let turning = targets.iter().filter_map(|(v, own, parts)| {
+        let cost = labels.cost_of(*v)?;
+        Some((plus(minus(cost, *own), before(*own, *parts)), *v))
+    });
+    match (along_one(network, from, to), turning.min()) {
+        (None, None) => None,
+        (Some((cost, v)), None) => Some(Route { cost, walk: vec![v] }),
+        (Some((cost, v)), Some((other, _))) if cost <= other => Some(Route { cost, walk: vec![v] }),
+        (_, Some((cost, v))) => Some(Route { cost, walk: labels.walk_to(v) }),
+    }
+}
+
+/// What a least walk from a place to each of others costs, by one search.
+fn row(network: &Network, labels: &mut Labels, from: Place, to: &[Place]) -> Vec<Option<Cost>> {
+    labels.start(network, from);
+    let mut wanted: HashSet<u32> = to.iter().flat_map(|place| directions(network, *place)).map(|target| target.0).collect();
+    while !wanted.is_empty() {
+        let Some((v, _)) = labels.settle(network) else { break };
+        wanted.remove(&v);
+    }
+    let cell = |place: &Place| {
+        let turning = directions(network, *place).into_iter().filter_map(|(v, own, parts)| {
+            Some(plus(minus(labels.cost_of(v)?, own), before(own, parts)))
+        });
+        let one = along_one(network, from, *place).map(|(cost, _)| cost);
+        turning.chain(one).min()
+    };
+    to.iter().map(cell).collect()
+}
+
+// ---- lines on the map ----
+
+/// The point where a vertex ends.
+fn head_point(network: &Network, v: u32) -> Point {
+    let segment = &network.segments[v as usize / 2];
+    if v % 2 == 0 { segment.to } else { segment.from }
+}
+
+fn spot(network: &Network, place: Place) -> Point {
+    let segment = &network.segments[place.segment as usize];
+    point_at(segment.from, segment.to, place.at)
+}
+
+fn leg_points(network: &Network, walk: &[u32], from: Place, to: Place) -> Vec<Point> {
+    let middle = walk[..walk.len() - 1].iter().map(|v| head_point(network, *v));
+    std::iter::once(spot(network, from)).chain(middle).chain([spot(network, to)]).collect()
+}
+
+/// The points that stay of a line (Douglas and Peucker).
+fn simplified(points: &[Point], tolerance: u64) -> Vec<Point> {
+    if points.len() < 3 {
+        return points.to_vec();
+    }
+    let limit = u128::from(tolerance * 65536).pow(2);
+    let mut stays = vec![false; points.len()];
+    (stays[0], stays[points.len() - 1]) = (true, true);
+    let mut ranges = vec![(0, points.len() - 1)];
+    while let Some((from, to)) = ranges.pop() {
+        let mut farthest = (limit, 0);
+        for at in from + 1..to {
+            let own = point_at(points[from], points[to], project(points[at], points[from], points[to]));
+            let off = plane(points[at], own);
+            if off > farthest.0 {
+                farthest = (off, at);
+            }
+        }
+        if farthest.1 > 0 {
+            stays[farthest.1] = true;
+            ranges.extend([(from, farthest.1), (farthest.1, to)]);
+        }
+    }
+    points.iter().zip(stays).filter(|(_, stays)| *stays).map(|(point, _)| *point).collect()
+}
+
+fn tolerance_of(points: &[Point]) -> u64 {
+    let extent = |of: fn(&Point) -> i32| match (points.iter().map(of).min(), points.iter().map(of).max()) {
+        (Some(low), Some(high)) => u64::from(high.abs_diff(low)),
+        _ => 0,
+    };
+    extent(|point| point.lon).max(extent(|point| point.lat)) / 512
+}
+
+/// An encoded polyline of 5 or 6 digits.
+fn polyline(points: &[Point], six: bool) -> String {
+    let rounded = |v: i32| if six { i64::from(v) } else { i64::from((v + 5).div_euclid(10)) };
+    let (mut text, mut last) = (String::new(), (0, 0));
+    for point in points {
+        let next = (rounded(point.lat), rounded(point.lon));
+        for step in [next.0 - last.0, next.1 - last.1] {
+            let mut left = if step < 0 { !(step << 1) } else { step << 1 } as u64;
+            while left >= 32 {
+                text.push((95 + (left & 31)) as u8 as char);
+                left >>= 5;
+            }
+            text.push((63 + left) as u8 as char);
+        }
+        last = next;
+    }
+    text
+}
+
+fn line_text(points: &[Point], geometries: &str) -> String {
+    if geometries == "geojson" {
+        let each: Vec<String> = points.iter().map(|p| format!("[{},{}]", degrees(p.lon), degrees(p.lat))).collect();
+        return format!("{{\"coordinates\":[{}],\"type\":\"LineString\"}}", each.join(","));
+    }
+    quoted(&polyline(points, geometries == "polyline6"))
+}
+
+/// What a walk pays at each of its vertices.
+fn paid_along(network: &Network, walk: &[u32], from: Place, to: Place) -> Vec<Cost> {
+    let parts = |v: u32, place: Place| if v % 2 == 0 { place.at } else { 1024 - place.at };
+    let last = walk.len() - 1;
+    let each = walk.iter().enumerate().map(|(at, v)| {
+        let whole = network.costs[*v as usize].expect("an open vertex");
+        let end = if at == last { before(whole, parts(*v, to)) } else { whole };
+        if at == 0 { minus(end, before(whole, parts(*v, from))) } else { end }
+    });
+    each.collect()
 }
 
 // ---- lines ----
@@ -679,37 +836,115 @@ fn reply(network: &Network, labels: &mut Labels, line: &[u8]) -> String {
     let Some(target) = line.and_then(|line| line.strip_prefix("GET ")) else {
         return String::from("{\"code\":\"BadRequest\"}");
     };
-    let points = match request(target) {
-        Ok(points) => points,
+    let request = match request(target) {
+        Ok(request) => request,
         Err((code, message)) => return format!("{{\"code\":\"{code}\",\"message\":{}}}", quoted(&message)),
     };
-    match route(network, labels, &points) {
-        Ok(text) => text,
+    let found = match request.service.as_str() {
+        "nearest" => nearest(network, &request),
+        "table" => table(network, labels, &request),
+        _ => route(network, labels, &request),
+    };
+    match found {
+        Ok(members) => format!("{{\"code\":\"Ok\",\"data_version\":\"0\",{members}}}"),
         Err((code, message)) => format!("{{\"code\":\"{code}\",\"data_version\":\"0\",\"message\":\"{message}\"}}"),
     }
 }
 
 type Refusal = (&'static str, String);
 
-fn route(network: &Network, labels: &mut Labels, points: &[Point]) -> Result<String, Refusal> {
-    let mut places = Vec::new();
-    for (number, point) in points.iter().enumerate() {
-        places.push(snap(network, *point).ok_or_else(|| ("NoSegment", format!("coordinate {number}")))?);
+fn places_of(network: &Network, points: &[Point]) -> Result<Vec<Place>, Refusal> {
+    let place = |(number, point): (usize, &Point)| snap(network, *point).ok_or_else(|| ("NoSegment", format!("coordinate {number}")));
+    points.iter().enumerate().map(place).collect()
+}
+
+fn nearest(network: &Network, request: &Request) -> Result<String, Refusal> {
+    let point = request.points[0];
+    let mut found = Vec::new();
+    for (number, segment) in network.segments.iter().enumerate() {
+        if network.costs[2 * number].is_some() || network.costs[2 * number + 1].is_some() {
+            let at = project(point, segment.from, segment.to);
+            found.push((plane(point, point_at(segment.from, segment.to, at)), number as u32, at));
+        }
     }
-    let mut legs = Vec::new();
+    if found.is_empty() {
+        return Err(("NoSegment", String::from("coordinate 0")));
+    }
+    found.sort_unstable();
+    let told = found.iter().take(request.number).map(|(_, segment, at)| {
+        let ends = &network.segments[*segment as usize];
+        let waypoint = waypoint(network, point, Place { segment: *segment, at: *at });
+        format!("{{\"nodes\":[{},{}],{}", ends.tail, ends.head, &waypoint[1..])
+    });
+    Ok(format!("\"waypoints\":[{}]", told.collect::<Vec<_>>().join(",")))
+}
+
+fn table(network: &Network, labels: &mut Labels, request: &Request) -> Result<String, Refusal> {
+    let places = places_of(network, &request.points)?;
+    let (from, to) = (&request.sources, &request.destinations);
+    let ends: Vec<Place> = to.iter().map(|i| places[*i]).collect();
+    let rows: Vec<Vec<Option<Cost>>> = from.iter().map(|i| row(network, labels, places[*i], &ends)).collect();
+    let mut members = Vec::new();
+    for (name, asked, part) in [("durations", "duration", 0), ("distances", "distance", 1)] {
+        if request.annotations.iter().any(|annotation| annotation == asked) {
+            let cell = |cell: &Option<Cost>| cell.map_or(String::from("null"), |cost| tenths([cost.0, cost.1][part]));
+            let row = |row: &Vec<Option<Cost>>| format!("[{}]", row.iter().map(cell).collect::<Vec<_>>().join(","));
+            members.push(format!("\"{name}\":[{}]", rows.iter().map(row).collect::<Vec<_>>().join(",")));
+        }
+    }
+    for (name, chosen) in [("sources", from), ("destinations", to)] {
+        if !request.skip_waypoints {
+            let told: Vec<String> = chosen.iter().map(|i| waypoint(network, request.points[*i], places[*i])).collect();
+            members.push(format!("\"{name}\":[{}]", told.join(",")));
+        }
+    }
+    Ok(members.join(","))
+}
+
+fn route(network: &Network, labels: &mut Labels, request: &Request) -> Result<String, Refusal> {
+    let places = places_of(network, &request.points)?;
+    let (mut whole, mut legs, mut line) = ((0, 0), Vec::new(), Vec::new());
     for (number, pair) in places.windows(2).enumerate() {
-        let cost = least_route(network, labels, pair[0], pair[1]);
-        legs.push(cost.ok_or_else(|| ("NoRoute", format!("leg {number}")))?);
+        let route = least_route(network, labels, pair[0], pair[1]).ok_or_else(|| ("NoRoute", format!("leg {number}")))?;
+        whole = plus(whole, route.cost);
+        let points = leg_points(network, &route.walk, pair[0], pair[1]);
+        line.extend(&points[usize::from(number > 0)..]);
+        legs.push(leg_text(network, request, &route, pair[0], pair[1]));
     }
-    let whole = legs.iter().fold((0, 0), |sum, leg| plus(sum, *leg));
-    let legs: Vec<String> = legs.iter().map(|leg| format!("{{{},\"summary\":\"\",\"steps\":[]}}", totals(*leg))).collect();
-    let waypoints: Vec<String> = points.iter().zip(&places).map(|(point, place)| waypoint(network, *point, *place)).collect();
-    Ok(format!(
-        "{{\"code\":\"Ok\",\"data_version\":\"0\",\"routes\":[{{{},\"weight_name\":\"duration\",\"legs\":[{}]}}],\"waypoints\":[{}]}}",
-        totals(whole),
-        legs.join(","),
-        waypoints.join(",")
-    ))
+    if request.overview == "simplified" {
+        line = simplified(&line, tolerance_of(&line));
+    }
+    let geometry = match request.overview.as_str() {
+        "false" => String::new(),
+        _ => format!("\"geometry\":{},", line_text(&line, &request.geometries)),
+    };
+    let waypoints: Vec<String> = request.points.iter().zip(&places).map(|(point, place)| waypoint(network, *point, *place)).collect();
+    let waypoints = if request.skip_waypoints { String::new() } else { format!(",\"waypoints\":[{}]", waypoints.join(",")) };
+    let (totals, legs) = (totals(whole), legs.join(","));
+    Ok(format!("\"routes\":[{{{totals},\"weight_name\":\"duration\",{geometry}\"legs\":[{legs}]}}]{waypoints}"))
+}
+
+fn leg_text(network: &Network, request: &Request, route: &Route, from: Place, to: Place) -> String {
+    let mut members = Vec::new();
+    let paid = paid_along(network, &route.walk, from, to);
+    let list = |of: &dyn Fn(&Cost) -> u64| paid.iter().map(|cost| tenths(of(cost))).collect::<Vec<_>>().join(",");
+    for name in ["distance", "duration", "weight", "nodes", "speed"] {
+        if request.annotations.iter().any(|asked| asked == name || asked == "true") {
+            let entries = match name {
+                "distance" => list(&|cost| cost.1),
+                "speed" => list(&|cost| (10 * cost.1).checked_div(cost.0).unwrap_or(0)),
+                "nodes" => {
+                    let first = ends(&network.segments, route.walk[0] as usize).0;
+                    let heads = route.walk.iter().map(|v| ends(&network.segments, *v as usize).1);
+                    std::iter::once(first).chain(heads).map(|id| id.to_string()).collect::<Vec<_>>().join(",")
+                }
+                _ => list(&|cost| cost.0),
+            };
+            members.push(format!("\"{name}\":[{entries}]"));
+        }
+    }
+    let annotation = if members.is_empty() { String::new() } else { format!(",\"annotation\":{{{}}}", members.join(",")) };
+    format!("{{{},\"summary\":\"\",\"steps\":[]{annotation}}}", totals(route.cost))
 }
 
 fn totals((duration, length): Cost) -> String {
@@ -717,8 +952,21 @@ fn totals((duration, length): Cost) -> String {
     format!("\"distance\":{metres},\"duration\":{seconds},\"weight\":{seconds}")
 }
 
-/// The coordinates of a target, or its first refusal.
-fn request(target: &str) -> Result<Vec<Point>, Refusal> {
+/// What a target asks for; of the options those that the scripts here use.
+struct Request {
+    service: String,
+    points: Vec<Point>,
+    overview: String,
+    geometries: String,
+    annotations: Vec<String>,
+    number: usize,
+    sources: Vec<usize>,
+    destinations: Vec<usize>,
+    skip_waypoints: bool,
+}
+
+/// The request of a target, or its first refusal.
+fn request(target: &str) -> Result<Request, Refusal> {
     let (path, query) = parted(target);
     let (Some(path), Some(query)) = (decoded(path), decoded(query)) else {
         return Err(("InvalidUrl", String::from("path")));
@@ -727,40 +975,118 @@ fn request(target: &str) -> Result<Vec<Point>, Refusal> {
     if pieces.len() != 4 || pieces.contains(&"") {
         return Err(("InvalidUrl", String::from("path")));
     }
-    if pieces[0] != "route" {
-        return Err(("InvalidService", format!("service {}", pieces[0])));
-    }
+    let (fewest, most) = match pieces[0] {
+        "route" => (2, 500),
+        "table" => (1, 100),
+        "nearest" => (1, 1),
+        other => return Err(("InvalidService", format!("service {other}"))),
+    };
     if pieces[1] != "v1" {
         return Err(("InvalidVersion", format!("version {}", pieces[1])));
     }
     if pieces[3].ends_with(".flatbuffers") {
         return Err(("InvalidOptions", String::from("option format")));
     }
-    let mut coordinates = Vec::new();
-    let coordinates_text = pieces[3].strip_suffix(".json").unwrap_or(pieces[3]);
-    for (number, text) in coordinates_text.split(';').enumerate() {
-        let coordinate = text.split_once(',').and_then(|(lon, lat)| Some((microdegrees(lon.as_bytes())?, microdegrees(lat.as_bytes())?)));
-        coordinates.push(coordinate.ok_or_else(|| ("InvalidQuery", format!("coordinate {number}")))?);
-    }
-    if coordinates.len() < 2 {
+    let coordinates = coordinates_of(pieces[3].strip_suffix(".json").unwrap_or(pieces[3]))?;
+    if coordinates.len() < fewest || (pieces[0] == "nearest" && coordinates.len() != 1) {
         return Err(("InvalidQuery", format!("{} coordinates", coordinates.len())));
     }
-    let options: Vec<&str> = if query.is_empty() { Vec::new() } else { query.split('&').collect() };
-    for option in &options {
-        if *option != "overview=false" {
-            return Err(("InvalidOptions", format!("option {}", option.split_once('=').map_or(*option, |(name, _)| name))));
+    let mut request = Request {
+        service: pieces[0].to_string(),
+        points: Vec::new(),
+        overview: String::from("simplified"),
+        geometries: String::from("polyline"),
+        annotations: vec![String::from(if pieces[0] == "table" { "duration" } else { "false" })],
+        number: 1,
+        sources: (0..coordinates.len()).collect(),
+        destinations: (0..coordinates.len()).collect(),
+        skip_waypoints: false,
+    };
+    for option in query.split('&').filter(|_| !query.is_empty()) {
+        if option.split_once('=').is_none_or(|(name, value)| !set_option(&mut request, name, value, coordinates.len())) {
+            return Err(("InvalidOptions", format!("option {}", option.split_once('=').map_or(option, |(name, _)| name))));
         }
-    }
-    if options.is_empty() {
-        return Err(("InvalidOptions", String::from("option overview")));
     }
     if let Some(number) = coordinates.iter().position(|(lon, lat)| lon.abs() > 180_000_000 || lat.abs() > 90_000_000) {
         return Err(("InvalidValue", format!("coordinate {number}")));
     }
-    if coordinates.len() > 500 {
-        return Err(("TooBig", format!("{} coordinates, at most 500", coordinates.len())));
+    if coordinates.len() > most {
+        return Err(("TooBig", format!("{} coordinates, at most {most}", coordinates.len())));
     }
-    Ok(coordinates.iter().map(|(lon, lat)| Point { lon: *lon as i32, lat: *lat as i32 }).collect())
+    if request.number > 100 {
+        return Err(("TooBig", format!("{} results, at most 100", request.number)));
+    }
+    request.points = coordinates.iter().map(|(lon, lat)| Point { lon: *lon as i32, lat: *lat as i32 }).collect();
+    Ok(request)
+}
+
+fn coordinates_of(text: &str) -> Result<Vec<(i64, i64)>, Refusal> {
+    for (front, scale) in [("polyline(", 10), ("polyline6(", 1)] {
+        if let Some(line) = text.strip_prefix(front) {
+            let line = line.strip_suffix(')').ok_or_else(|| ("InvalidQuery", String::from("coordinate 0")))?;
+            return decoded_line(line.as_bytes(), scale).map_err(|byte| ("InvalidQuery", format!("polyline byte {byte}")));
+        }
+    }
+    let coordinate = |(number, text): (usize, &str)| {
+        let pair = text.split_once(',').and_then(|(lon, lat)| Some((microdegrees(lon.as_bytes())?, microdegrees(lat.as_bytes())?)));
+        pair.ok_or_else(|| ("InvalidQuery", format!("coordinate {number}")))
+    };
+    text.split(';').enumerate().map(coordinate).collect()
+}
+
+/// The points of an encoded line, longitude first, or its first faulty byte.
+fn decoded_line(text: &[u8], scale: i64) -> Result<Vec<(i64, i64)>, usize> {
+    let (mut points, mut sums, mut at) = (Vec::new(), [0i64; 2], 0);
+    while at < text.len() {
+        for sum in &mut sums {
+            let (mut value, mut groups) = (0u64, 0);
+            loop {
+                let byte = *text.get(at).ok_or(text.len())?;
+                if !(63..=126).contains(&byte) || groups == 7 {
+                    return Err(at);
+                }
+                value |= u64::from((byte - 63) & 31) << (5 * groups);
+                (groups, at) = (groups + 1, at + 1);
+                if byte - 63 < 32 {
+                    break;
+                }
+            }
+            *sum += if value & 1 == 1 { !((value >> 1) as i64) } else { (value >> 1) as i64 };
+            if i32::try_from(*sum * scale).is_err() {
+                return Err(at - 1);
+            }
+        }
+        points.push((sums[1] * scale, sums[0] * scale));
+    }
+    Ok(points)
+}
+
+/// Whether the service has the option and it may have this value.
+fn set_option(request: &mut Request, name: &str, value: &str, count: usize) -> bool {
+    let digits = |text: &str| (1..=9).contains(&text.len()) && text.bytes().all(|byte| byte.is_ascii_digit());
+    let indexes = |value: &str| -> Option<Vec<usize>> {
+        if value == "all" {
+            return Some((0..count).collect());
+        }
+        value.split(';').map(|text| text.parse().ok().filter(|i| digits(text) && *i < count)).collect()
+    };
+    let every = ["distance", "duration", "weight", "nodes", "speed"];
+    match (request.service.as_str(), name) {
+        (_, "skip_waypoints") if ["true", "false"].contains(&value) => request.skip_waypoints = value == "true",
+        ("nearest", "number") if digits(value) && value.bytes().any(|byte| byte != b'0') => request.number = value.parse().unwrap_or(0),
+        ("route", "overview") if ["simplified", "full", "false"].contains(&value) => request.overview = value.to_string(),
+        ("route", "geometries") if ["polyline", "polyline6", "geojson"].contains(&value) => request.geometries = value.to_string(),
+        ("route", "annotations") if ["true", "false"].contains(&value) || value.split(',').all(|name| every.contains(&name)) => {
+            request.annotations = value.split(',').map(String::from).collect();
+        }
+        ("table", "annotations") if ["duration", "distance", "duration,distance", "distance,duration"].contains(&value) => {
+            request.annotations = value.split(',').map(String::from).collect();
+        }
+        ("table", "sources") if indexes(value).is_some() => request.sources = indexes(value).unwrap_or_default(),
+        ("table", "destinations") if indexes(value).is_some() => request.destinations = indexes(value).unwrap_or_default(),
+        _ => return false,
+    }
+    true
 }
 
 /// A text with its percent escapes read; a `%` without two hexadecimal digits stays.
