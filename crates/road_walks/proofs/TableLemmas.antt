@@ -142,7 +142,7 @@ module _ (road : RoadMetric) (small : AreSmall durlen_ops (turn_graph road.netwo
     row-within p row h =
         all-from_get (λ value. ForSome value (λ d. durlen_ops.units d (most_units road.network))) row
         (all_zip-each_second (IsPlaceOn road.network) (IsCellOf road p) (λ value. ForSome value (λ d. durlen_ops.units d (most_units road.network)))
-          (λ q value on cell. λ d e. cell-units p q d on (subst (λ (x : Option DurLen). IsCellOf road p q x) e cell)) destinations row placed h)
+        (λ q value on cell. λ d e. cell-units p q d on (subst (λ (x : Option DurLen). IsCellOf road p q x) e cell)) destinations row placed h)
 
     pub rows-within : (sources : List Place) (rows : List (List (Option DurLen))) → AreRowsOf road sources destinations rows → AreWithin (most_units road.network) rows
     rows-within sources rows h =

@@ -1,5 +1,5 @@
 -- The least of all costs of two kinds is the lesser of the least of each.
-use Rattle.std.specs.Prelude.{◌≡◌, ◌⊎◌, Option, Some, None}
+use Rattle.std.specs.Prelude.{◌⊎◌, Option, Some, None}
 use Rattle.std.proofs.Common.{inl, inr, subst, sym}
 use Rattle.search_graph.specs.Costs.{CostOps, CostLaws, NoDearer}
 use Rattle.search_graph.specs.OrderLaws.{le_trans}

@@ -1,8 +1,5 @@
-use Rattle.std.proofs.Common.{List, subst, sym}
+use Rattle.std.proofs.Common.{subst, sym}
 use Rattle.std.specs.List.{AllZip}
-use Rattle.search_graph.specs.declared.costs.DurLen.{DurLen}
-use Rattle.search_graph.specs.declared.ends.Start.{Start}
-use Rattle.search_graph.specs.declared.ends.Target.{Target}
 use Rattle.road_walks.specs.TableParts.{AreStartsFrom, AreTargetsTo}
 use Rattle.road_walks.proofs.TableLemmas.{starts-fit, table-by_turns, targets-fit}
 use Rattle.road_walks.proofs.tables.rows_by_turns.Goals as goal

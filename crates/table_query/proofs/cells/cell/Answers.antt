@@ -1,5 +1,5 @@
 -- Each turn takes one target more.
-use Rattle.std.proofs.Common.{◌++◌, ◌∷◌, [], List, take, sym, subst, arith}
+use Rattle.std.proofs.Common.{List, take, sym, subst, arith}
 use Rattle.std.proofs.lemmas.List.{take_all}
 use Rattle.list_lemmas.proofs.Fronts.{take-get}
 use Rattle.list_lemmas.proofs.Gets.{get_is}

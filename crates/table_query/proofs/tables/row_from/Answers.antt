@@ -1,7 +1,6 @@
 -- Each turn has one cell more.
-use Rattle.std.proofs.Common.{◌+◌, List, take, sym, subst, arith}
+use Rattle.std.proofs.Common.{◌+◌, List, take, sym, subst}
 use Rattle.std.specs.List.{Contains}
-use Rattle.std.proofs.lemmas.List.{take_all}
 use Rattle.list_lemmas.proofs.Fronts.{all_zip-more}
 use Rattle.list_lemmas.proofs.Gets.{get_is}
 use Rattle.search_graph.specs.declared.ends.Target.{Target}

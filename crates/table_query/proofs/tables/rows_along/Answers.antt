@@ -1,5 +1,5 @@
 -- Each turn has one row more.
-use Rattle.std.proofs.Common.{◌+◌, List, take, sym, subst, arith}
+use Rattle.std.proofs.Common.{◌+◌, List, take, sym, subst}
 use Rattle.std.specs.List.{Contains}
 use Rattle.list_lemmas.proofs.Fronts.{all_zip-more}
 use Rattle.list_lemmas.proofs.Gets.{get_is}
