@@ -16,6 +16,8 @@ mod indexes;
 mod keeping;
 mod searching;
 mod snapping;
+#[cfg(test)]
+mod tests;
 
 pub use filters::{Filter, Heading};
 pub use grids::{Grid, SegmentEnds};
