@@ -1,8 +1,8 @@
 -- The lines of segments.
-use Rattle.std.proofs.Common.{◌≡◌, ℕ, List, sym, ap, ◌∙◌, get_or}
+use Rattle.std.proofs.Common.{◌≡◌, ℕ, List, ap, ◌∙◌}
 use Rattle.std.specs.Prelude.{Option, Some, None, option_map}
 use Rattle.std.specs.List.{slice_get}
-use Rattle.std.proofs.lemmas.Option.{slice_get-map, get_or_from_slice_get, same_Some}
+use Rattle.std.proofs.lemmas.Option.{same_Some, slice_get-map}
 use Rattle.road_base.specs.declared.coordinates.Point.{Point}
 use Rattle.edge_graph.specs.Segment.{Segment}
 use Rattle.snap_index.specs.Ends.{ends_of, all_ends}

@@ -16,8 +16,6 @@ mod indexes;
 mod keeping;
 mod searching;
 mod snapping;
-#[cfg(test)]
-mod tests;
 
 pub use filters::{Filter, Heading};
 pub use grids::{Grid, SegmentEnds};
