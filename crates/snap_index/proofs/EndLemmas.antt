@@ -1,8 +1,8 @@
 -- The lines of segments.
-use Rattle.std.proofs.Common.{◌≡◌, ℕ, List, sym, ap, ◌∙◌, get_or}
+use Rattle.std.proofs.Common.{◌≡◌, ℕ, List, ap, ◌∙◌}
 use Rattle.std.specs.Prelude.{Option, Some, None, option_map}
 use Rattle.std.specs.List.{slice_get}
-use Rattle.std.proofs.lemmas.Option.{slice_get-map, get_or_from_slice_get, same_Some}
+use Rattle.std.proofs.lemmas.Option.{same_Some, slice_get-map}
 use Rattle.road_base.specs.declared.coordinates.Point.{Point}
 use Rattle.edge_graph.specs.Segment.{Segment}
 use Rattle.snap_index.specs.Ends.{ends_of, all_ends}
@@ -19,13 +19,3 @@ by-ends (Some s) a b e =
 
 pub line-by_ends : (segments : List Segment) (k : ℕ) (a b : Point) → option_map {U = Point × Point} (λ s. (s.from, s.to)) (slice_get segments k) ≡ Some (a, b) → slice_get (all_ends segments) k ≡ Some (record { from = a; to = b })
 line-by_ends segments k a b e = slice_get-map ends_of segments k ∙ by-ends (slice_get segments k) a b e
-
--- the line of a segment is that of its number
-pub line-of : (segments : List Segment) (k : ℕ) (line : SegmentEnds) (segment : Segment) → slice_get (all_ends segments) k ≡ Some line → slice_get segments k ≡ Some segment → line ≡ ends_of segment
-line-of segments k line segment h is = same_Some line (ends_of segment) (sym h ∙ slice_get-map ends_of segments k ∙ ap (option_map ends_of) is)
-
--- what is read from the lines at a number is the line of that segment
-pub line-at : (segments : List Segment) (lines : List SegmentEnds) (k : ℕ) (line : SegmentEnds) (segment : Segment) → lines ≡ all_ends segments → slice_get segments k ≡ Some segment → line ≡ get_or lines k line → line ≡ ends_of segment
-line-at segments lines k line segment e is read =
-    let there : slice_get (all_ends segments) k ≡ Some (ends_of segment) = slice_get-map ends_of segments k ∙ ap (option_map ends_of) is in
-    read ∙ ap (λ (ls : List SegmentEnds). get_or ls k line) e ∙ get_or_from_slice_get (all_ends segments) k (ends_of segment) line there

@@ -1,6 +1,6 @@
 -- The places in the slots of a search.
-use Rattle.std.proofs.Common.{◌≡◌, ℕ, ◌+◌, ◌-◌, ◌<◌, ◌≤◌, ◌⊎◌, inl, inr, Bool, true, false, List, [], ◌∷◌, ◌++◌, length, drop, zero, suc, refl, sym, ap, subst, arith, ◌∙◌}
-use Rattle.std.specs.Prelude.{IfOk, Option, Some, None, Result, Ok, Err, nat_le, option_map}
+use Rattle.std.proofs.Common.{◌≡◌, ℕ, ◌+◌, ◌<◌, ◌≤◌, ◌⊎◌, inl, inr, true, false, List, [], ◌∷◌, ◌++◌, length, drop, suc, refl, sym, ap, subst, arith, ◌∙◌}
+use Rattle.std.specs.Prelude.{IfOk, Option, Some, None, Result, Ok, Err, option_map}
 use Rattle.std.specs.List.{AllByRecursion, slice_get}
 use Rattle.std.proofs.lemmas.Bool.Decides.{nat_tests}
 use Rattle.std.proofs.lemmas.List.{append_assoc}
@@ -11,11 +11,11 @@ use Rattle.geo_integer.specs.Project.{place_of, position_at, scalar_product}
 use Rattle.search_graph.specs.declared.costs.DurLen.{DurLen}
 use Rattle.search_graph.specs.Digraph.{Weighting}
 use Rattle.edge_graph.specs.Segment.{Segment}
-use Rattle.snap_index.specs.Candidates.{AreSlots, Ascend, IsCandidate, IsSlot, Precedes, PrecedesSlot, Stands, is_near, line_remoteness, places_found}
+use Rattle.snap_index.specs.Candidates.{AreSlots, Ascend, IsCandidate, IsSlot, PrecedesSlot, Stands, is_near, line_remoteness, places_found}
 use Rattle.snap_index.specs.Ends.{all_ends, ends_of}
 use Rattle.snap_index.specs.Firsts.{AreFirsts, AreInOrder, ComesBefore, IsAmong, IsBefore, IsFound}
 use Rattle.snap_index.specs.Index.{IsJudged}
-use Rattle.snap_index.specs.Kept.{HasDirection, IsInReach, IsKept, decimetres_between}
+use Rattle.snap_index.specs.Kept.{HasDirection, IsInReach, decimetres_between}
 use Rattle.snap_index.specs.Nearest.{nearest_on, nearest_spot, remoteness, remoteness_of, spot_on}
 use Rattle.snap_index.specs.Snapped.{ComesFirst, HasNoPlace, IsSnapped}
 use Rattle.snap_index.specs.declared.candidates.Candidate.{Candidate}

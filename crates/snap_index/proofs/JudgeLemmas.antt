@@ -8,21 +8,20 @@ use Rattle.std.proofs.lemmas.Bool.Decides.{nat_tests}
 use Rattle.std.proofs.lemmas.Int.{ints}
 use Rattle.std.proofs.lemmas.Nat.{div-mul-add, div-add-mod'}
 use Rattle.std.proofs.lemmas.Option.{same_Some, slice_get_within}
-use Rattle.geo_integer.specs.Plane.{cosine_between, plane_between}
+use Rattle.geo_integer.specs.Plane.{plane_between}
 use Rattle.geo_integer.specs.Position.{Position, position_of}
 use Rattle.geo_integer.specs.Project.{IsBetween, coordinate_at, part_of, place_of, position_at, scalar_product, share_of}
 use Rattle.list_lemmas.proofs.Between.{between-add, between-part}
 use Rattle.search_graph.specs.declared.costs.DurLen.{DurLen}
 use Rattle.search_graph.specs.Digraph.{Weighting}
-use Rattle.snap_index.specs.Candidates.{AreSlots, Ascend, IsCandidate, IsOnLine, IsOpenLine, LastIs, Stands, StandsOn, line_remoteness}
+use Rattle.snap_index.specs.Candidates.{Ascend, IsCandidate, IsOnLine, IsOpenLine, LastIs, Stands, StandsOn, line_remoteness}
 use Rattle.snap_index.specs.Index.{AreJudged, HasLine, IsFarther, IsJudged, IsLeastCosine, IsOrder, IsPassed, IsWithin}
 use Rattle.snap_index.specs.Kept.{IsInReach}
-use Rattle.snap_index.specs.Nearest.{remoteness}
 use Rattle.snap_index.specs.declared.candidates.Candidate.{Candidate}
 use Rattle.snap_index.specs.declared.extents.Extent.{Extent}
 use Rattle.snap_index.specs.declared.filters.Heading.{Heading}
 use Rattle.snap_index.specs.declared.grids.SegmentEnds.{SegmentEnds}
-use Rattle.snap_index.proofs.SlotLemmas.{behind-last, put-stands}
+use Rattle.snap_index.proofs.SlotLemmas.{behind-last}
 
 part-bound : (p n : ℕ) → p < n → (2048 * p + n) / (2 * n) ≤ 1024
 part-bound p n h =

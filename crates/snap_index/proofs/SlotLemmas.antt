@@ -1,8 +1,7 @@
 -- The slots of a search: how a candidate is put into them, and what stands in them.
-use Rattle.std.proofs.Common.{◌≡◌, ℕ, ◌+◌, ◌-◌, ◌<◌, ◌≤◌, ◌⊎◌, inl, inr, Bool, true, false, List, [], ◌∷◌, ◌++◌, length, take, drop, get_or, zero, suc, refl, sym, ap, subst, arith, ◌∙◌, add-one}
+use Rattle.std.proofs.Common.{◌≡◌, ℕ, ◌+◌, ◌-◌, ◌<◌, ◌≤◌, inl, inr, true, false, List, [], ◌∷◌, ◌++◌, length, take, drop, get_or, zero, suc, refl, sym, ap, subst, arith, ◌∙◌, add-one}
 use Rattle.std.specs.Prelude.{IfSome, Option, Some, None, nat_lt, ◌||◌, ◌&&◌, ◌==◌}
 use Rattle.std.specs.List.{AllByRecursion, slice_get}
-use Rattle.std.proofs.Math.Nat.{eq-or-lt_of_le}
 use Rattle.std.proofs.Math.ListN.{set}
 use Rattle.std.proofs.lemmas.Bool.{cases_lt}
 use Rattle.std.proofs.lemmas.Bool.Decides.{nat_tests}
@@ -13,7 +12,7 @@ use Rattle.list_lemmas.proofs.Gets.{get_some}
 use Rattle.geo_integer.specs.Position.{Position}
 use Rattle.search_graph.specs.declared.costs.DurLen.{DurLen}
 use Rattle.search_graph.specs.Digraph.{Weighting}
-use Rattle.snap_index.specs.Candidates.{AreSlots, Ascend, IsCandidate, IsEmptySlot, IsSlot, LastIs, Precedes, PrecedesSlot, Stands, StandsOn, is_before, is_same, with_candidate}
+use Rattle.snap_index.specs.Candidates.{AreSlots, Ascend, IsCandidate, IsEmptySlot, IsSlot, LastIs, Precedes, PrecedesSlot, Stands, is_before, is_same, with_candidate}
 use Rattle.snap_index.specs.Firsts.{ComesBefore}
 use Rattle.snap_index.specs.Index.{IsFarther}
 use Rattle.snap_index.specs.declared.candidates.Candidate.{Candidate}

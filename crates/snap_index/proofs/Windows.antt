@@ -1,12 +1,12 @@
 -- How far what lies within an extent is away at least.
-use Rattle.std.proofs.Common.{◌≡◌, ℕ, ◌+◌, ◌-◌, ◌*◌, ◌/◌, ◌<◌, ◌≤◌, inl, inr, arith, subst, sym, ap}
+use Rattle.std.proofs.Common.{◌≡◌, ℕ, ◌+◌, ◌-◌, ◌*◌, ◌/◌, ◌<◌, ◌≤◌, inl, inr, arith, subst, sym}
 use Rattle.std.specs.Prelude.{ℤ, pos, negsuc, ◌+ℤ◌, ◌-ℤ◌, min, unsigned_abs}
 use Rattle.std.proofs.Math.Nat.{mul-le-mul}
 use Rattle.std.proofs.lemmas.Nat.{div-add-mod', le-div}
 use Rattle.std.proofs.lemmas.Bool.{cases_lt}
 use Rattle.std.proofs.lemmas.Int.{ints}
 use Rattle.std.specs.Int.{int_div_euclid}
-use Rattle.geo_integer.specs.Plane.{cosine_between, cosine_of, middle_latitude, plane_between, plane_of, squared}
+use Rattle.geo_integer.specs.Plane.{cosine_between, cosine_of, middle_latitude, plane_of}
 use Rattle.geo_integer.specs.Position.{Position}
 use Rattle.snap_index.specs.Nearest.{remoteness}
 

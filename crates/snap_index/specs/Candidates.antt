@@ -1,6 +1,6 @@
 -- The crate's own: the first segments so far in a list of a set length, whatever radius is asked for. Segments
 -- are told by their lines here.
-use Rattle.std.specs.Prelude.{◌≡◌, ℕ, ◌-◌, ◌<◌, ◌&&◌, ◌||◌, ◌==◌, nat_le, nat_lt, if◌then◌else◌, ◌⊎◌, Bool, true, List, [], ◌∷◌, Option, Some, None, length}
+use Rattle.std.specs.Prelude.{◌≡◌, ℕ, ◌-◌, ◌&&◌, ◌||◌, ◌==◌, nat_le, nat_lt, if◌then◌else◌, ◌⊎◌, Bool, true, List, [], ◌∷◌, Option, Some, None, length}
 use Rattle.std.specs.List.{AllByRecursion, slice_get}
 use Rattle.geo_integer.specs.Position.{Position, position_of}
 use Rattle.geo_integer.specs.Project.{place_of, position_at}

@@ -1,5 +1,5 @@
 -- The crate's own: the index of a grid, and what it lets a search pass by.
-use Rattle.std.specs.Prelude.{◌≡◌, ℕ, ◌+◌, ◌/◌, ◌^◌, ◌<◌, ◌≤◌, ◌≤ℤ◌, ◌⊎◌, List, Option, Some, None, length}
+use Rattle.std.specs.Prelude.{◌≡◌, ℕ, ◌/◌, ◌^◌, ◌<◌, ◌≤◌, ◌≤ℤ◌, ◌⊎◌, List, Option, Some, None, length}
 use Rattle.std.specs.List.{slice_get}
 use Rattle.geo_integer.specs.Plane.{cosine_between}
 use Rattle.geo_integer.specs.Position.{Position, position_of}

@@ -1,6 +1,5 @@
-use Rattle.std.proofs.Common.{◌≡◌, ◌<◌, ◌∙◌, sym, length, arith}
+use Rattle.std.proofs.Common.{◌<◌, ◌∙◌, sym, length, arith}
 use Rattle.std.specs.Prelude.{Some, None}
-use Rattle.std.specs.List.{slice_get}
 use Rattle.snap_index.proofs.SlotLemmas.{put-end, read-is, same-step, step-before, step-behind, step-empty, step-same}
 use Rattle.snap_index.proofs.candidates.put.Goals as goal
 use Rattle.snap_index.proofs.candidates.put.Goals.{then-precedes, else-precedes+else-is_one}

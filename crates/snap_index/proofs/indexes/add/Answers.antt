@@ -1,6 +1,4 @@
 use Rattle.std.proofs.Common.{◌≡◌, ◌<◌, ◌/◌, sym, length, arith}
-use Rattle.std.specs.Prelude.{Some}
-use Rattle.std.specs.List.{slice_get}
 use Rattle.snap_index.proofs.IndexLemmas.{push-added, push-stays, set-added, set-stays}
 use Rattle.snap_index.proofs.SlotLemmas.{read-is}
 use Rattle.snap_index.proofs.indexes.add.Goals as goal

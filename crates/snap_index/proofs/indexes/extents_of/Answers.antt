@@ -1,11 +1,8 @@
-use Rattle.std.proofs.Common.{◌≡◌, ◌<◌, ◌/◌, ◌∙◌, inl, inr, arith, get_or, length, subst, sym, ap}
-use Rattle.std.specs.Prelude.{Some}
-use Rattle.std.specs.List.{slice_get}
+use Rattle.std.proofs.Common.{◌≡◌, ◌/◌, ◌∙◌, inl, inr, arith, get_or, subst, ap}
 use Rattle.std.proofs.lemmas.Bool.{cases_lt}
-use Rattle.std.proofs.lemmas.Option.{same_Some, slice_get_within, get_or_from_slice_get}
+use Rattle.std.proofs.lemmas.Option.{slice_get_within, get_or_from_slice_get}
 use Rattle.snap_index.specs.Index.{HasAt, HasLine}
 use Rattle.snap_index.specs.declared.grids.SegmentEnds.{SegmentEnds}
-use Rattle.snap_index.proofs.SlotLemmas.{read-is}
 use Rattle.snap_index.proofs.indexes.extents_of.Goals as goal
 
 pub loop-i-preserved : goal.loop-i-preserved

@@ -1,4 +1,4 @@
-use Rattle.std.proofs.Common.{◌≡◌, ◌<◌, ◌≤◌, ◌∙◌, ◌++◌, ◌∷◌, [], ℕ, List, ap, arith, length, subst, sym, take}
+use Rattle.std.proofs.Common.{◌<◌, ◌≤◌, ◌∙◌, ◌++◌, ◌∷◌, [], ℕ, List, ap, arith, length, subst, sym}
 use Rattle.std.proofs.lemmas.List.{length-map, take_all}
 use Rattle.list_lemmas.proofs.Fronts.{take-get}
 use Rattle.snap_index.specs.Index.{IsOrder}

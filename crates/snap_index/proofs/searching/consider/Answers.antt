@@ -1,6 +1,5 @@
-use Rattle.std.proofs.Common.{◌≡◌, ◌∙◌, List, subst, sym, true, false}
-use Rattle.std.specs.Prelude.{Option, Some}
-use Rattle.std.specs.List.{slice_get}
+use Rattle.std.proofs.Common.{◌≡◌, List, subst, sym, true, false}
+use Rattle.std.specs.Prelude.{Option}
 use Rattle.geo_integer.specs.Position.{position_of}
 use Rattle.snap_index.specs.Candidates.{AreSlots, IsOpenLine, Stands}
 use Rattle.snap_index.specs.declared.candidates.Candidate.{Candidate}

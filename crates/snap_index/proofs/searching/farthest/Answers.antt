@@ -1,7 +1,5 @@
-use Rattle.std.proofs.Common.{◌≡◌, ◌<◌, ◌≤◌, inl, inr, arith, subst, sym}
-use Rattle.std.specs.Prelude.{IfSome}
+use Rattle.std.proofs.Common.{◌<◌, inl, inr, arith, subst, sym}
 use Rattle.std.proofs.lemmas.Bool.{cases_lt}
-use Rattle.snap_index.specs.Candidates.{LastIs}
 use Rattle.snap_index.specs.Index.{IsFarther}
 use Rattle.snap_index.proofs.SlotLemmas.{behind-last}
 use Rattle.snap_index.proofs.searching.farthest.Goals as goal

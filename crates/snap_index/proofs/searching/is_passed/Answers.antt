@@ -1,4 +1,4 @@
-use Rattle.std.proofs.Common.{◌/◌, subst, sym}
+use Rattle.std.proofs.Common.{◌/◌, subst}
 use Rattle.std.proofs.lemmas.Option.{get_or_from_slice_get}
 use Rattle.geo_integer.specs.Position.{position_of}
 use Rattle.snap_index.specs.Index.{HasAt, IsBeyond}

@@ -1,6 +1,4 @@
-use Rattle.std.proofs.Common.{◌≡◌, ◌<◌, ◌∙◌, arith, length, subst, sym}
-use Rattle.std.specs.Prelude.{None, Some}
-use Rattle.std.specs.List.{slice_get}
+use Rattle.std.proofs.Common.{◌≡◌, ◌∙◌, subst, sym}
 use Rattle.std.proofs.lemmas.Option.{get_or_from_slice_get}
 use Rattle.geo_integer.specs.Position.{position_of}
 use Rattle.snap_index.specs.declared.grids.SegmentEnds.{SegmentEnds}

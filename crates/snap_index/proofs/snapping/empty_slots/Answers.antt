@@ -1,4 +1,4 @@
-use Rattle.std.proofs.Common.{◌≡◌, ◌∙◌, ◌∷◌, [], ap, arith, length, length-append, refl, List, subst, sym}
+use Rattle.std.proofs.Common.{◌∷◌, [], ap, arith, length, length-append, refl, List, subst, sym}
 use Rattle.std.specs.Prelude.{None, Option}
 use Rattle.std.specs.List.{AllByRecursion}
 use Rattle.snap_index.specs.Candidates.{IsEmptySlot}

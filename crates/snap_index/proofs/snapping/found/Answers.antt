@@ -1,4 +1,4 @@
-use Rattle.std.proofs.Common.{◌≡◌, ◌<◌, ◌≤◌, ◌∙◌, ◌++◌, ◌∷◌, [], ap, arith, length, subst, sym, true, false}
+use Rattle.std.proofs.Common.{◌≡◌, ◌<◌, ◌∙◌, ◌++◌, ◌∷◌, [], ap, arith, length, true, false}
 use Rattle.std.specs.Prelude.{None, Some}
 use Rattle.geo_integer.specs.Position.{position_of}
 use Rattle.snap_index.specs.Kept.{decimetres_between}

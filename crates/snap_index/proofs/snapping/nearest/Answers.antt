@@ -1,7 +1,6 @@
 use Rattle.std.proofs.Common.{◌≡◌, ◌<◌, ◌≤◌, ◌∙◌, ℕ, List, arith, ap, length, subst, sym}
 use Rattle.std.specs.Prelude.{None, Option}
 use Rattle.std.specs.List.{AllByRecursion}
-use Rattle.std.specs.Vec.{vec_len}
 use Rattle.geo_integer.specs.Position.{position_of}
 use Rattle.snap_index.specs.Candidates.{AreSlots, IsEmptySlot, places_found}
 use Rattle.snap_index.specs.Ends.{all_ends}

@@ -1,5 +1,5 @@
-use Rattle.std.proofs.Common.{◌≡◌, ◌<◌, ℕ, List, arith, length, subst, sym, true, false}
-use Rattle.std.specs.Prelude.{None, Some, Option}
+use Rattle.std.proofs.Common.{◌≡◌, ◌<◌, ℕ, List, arith, length, subst, true, false}
+use Rattle.std.specs.Prelude.{None, Some}
 use Rattle.geo_integer.specs.Position.{position_of}
 use Rattle.snap_index.specs.Candidates.{AreSlots}
 use Rattle.snap_index.specs.Ends.{all_ends}
