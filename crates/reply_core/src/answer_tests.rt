@@ -12,7 +12,7 @@ use metric_publish::local_board::LocalBoard;
 use reply_texts::Code;
 use road_base::{Ids, Node, Object, Point, Tags, Way};
 use snap_index::Grid;
-use std::alloc::Global;
+use std::alloc::{AllocError, Global};
 use std::sync::Arc;
 use std::thread::Threads;
 use way_profile::Profile;
@@ -480,6 +480,11 @@ fn each_service_is_answered(rt: HostRuntime) -> Result<(), ReplyFault> {
         ),
         (
             SQUARE,
+            "/route/v1/car/0,0;0.001,0.001?overview=false&skip_waypoints=true",
+            "\"routes\":[{\"distance\":222.2,\"duration\":19.8,\"weight\":19.8,\"weight_name\":\"duration\",\"legs\":[{\"distance\":222.2,\"duration\":19.8,\"weight\":19.8,\"summary\":\"\",\"steps\":[]}]}]}",
+        ),
+        (
+            SQUARE,
             "/table/v1/car/0,0;0.001,0.001?skip_waypoints=true",
             "{\"code\":\"Ok\",\"data_version\":\"7\",\"durations\":[[0.0,19.8],[19.8,0.0]]}",
         ),
@@ -516,6 +521,41 @@ fn each_service_is_answered(rt: HostRuntime) -> Result<(), ReplyFault> {
     ] {
         let answer = ask(&rt, rt.alloc(), town, Asked::Target(target))?;
         assert!(rt; answer.text.as_str().ends_with(end), "{target}");
+    }
+    Ok(())
+}
+
+// The steps of an encoded line, latitude and longitude in turn, as Google's page reads them: five bits a
+// character, the lowest first, the lowest bit of a number for its sign.
+fn steps_of(alloc: Global, line: &[u8]) -> Result<Vec<i64>, AllocError> {
+    let mut steps = Vec::new(alloc);
+    let mut number = 0_u32;
+    let mut weight = 1_u32;
+    for character in line {
+        let bits = u32::from(character.wrapping_sub(63));
+        number = number.wrapping_add((bits % 32).wrapping_mul(weight));
+        weight = weight.wrapping_mul(32);
+        if bits < 32 {
+            let half = i64::from(number / 2);
+            steps.push(if number % 2 == 1 { -half - 1 } else { half })?;
+            number = 0;
+            weight = 1;
+        }
+    }
+    Ok(steps)
+}
+
+#[test]
+fn an_encoded_line_is_read_by_another_decoder(rt: HostRuntime) -> Result<(), ReplyFault> {
+    for (form, line, steps) in [
+        ("polyline6", "??o}@??o}@", [0, 0, 1000, 0, 0, 1000]),
+        ("polyline", "??gE??gE", [0, 0, 100, 0, 0, 100]),
+    ] {
+        let mut target = String::from_str(rt.alloc(), "/route/v1/car/0,0;0.001,0.001?geometries=")?;
+        target.push_str(form)?;
+        let answer = ask(&rt, rt.alloc(), CORNER, Asked::Target(target.as_str()))?;
+        assert!(rt; answer.text.as_str().contains(line));
+        assert_eq!(rt; steps_of(rt.alloc(), line.as_bytes())?.as_slice(), steps.as_slice());
     }
     Ok(())
 }

@@ -92,6 +92,24 @@ fn two_requests_are_answered_in_any_pieces(rt: HostRuntime) -> Result<(), AllocE
     Ok(())
 }
 
+/// A request for the nearest place, twice.
+const NEAREST_TWICE: &[u8] =
+    b"GET /nearest/v1/car/0,0 HTTP/1.1\r\nHost: a\r\n\r\nGET /nearest/v1/car/0,0 HTTP/1.1\r\nHost: a\r\n\r\n";
+
+/// The replies to both.
+const NEAREST_REPLIES: &[u8] =
+    b"HTTP/1.1 200 OK\r\nContent-Type: application/json; charset=utf-8\r\nContent-Length: 118\r\nConnection: keep-alive\r\n\r\n{\"code\":\"Ok\",\"data_version\":\"0\",\"waypoints\":[{\"nodes\":[1,2],\"distance\":0.0,\"name\":\"\",\"location\":[0.000000,0.000000]}]}HTTP/1.1 200 OK\r\nContent-Type: application/json; charset=utf-8\r\nContent-Length: 118\r\nConnection: keep-alive\r\n\r\n{\"code\":\"Ok\",\"data_version\":\"0\",\"waypoints\":[{\"nodes\":[1,2],\"distance\":0.0,\"name\":\"\",\"location\":[0.000000,0.000000]}]}";
+
+#[test]
+fn the_nearest_place_is_answered_twice(rt: HostRuntime) -> Result<(), AllocError> {
+    for piece in [NEAREST_TWICE.len(), 1] {
+        let (ended, output) = served(&rt, rt.alloc(), NEAREST_TWICE, piece, ROOM)?;
+        assert_eq!(rt; ended, Ended::EndOfInput);
+        assert_eq!(rt; output.as_slice(), NEAREST_REPLIES);
+    }
+    Ok(())
+}
+
 /// A head of so many bytes, padded by a field.
 fn head_of_size(alloc: Global, size: usize) -> Result<Vec<u8>, AllocError>
     requires { 30 ≤ size }

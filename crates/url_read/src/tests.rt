@@ -224,7 +224,7 @@ fn a_request_has_its_points_in_order(rt: HostRuntime) {
 fn a_polyline_has_points_too(rt: HostRuntime) {
     let targets: [&[u8]; 2] = [
         b"/route/v1/car/polyline(??gEgE)?overview=false",
-        b"/route/v1/car/polyline6%28??o}@o}@).json",
+        b"/route/v1/car/polyline6(??o}%40o}@).json",
     ];
     for target in targets {
         let asked = request(rt.alloc(), target).ok().expect(&rt, "a request");
