@@ -1,0 +1,4 @@
+pub mod Fields
+pub mod Files
+pub mod Numbers
+pub mod Rows
