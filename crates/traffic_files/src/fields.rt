@@ -10,28 +10,28 @@ use decimal_text::{id, microdegrees};
 
 // The field at a place without the blanks round it, nothing where there is none.
 #[tactic(auto, unfolding(crate::specs::Fields::without_blanks))]
-pub(crate) fn text_at(record: &ByteRecord, place: usize) -> &[u8]
-    ensures { result.now ≡ text_at (fields_of record.now) place }
+pub(crate) fn text_at(fields: &ByteRecord, place: usize) -> &[u8]
+    ensures { result.now ≡ text_at (fields_of fields.now) place }
 {
-    match record.get(place) {
+    match fields.get(place) {
         Some(field) => trim_end(trim_start(field)),
         None => &[],
     }
 }
 
 // The id that the field at a place writes.
-pub(crate) fn id_at(record: &ByteRecord, place: usize) -> Option<i64>
-    ensures { result ≡ id_of (text_at (fields_of record.now) place) }
+pub(crate) fn id_at(fields: &ByteRecord, place: usize) -> Option<i64>
+    ensures { result ≡ id_of (text_at (fields_of fields.now) place) }
 {
-    id(text_at(record, place))
+    id(text_at(fields, place))
 }
 
 // Whether the field at a place, which nobody uses, is absent or a decimal.
 #[tactic(auto, unfolding(decimal_text::specs::Decimal::microdegrees_of))]
-pub(crate) fn is_unused_at(record: &ByteRecord, place: usize) -> bool
-    ensures { result ≡ is_unused_at (fields_of record.now) place }
+pub(crate) fn is_unused_at(fields: &ByteRecord, place: usize) -> bool
+    ensures { result ≡ is_unused_at (fields_of fields.now) place }
 {
-    record.len() <= place || microdegrees(text_at(record, place)).is_some()
+    fields.len() <= place || microdegrees(text_at(fields, place)).is_some()
 }
 
 // The text from its first byte that is no blank.

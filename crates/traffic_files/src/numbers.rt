@@ -3,7 +3,7 @@
 ghost use Rattle.std.specs.Prelude.{◌≡◌, ◌≤◌, ◌++◌, take, codes, min, true, false, MatchOption, position};
 ghost use Rattle.std.specs.Char.{is_ascii_digit};
 ghost use Rattle.std.specs.List.{list_all};
-ghost use Rattle.std.specs.Str.Parse.{digits_value_after};
+ghost use Rattle.std.specs.Str.Parse.{digits_value, digits_value_after};
 ghost use Rattle.decimal_text.specs.Numeral.{is_numeral};
 ghost use Rattle.decimal_text.specs.Decimal.{is_point, is_unsigned_decimal, ArePartsOf};
 ghost use Rattle.traffic_files.specs.Numbers.{limited, scaled, scaled_of};
@@ -23,9 +23,25 @@ pub(crate) fn scaled_in(text: &[u8], kept: usize) -> Option<Option<u32>>
     ensures { result ≡ scaled_of kept text.now }
 {
     match parts(text) {
-        Some((whole, fraction)) => Some(limited(joined(whole, fraction, kept))),
+        Some((whole, fraction)) => Some(joined(whole, fraction, kept)),
         None => None,
     }
+}
+
+// The number that these digits before and behind a point make, if it is not above the greatest.
+fn joined(whole: &[u8], fraction: &[u8], kept: usize) -> Option<u32>
+    requires whole_digits { list_all (λ b. is_ascii_digit b) whole.now ≡ true }
+    requires fraction_digits { list_all (λ b. is_ascii_digit b) fraction.now ≡ true }
+    requires few { kept ≤ 3 }
+    ensures { result ≡ limited (digits_value 10 (whole.now ++ take kept (fraction.now ++ codes "000"))) }
+{
+    let written = fraction.len().min(kept);
+    let (present, _) = fraction.split_at(written);
+    let (absent, _) = ABSENT_DIGITS.split_at(kept - written);
+    let units = append_digits(0, whole, TOO_GREAT);
+    let with_present = append_digits(units, present, TOO_GREAT);
+    let number = append_digits(with_present, absent, TOO_GREAT);
+    limited(number)
 }
 
 // The number if it is not above the greatest.
@@ -39,31 +55,17 @@ fn limited(number: u64) -> Option<u32>
     }
 }
 
-// The number that these digits before and behind a point make.
-fn joined(whole: &[u8], fraction: &[u8], kept: usize) -> u64
-    requires whole_digits { list_all (λ b. is_ascii_digit b) whole.now ≡ true }
-    requires fraction_digits { list_all (λ b. is_ascii_digit b) fraction.now ≡ true }
-    requires few { kept ≤ 3 }
-    ensures { result ≡ min (digits_value_after 10 0 (whole.now ++ take kept (fraction.now ++ codes "000"))) 1000001 }
-{
-    let (present, _) = fraction.split_at(fraction.len().min(kept));
-    let (absent, _) = ABSENT_DIGITS.split_at(kept - fraction.len().min(kept));
-    let units = append_digits(0, whole);
-    let with_present = append_digits(units, present);
-    append_digits(with_present, absent)
-}
-
-// The number that is written by the digits of `number` with these digits behind them, or the first that is too
-// great where it is above that.
-fn append_digits(number: u64, digits: &[u8]) -> u64
+// The number that is written by the digits of `number` with these digits behind them, but `limit` where
+// it is above that.
+fn append_digits(number: u64, digits: &[u8], limit: u64) -> u64
     requires are_digits { list_all (λ b. is_ascii_digit b) digits.now ≡ true }
-    requires within { number ≤ 1000001 }
-    ensures { result ≡ min (digits_value_after 10 number digits.now) 1000001 }
+    requires within { number ≤ limit }
+    ensures { result ≡ min (digits_value_after 10 number digits.now) limit }
 {
     let mut number = number;
     for digit in digits {
         let more = u64::from(*digit - b'0');
-        number = (number * 10 + more).min(TOO_GREAT);
+        number = number.saturating_mul(10).saturating_add(more).min(limit);
     }
     number
 }
@@ -103,5 +105,12 @@ fn point_in(bytes: &[u8]) -> Option<usize>
 fn is_numeral(bytes: &[u8]) -> bool
     ensures { result ≡ is_numeral bytes.now }
 {
-    !bytes.is_empty() && bytes.iter().all(|b| b.is_ascii_digit())
+    !bytes.is_empty() && are_digits(bytes)
+}
+
+// Whether each of these bytes is a digit.
+fn are_digits(bytes: &[u8]) -> bool
+    ensures { result ≡ list_all (λ b. is_ascii_digit b) bytes.now }
+{
+    bytes.iter().all(|b| b.is_ascii_digit())
 }

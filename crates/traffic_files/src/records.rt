@@ -15,16 +15,16 @@ use csv::ByteRecord;
 const SLOWEST: u32 = 1000;
 
 // The row that a record of a speeds file stands for.
-pub(crate) fn speed_row(record: &ByteRecord) -> Result<SpeedRow, RowKind>
-    ensures { result ≡ speed_row_of (fields_of record.now) }
+pub(crate) fn speed_row(fields: &ByteRecord) -> Result<SpeedRow, RowKind>
+    ensures { result ≡ speed_row_of (fields_of fields.now) }
 {
-    if record.len() < 3 || record.len() > 4 {
+    if fields.len() < 3 || fields.len() > 4 {
         return Err(RowKind::BadCount);
     }
-    let (Some(from), Some(to)) = (id_at(record, 0), id_at(record, 1)) else {
+    let (Some(from), Some(to)) = (id_at(fields, 0), id_at(fields, 1)) else {
         return Err(RowKind::BadId);
     };
-    match (scaled_in(text_at(record, 2), 3), is_unused_at(record, 3)) {
+    match (scaled_in(text_at(fields, 2), 3), is_unused_at(fields, 3)) {
         (Some(Some(speed)), true) => Ok(SpeedRow { from, to, speed: kept_speed(speed) }),
         (Some(None), true) => Err(RowKind::OutOfRange),
         _ => Err(RowKind::BadNumber),
@@ -39,16 +39,16 @@ fn kept_speed(speed: u32) -> u32
 }
 
 // The row that a record of a turns file stands for.
-pub(crate) fn turn_row(record: &ByteRecord) -> Result<TurnRow, RowKind>
-    ensures { result ≡ turn_row_of (fields_of record.now) }
+pub(crate) fn turn_row(fields: &ByteRecord) -> Result<TurnRow, RowKind>
+    ensures { result ≡ turn_row_of (fields_of fields.now) }
 {
-    if record.len() < 4 || record.len() > 5 {
+    if fields.len() < 4 || fields.len() > 5 {
         return Err(RowKind::BadCount);
     }
-    let (Some(from), Some(via), Some(to)) = (id_at(record, 0), id_at(record, 1), id_at(record, 2)) else {
+    let (Some(from), Some(via), Some(to)) = (id_at(fields, 0), id_at(fields, 1), id_at(fields, 2)) else {
         return Err(RowKind::BadId);
     };
-    match (penalty_in(text_at(record, 3)), is_unused_at(record, 4)) {
+    match (penalty_in(text_at(fields, 3)), is_unused_at(fields, 4)) {
         (Some(Some(penalty)), true) => Ok(TurnRow { from, via, to, penalty }),
         (Some(None), true) => Err(RowKind::OutOfRange),
         _ => Err(RowKind::BadNumber),
