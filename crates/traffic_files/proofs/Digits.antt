@@ -46,7 +46,10 @@ kept_digits (suc (suc zero)) few fraction = kept_two fraction
 kept_digits (suc (suc (suc zero))) few fraction = kept_three fraction
 kept_digits (suc (suc (suc (suc n)))) few fraction = absurd (omega (arith, few))
 
-take-none : (n : ℕ) → take n ([] : List ℕ) ≡ []
+abbrev nothing : List ℕ
+nothing = []
+
+take-none : (n : ℕ) → take n nothing ≡ nothing
 take-none zero = refl
 take-none (suc n) = refl
 

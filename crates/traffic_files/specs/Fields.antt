@@ -5,7 +5,7 @@ use Rattle.decimal_text.specs.Numeral.{without_minus}
 use Rattle.decimal_text.specs.Decimal.{is_unsigned_decimal}
 
 -- a text from its first byte that is no blank
-unfoldable pub skip_blanks : List ℕ → List ℕ
+abbrev pub skip_blanks : List ℕ → List ℕ
 skip_blanks [] = []
 skip_blanks (b ∷ rest) = if b == 32 then skip_blanks rest else b ∷ rest
 
