@@ -50,4 +50,3 @@ three_runs whole present absent limit first second third a b c =
     ∙ ap (λ v. min (digits_value_after 10 v (present ++ absent)) limit) a
     ∙ digits_value_after-min (digits_value_after 10 0 whole) limit (present ++ absent)
     ∙ ap (λ v. min v limit) (sym (digits_value_after-append 0 whole (present ++ absent)))
-

@@ -1,5 +1,5 @@
 -- The digits that are kept behind a point, zeros where none is written, and numbers that are held within the limit.
-use Rattle.std.proofs.Common.{◌≡◌, ℕ, zero, suc, ◌-◌, ◌≤◌, min, Bool, List, [], ◌∷◌, ◌++◌, true, false, length, take, refl, sym, ◌∙◌, subst, ap, codes, arith, cond, Option, Some, None}
+use Rattle.std.proofs.Common.{◌≡◌, ℕ, zero, suc, ◌-◌, ◌≤◌, min, Bool, List, [], ◌∷◌, ◌++◌, true, false, length, take, refl, sym, ◌∙◌, subst, ap, codes, arith, cond, Some, None}
 use Rattle.std.specs.Prelude.{nat_le}
 use Rattle.std.specs.Char.{is_ascii_digit}
 use Rattle.std.specs.List.{list_all}

@@ -1,6 +1,6 @@
 -- One more record, and how many there are.
-use Rattle.std.proofs.Common.{◌≡◌, ℕ, List, [], ◌∷◌, ◌++◌, length, map, sym, ◌∙◌, ap, ap₂}
-use Rattle.std.specs.Prelude.{Result, Ok, Err}
+use Rattle.std.proofs.Common.{◌≡◌, List, [], ◌∷◌, ◌++◌, length, sym, ◌∙◌, ap, ap₂}
+use Rattle.std.specs.Prelude.{Result, Ok}
 use Rattle.std.proofs.lemmas.List.{map-append, length-map}
 use Rattle.traffic_files.specs.Files.{Record, StandFor}
 use Rattle.traffic_files.specs.declared.rows.RowKind.{RowKind}

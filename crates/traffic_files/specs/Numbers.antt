@@ -1,5 +1,5 @@
 -- Decimals of traffic files. How many digits are kept, and what is too great, is this project's rule.
-use Rattle.std.specs.Prelude.{ℕ, Bool, List, ◌++◌, take, codes, nat_le, Option, Some, None, option_map, if◌then◌else◌}
+use Rattle.std.specs.Prelude.{ℕ, List, ◌++◌, take, codes, nat_le, Option, Some, None, option_map, if◌then◌else◌}
 use Rattle.std.specs.Str.Parse.{digits_value, starts_with_minus}
 use Rattle.decimal_text.specs.Numeral.{without_minus}
 use Rattle.decimal_text.specs.Decimal.{before_point, after_point, is_unsigned_decimal}

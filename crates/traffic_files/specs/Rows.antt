@@ -1,5 +1,5 @@
 -- What a record of a traffic file stands for (OSRM's traffic files; the order of the faults is this project's rule).
-use Rattle.std.specs.Prelude.{ℕ, ℤ, ◌==◌, Bool, true, false, not, ◌&&◌, List, length, max, nat_le, Option, Some, None, Result, Ok, Err, if◌then◌else◌}
+use Rattle.std.specs.Prelude.{ℕ, ℤ, ◌==◌, Bool, true, ◌&&◌, List, length, max, nat_le, Option, Some, None, Result, Ok, Err, if◌then◌else◌}
 use Rattle.decimal_text.specs.ObjectId.{id_of}
 use Rattle.traffic_files.specs.Fields.{text_at, is_unused_at}
 use Rattle.traffic_files.specs.Numbers.{speed_of, penalty_of}
@@ -23,7 +23,7 @@ speed_judged from to speed rate = Err BadId
 abbrev pub speed_row_of : List (List ℕ) → Result SpeedRow RowKind
 speed_row_of fields =
     if nat_le 3 (length fields) && nat_le (length fields) 4 then
-      speed_judged (id_of (text_at fields 0)) (id_of (text_at fields 1)) (speed_of (text_at fields 2)) (is_unused_at fields 3)
+    speed_judged (id_of (text_at fields 0)) (id_of (text_at fields 1)) (speed_of (text_at fields 2)) (is_unused_at fields 3)
     else Err BadCount
 
 -- of three ids, a penalty, and whether the field behind them is fine
@@ -37,5 +37,5 @@ turn_judged from via to penalty weight = Err BadId
 abbrev pub turn_row_of : List (List ℕ) → Result TurnRow RowKind
 turn_row_of fields =
     if nat_le 4 (length fields) && nat_le (length fields) 5 then
-      turn_judged (id_of (text_at fields 0)) (id_of (text_at fields 1)) (id_of (text_at fields 2)) (penalty_of (text_at fields 3)) (is_unused_at fields 4)
+    turn_judged (id_of (text_at fields 0)) (id_of (text_at fields 1)) (id_of (text_at fields 2)) (penalty_of (text_at fields 3)) (is_unused_at fields 4)
     else Err BadCount

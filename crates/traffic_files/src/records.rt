@@ -25,7 +25,11 @@ pub(crate) fn speed_row(fields: &ByteRecord) -> Result<SpeedRow, RowKind>
         return Err(RowKind::BadId);
     };
     match (scaled_in(text_at(fields, 2), 3), is_unused_at(fields, 3)) {
-        (Some(Some(speed)), true) => Ok(SpeedRow { from, to, speed: kept_speed(speed) }),
+        (Some(Some(speed)), true) => Ok(SpeedRow {
+            from,
+            to,
+            speed: kept_speed(speed),
+        }),
         (Some(None), true) => Err(RowKind::OutOfRange),
         _ => Err(RowKind::BadNumber),
     }
@@ -45,11 +49,17 @@ pub(crate) fn turn_row(fields: &ByteRecord) -> Result<TurnRow, RowKind>
     if fields.len() < 4 || fields.len() > 5 {
         return Err(RowKind::BadCount);
     }
-    let (Some(from), Some(via), Some(to)) = (id_at(fields, 0), id_at(fields, 1), id_at(fields, 2)) else {
+    let (Some(from), Some(via), Some(to)) = (id_at(fields, 0), id_at(fields, 1), id_at(fields, 2))
+    else {
         return Err(RowKind::BadId);
     };
     match (penalty_in(text_at(fields, 3)), is_unused_at(fields, 4)) {
-        (Some(Some(penalty)), true) => Ok(TurnRow { from, via, to, penalty }),
+        (Some(Some(penalty)), true) => Ok(TurnRow {
+            from,
+            via,
+            to,
+            penalty,
+        }),
         (Some(None), true) => Err(RowKind::OutOfRange),
         _ => Err(RowKind::BadNumber),
     }

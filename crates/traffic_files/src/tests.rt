@@ -1,6 +1,8 @@
 //! Rows by hand, from what the formats of OSRM's traffic files and this project's rules say.
 
-use crate::{RowFault, RowKind, SpeedRow, TrafficFault, TrafficFile, TurnRow, read_speeds, read_turns};
+use crate::{
+    RowFault, RowKind, SpeedRow, TrafficFault, TrafficFile, TurnRow, read_speeds, read_turns,
+};
 use std::test::Fail;
 
 #[test]
@@ -8,11 +10,31 @@ fn speeds_are_read(rt: HostRuntime) -> Result<(), Fail> {
     let text = b"1,2,20\r\n\n 3 ,-4, 0.9999 ,1\n5,6,0.0004\n\"7\",8,1000.0009,-2.5\n9,10,0";
     let rows = read_speeds(rt.alloc(), text)?;
     let expected = [
-        SpeedRow { from: 1, to: 2, speed: 20000 },
-        SpeedRow { from: 3, to: -4, speed: 1000 },
-        SpeedRow { from: 5, to: 6, speed: 0 },
-        SpeedRow { from: 7, to: 8, speed: 1000000 },
-        SpeedRow { from: 9, to: 10, speed: 0 },
+        SpeedRow {
+            from: 1,
+            to: 2,
+            speed: 20000,
+        },
+        SpeedRow {
+            from: 3,
+            to: -4,
+            speed: 1000,
+        },
+        SpeedRow {
+            from: 5,
+            to: 6,
+            speed: 0,
+        },
+        SpeedRow {
+            from: 7,
+            to: 8,
+            speed: 1000000,
+        },
+        SpeedRow {
+            from: 9,
+            to: 10,
+            speed: 0,
+        },
     ];
     assert!(rt; rows.as_slice() == expected.as_slice());
     Ok(())
@@ -20,12 +42,35 @@ fn speeds_are_read(rt: HostRuntime) -> Result<(), Fail> {
 
 #[test]
 fn turns_are_read(rt: HostRuntime) -> Result<(), Fail> {
-    let rows = read_turns(rt.alloc(), b"1,2,3,12\n1,2,3,4.59,1\n1,2,-3,-0.5\n1,2,3,100000.09")?;
+    let rows = read_turns(
+        rt.alloc(),
+        b"1,2,3,12\n1,2,3,4.59,1\n1,2,-3,-0.5\n1,2,3,100000.09",
+    )?;
     let expected = [
-        TurnRow { from: 1, via: 2, to: 3, penalty: 120 },
-        TurnRow { from: 1, via: 2, to: 3, penalty: 45 },
-        TurnRow { from: 1, via: 2, to: -3, penalty: 0 },
-        TurnRow { from: 1, via: 2, to: 3, penalty: 1000000 },
+        TurnRow {
+            from: 1,
+            via: 2,
+            to: 3,
+            penalty: 120,
+        },
+        TurnRow {
+            from: 1,
+            via: 2,
+            to: 3,
+            penalty: 45,
+        },
+        TurnRow {
+            from: 1,
+            via: 2,
+            to: -3,
+            penalty: 0,
+        },
+        TurnRow {
+            from: 1,
+            via: 2,
+            to: 3,
+            penalty: 1000000,
+        },
     ];
     assert!(rt; rows.as_slice() == expected.as_slice());
     Ok(())
@@ -51,7 +96,11 @@ fn the_first_faulty_speed_is_told(rt: HostRuntime) {
         (b"1,2,1000000000000000000000", 1, RowKind::OutOfRange),
     ];
     for (text, row, kind) in cases {
-        let expected = RowFault { file: TrafficFile::Speeds, row, kind };
+        let expected = RowFault {
+            file: TrafficFile::Speeds,
+            row,
+            kind,
+        };
         assert!(rt; read_speeds(rt.alloc(), text) == Err(TrafficFault::Row(expected)));
     }
 }
@@ -67,7 +116,11 @@ fn the_first_faulty_turn_is_told(rt: HostRuntime) {
         (b"1,2,3,100000.1", 1, RowKind::OutOfRange),
     ];
     for (text, row, kind) in cases {
-        let expected = RowFault { file: TrafficFile::Turns, row, kind };
+        let expected = RowFault {
+            file: TrafficFile::Turns,
+            row,
+            kind,
+        };
         assert!(rt; read_turns(rt.alloc(), text) == Err(TrafficFault::Row(expected)));
     }
 }

@@ -37,9 +37,17 @@ loop-record-preserved c =
     let s = rw (c.in-Some.is, c.in-Ok.is) at ((c.next.ensures.steps inv.2 inv.0).0 inv.1) in
     let fields = fields_of c.in-Ok.record in
     let m = rows-more (λ (s : Bor (List ℕ)). Some s.now) c.loop-record.record-iterator.rdr c.next.new.self.rdr fields default_config st.StartRecord (strip_bom c.args.bytes.now) inv.5 inv.4 inv.3 inv.6 inv.7 s.0 in
-    let read : turn_row_of fields ≡ Ok c.in-Ok-turn_row.row = search rules in
-    (s.0.3 ∙ inv.0, inl s.1, s.2, s.0.2 ∙ inv.3, inv.4 ++ (fields ∷ []), m.0, m.1, m.2,
-      rw c.in_ok-push-in-Ok-turn_row.ensures.items (StandFor-more turn_row_of inv.4 c.loop-record.rows.items inv.8 fields c.in-Ok-turn_row.row read))
+    let read : turn_row_of fields ≡ Ok c.in-Ok-turn_row.row = search rules in (
+      s.0.3 ∙ inv.0,
+      inl s.1,
+      s.2,
+      s.0.2 ∙ inv.3,
+      inv.4 ++ (fields ∷ []),
+      m.0,
+      m.1,
+      m.2,
+      rw c.in_ok-push-in-Ok-turn_row.ensures.items (StandFor-more turn_row_of inv.4 c.loop-record.rows.items inv.8 fields c.in-Ok-turn_row.row read),
+    )
 
 pub returns-in-Err-clause-fault : goal.returns-in-Err-clause-fault
 returns-in-Err-clause-fault c =
