@@ -1,0 +1,5 @@
+pub mod Fields
+pub mod Files
+pub mod Numbers
+pub mod OneReading
+pub mod Rows
