@@ -555,7 +555,10 @@ fn an_encoded_line_is_read_by_another_decoder(rt: HostRuntime) -> Result<(), Rep
         target.push_str(form)?;
         let answer = ask(&rt, rt.alloc(), CORNER, Asked::Target(target.as_str()))?;
         assert!(rt; answer.text.as_str().contains(line));
-        assert_eq!(rt; steps_of(rt.alloc(), line.as_bytes())?.as_slice(), steps.as_slice());
+        assert_eq!(rt;
+            steps_of(rt.alloc(), line.as_bytes())?.as_slice(),
+            steps.as_slice()
+        );
     }
     Ok(())
 }
