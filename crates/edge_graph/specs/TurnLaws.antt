@@ -1,9 +1,9 @@
 -- A law of the turns: none stands twice, since they rise by the first vertex and then the second.
-use Rattle.std.proofs.Common.{◌≡◌, ◌<◌, ◌≤◌, ◌⊎◌, inl, inr, ℕ, zero, suc, ◌+◌, List, [], ◌∷◌, ◌++◌, Bool, true, false, cond, map, filter, Some, arith, ap, refl, sym, subst}
+use Rattle.std.proofs.Common.{◌≡◌, ◌<◌, ◌≤◌, ◌⊎◌, inl, inr, ℕ, zero, suc, ◌+◌, List, [], ◌∷◌, ◌++◌, Bool, true, false, cond, map, filter, Some, arith, ap, refl, subst}
 use Rattle.std.specs.List.{enumerate_from, flat_map, slice_get}
 use Rattle.std.proofs.lemmas.Option.{same_Some}
 use Rattle.turn_rules.specs.Rules.{Rule}
-use Rattle.edge_graph.specs.Turn.{IsSimple, is_turn, numbered, turns, turns_from}
+use Rattle.edge_graph.specs.Turn.{IsSimple, is_turn, turns, turns_from}
 use Rattle.edge_graph.specs.Vertex.{Vertex}
 
 -- the pair is (d, e) or behind it, by the first number and then the second
