@@ -1,5 +1,5 @@
 -- What stands at a place of the list of vertices.
-use Rattle.std.proofs.Common.{◌≡◌, ℕ, zero, suc, ◌+◌, ◌*◌, ◌<◌, ◌/◌, ◌%◌, List, [], ◌∷◌, length, get_or, Option, Some, arith, refl, sym, ap, subst, ◌∙◌, ◌≢◌, inl, inr, All}
+use Rattle.std.proofs.Common.{◌≡◌, ℕ, zero, suc, ◌*◌, ◌<◌, ◌/◌, ◌%◌, List, [], ◌∷◌, length, get_or, Option, Some, arith, refl, sym, ap, subst, ◌∙◌, ◌≢◌, inl, inr, All}
 use Rattle.std.specs.Prelude.{option_map, unwrap_or}
 use Rattle.std.specs.List.{slice_get}
 use Rattle.std.proofs.lemmas.Option.{same_Some, slice_get-map, slice_get_read}
@@ -7,7 +7,7 @@ use Rattle.std.proofs.lemmas.Bool.{cases_eq}
 use Rattle.std.proofs.lemmas.List.{length-map}
 use Rattle.way_profile.specs.Vehicle.{IsSpeed}
 use Rattle.edge_graph.specs.Rows.{AreRows, no_street, segment_in, segments_in, street_at}
-use Rattle.edge_graph.specs.Laws.{length-vertices, vertices-even, vertices-odd}
+use Rattle.edge_graph.specs.Laws.{vertices-even, vertices-odd}
 use Rattle.edge_graph.specs.Segment.{Segment}
 use Rattle.edge_graph.specs.Vertex.{Vertex, along, against, vertices}
 use Rattle.edge_graph.specs.declared.roads.Row.{Row}

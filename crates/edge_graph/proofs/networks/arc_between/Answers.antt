@@ -1,8 +1,7 @@
-use Rattle.std.proofs.Common.{◌≡◌, ℕ, ◌<◌, Some, length, sym, ◌∙◌, ap, rules}
-use Rattle.std.specs.List.{Contains, slice_get}
+use Rattle.std.proofs.Common.{◌≡◌, ℕ, ◌<◌, length, sym, ◌∙◌, ap, rules}
 use Rattle.std.proofs.lemmas.Option.{slice_get_within, same_Some}
 use Rattle.list_lemmas.proofs.Gets.{Contains_get, get_Contains}
-use Rattle.search_graph.specs.Digraph.{IsArc, Leaves}
+use Rattle.search_graph.specs.Digraph.{Leaves}
 use Rattle.edge_graph.proofs.networks.arc_between.Goals as goal
 
 pub arc-requires : goal.arc-requires
