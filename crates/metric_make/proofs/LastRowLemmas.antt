@@ -1,17 +1,18 @@
 -- The rows of a file by the nodes that they are for, and which of them are matched.
-use Rattle.std.proofs.Common.{◌≡◌, ℕ, zero, suc, ◌+◌, ◌-◌, ◌<◌, ◌≤◌, Bool, true, false, cond, List, [], ◌∷◌, ◌++◌, length, get_or, take, reverse, Option, Some, None, arith, refl, sym, ap, ◌∙◌}
+use Rattle.std.proofs.Common.{◌≡◌, ℕ, zero, suc, ◌+◌, ◌-◌, ◌<◌, ◌≤◌, Bool, true, false, cond, List, [], ◌∷◌, ◌++◌, length, get_or, take, reverse, Option, Some, None, All, arith, refl, sym, subst, ap, ◌∙◌}
 use Rattle.std.specs.Prelude.{not, ◌&&◌, ◌||◌, count_by, find, ℤ}
 use Rattle.std.specs.HashMap.{HashMap, get}
 use Rattle.std.specs.List.{slice_get}
-use Rattle.std.specs.Option.{option_map_or}
+use Rattle.std.specs.Option.{ForSome, option_map_or}
 use Rattle.std.specs.Ordering.{int_eq}
 use Rattle.std.specs.declared.hash.FoldHasher.{FoldHasher}
 use Rattle.std.specs.declared.hash.BuildHasherDefault.{BuildHasherDefault}
 use Rattle.std.proofs.lemmas.Bool.{and_from, and_parts}
 use Rattle.std.proofs.lemmas.Bool.Decides.{Decides-int_eq}
 use Rattle.std.proofs.lemmas.List.{get_or-reverse, length-reverse, reverse-append, take_more}
+use Rattle.std.proofs.lemmas.List.Elements.{All-head, All-tail}
 use Rattle.std.proofs.lemmas.List.Sums.{count_by_more_yes, count_by_more_no}
-use Rattle.std.proofs.lemmas.Option.{get_or_from_slice_get, same_Some, slice_get_within}
+use Rattle.std.proofs.lemmas.Option.{get_or_from_slice_get, none-some, same_Some, slice_get_within}
 use Rattle.metric_make.specs.LastRows.{AreMarked, pair_eq, triple_eq, row_in}
 use Rattle.metric_make.specs.TrafficRows.{last_where}
 use Rattle.metric_make.specs.declared.last_rows.LastRow.{LastRow}
@@ -20,7 +21,7 @@ use Rattle.metric_make.specs.declared.last_rows.LastRow.{LastRow}
 pub last_where-push : {A : Type 0} (test : A → Bool) (xs : List A) (x : A) → last_where test (xs ++ x ∷ []) ≡ cond (test x) (Some x) (last_where test xs)
 last_where-push {A} test xs x = ap (find test) (reverse-append xs (x ∷ []))
 
-take-push : {A : Type 0} (xs : List A) (i : ℕ) (x : A) → slice_get xs i ≡ Some x → take (i + 1) xs ≡ take i xs ++ x ∷ []
+pub take-push : {A : Type 0} (xs : List A) (i : ℕ) (x : A) → slice_get xs i ≡ Some x → take (i + 1) xs ≡ take i xs ++ x ∷ []
 take-push {A} xs i x e = take_more xs i x (slice_get_within xs i x e) ∙ ap (λ (y : A). take i xs ++ y ∷ []) (get_or_from_slice_get xs i x x e)
 
 -- the entry of one row more
@@ -56,11 +57,28 @@ last_where-absent test rows i row at for none =
     let no : test row ≡ false = ap test (sym there) ∙ find-absent test (reverse rows) k row within none in
     cc
 
+All-reverse : {A : Type 0} (P : A → Type 0) (xs : List A) → All P xs → All P (reverse xs)
+All-reverse {A} P xs h k d lt =
+    let within : k < length xs = omega (arith, length-reverse xs) in
+    subst P (sym (get_or-reverse xs k d within)) (h (length xs - 1 - k) d (omega arith))
+
+first-or-later : {A : Type 0} (P : A → Type 0) (x : A) (later : Option A) (b : Bool) → P x → ForSome later P → ForSome (cond b (Some x) later) P
+first-or-later {A} P x later true first others = λ y e. subst P (same_Some x y e) first
+first-or-later {A} P x later false first others = others
+
+find-holds : {A : Type 0} (P : A → Type 0) (test : A → Bool) (xs : List A) → All P xs → ForSome (find test xs) P
+find-holds {A} P test [] h = λ y e. absurd (none-some y e)
+find-holds {A} P test (x ∷ xs) h = first-or-later P x (find test xs) (test x) (All-head P x xs h) (find-holds P test xs (All-tail P x xs h))
+
+-- the last one is one of them
+pub last_where-holds : {A : Type 0} (P : A → Type 0) (test : A → Bool) (rows : List A) → All P rows → ForSome (last_where test rows) P
+last_where-holds {A} P test rows h = find-holds P test (reverse rows) (All-reverse P rows h)
+
 or-true : (b : Bool) → (b || true) ≡ true
 or-true true = refl
 or-true false = refl
 
-or-false : (b : Bool) → (b || false) ≡ b
+pub or-false : (b : Bool) → (b || false) ≡ b
 or-false true = refl
 or-false false = refl
 
