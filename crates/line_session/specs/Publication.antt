@@ -2,7 +2,7 @@
 use Rattle.std.specs.Prelude.{◌≡◌, ℕ, List, [], ◌∷◌, ◌++◌}
 use Rattle.customized.specs.Exact.{Customized}
 use Rattle.edge_graph.specs.NetworkView.{NetworkView}
-use Rattle.metric_make.specs.MetricOf.{metric_of}
+use Rattle.metric_make.specs.MetricOf.{base_of}
 use Rattle.metric_publish.specs.History.{entry}
 use Rattle.metric_publish.specs.declared.entry.Entry.{Entry}
 use Rattle.reply_core.specs.Answers.{IsLineAnswer}
@@ -18,7 +18,7 @@ publication_of e = entry e.number e.value.road
 
 -- the first publication of a network: number 0, and the metric of its vehicle's profile alone
 abbrev pub opening : NetworkView → Publication
-opening network = entry 0 (record { network = network; weights = (metric_of network).weights })
+opening network = entry 0 (record { network = network; weights = (base_of network).weights })
 
 abbrev pub newline : List ℕ
 newline = 10 ∷ []
