@@ -1,2 +1,7 @@
 pub mod Annotations
+pub mod Maneuvers
 pub mod Points
+pub mod StepParts
+pub mod StepSums
+pub mod Steps
+pub mod Turnings

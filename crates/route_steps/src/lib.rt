@@ -9,11 +9,22 @@
 #![tactic(auto)]
 
 mod annotations;
+mod begins;
+mod maneuvers;
 mod paid;
 mod speeds;
+mod step_lists;
+mod steps;
+mod turnings;
 mod walk_points;
 
 pub use annotations::{Annotation, annotate};
+pub use maneuvers::{Maneuver, ManeuverKind};
 pub use paid::Costs;
 pub use speeds::speed;
+pub use step_lists::{Step, Steps};
+pub use steps::steps;
 pub use walk_points::leg_points;
+
+#[cfg(test)]
+mod tests;
