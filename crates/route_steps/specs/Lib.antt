@@ -1,4 +1,5 @@
 pub mod Annotations
+pub mod CutLaws
 pub mod Maneuvers
 pub mod Points
 pub mod StepParts

@@ -1,7 +1,7 @@
 -- The steps of a walk (those of OSRM's route service; which turns are told is this project's rule): the walk is
 -- cut where a driver is told of a turn, and what a step says is told by the two places between which it lies.
 -- Place k of a walk is where its vertex k begins; the place behind the last vertex is where the walk ends.
-use Rattle.std.specs.Prelude.{ℕ, ◌+◌, ◌-◌, ◌==◌, pos, List, [], ◌∷◌, ◌++◌, Option, None, Some, drop, if◌then◌else◌, length, map, option_map, slice_index, slice_range, unwrap_or}
+use Rattle.std.specs.Prelude.{ℕ, ◌+◌, ◌-◌, ◌==◌, ◌<◌, ◌≤◌, pos, List, [], ◌∷◌, ◌++◌, All, Option, None, Some, drop, if◌then◌else◌, length, map, option_map, slice_index, slice_range, unwrap_or}
 use Rattle.std.specs.List.{filter_map, flat_map, range_with_len, slice_get, zip}
 use Rattle.road_base.specs.declared.coordinates.Point.{Point}
 use Rattle.road_base.specs.declared.segments.Place.{Place}
@@ -32,6 +32,13 @@ begins_along network walk = departure ∷ filter_map (begin_at network walk) (ra
 -- each begin of a step with the place where that step ends: where the next one begins, the last at place n
 abbrev pub pieces : List Begin → ℕ → List (Begin × ℕ)
 pieces begins n = zip begins (map (λ begin. begin.place) (drop 1 begins) ++ n ∷ [])
+
+-- a piece leads ahead, and not behind place n
+abbrev pub LeadsAhead : ℕ → Begin × ℕ → Type 0
+LeadsAhead n piece = (piece.0.place < piece.1) × (piece.1 ≤ n)
+
+abbrev pub AreAhead : ℕ → List (Begin × ℕ) → Type 0
+AreAhead n pieces = All (LeadsAhead n) pieces
 
 -- what is paid from place i to place j: at the vertices between them, and at the turns from place i on that lie
 -- before place j

@@ -14,17 +14,17 @@ mod maneuvers;
 mod paid;
 mod speeds;
 mod step_lists;
-mod steps;
 mod turnings;
 mod walk_points;
+mod walk_steps;
 
 pub use annotations::{Annotation, annotate};
 pub use maneuvers::{Maneuver, ManeuverKind};
 pub use paid::Costs;
 pub use speeds::speed;
 pub use step_lists::{Step, Steps};
-pub use steps::steps;
 pub use walk_points::leg_points;
+pub use walk_steps::steps;
 
 #[cfg(test)]
 mod tests;

@@ -8,9 +8,9 @@ ghost use Rattle.road_places.specs.Permitted.{IsPermitted};
 ghost use Rattle.road_places.specs.Places.{IsPlaceOn};
 ghost use Rattle.road_places.specs.RoadMetric.{road_of};
 ghost use Rattle.route_steps.specs.Points.{points_along};
-ghost use Rattle.route_steps.specs.StepParts.{AreAhead, IsCourse};
+ghost use Rattle.route_steps.specs.StepParts.{IsCourse};
 ghost use Rattle.route_steps.specs.StepSums.{AddUp, IsLineCut};
-ghost use Rattle.route_steps.specs.Steps.{arrival_at, begin_told, cost_between, pieces, step_between, steps_along};
+ghost use Rattle.route_steps.specs.Steps.{AreAhead, arrival_at, begin_told, cost_between, pieces, step_between, steps_along};
 ghost use Rattle.route_steps.specs.Turnings.{turns_paid};
 
 use crate::begins::{Begin, begins_along};
