@@ -29,7 +29,7 @@ module _ (h : ℕ → Option Begin) (first : Begin) (place : ℕ) (some : 1 ≤ 
   begins-same old e before = before ∙ sym (append-nil (first ∷ filter_map h (range_with_len 1 (place - 1)))) ∙ sym (begins-at None e)
 
 -- the piece from each begin ends where the next one lies, and from the last one at the end
-pub pieces-next : (begins : List Begin) (n k : ℕ) (begin next : Begin) → slice_get begins k ≡ Some begin → slice_get begins (k + 1) ≡ Some next → slice_get (pieces begins n) k ≡ Some (begin, next.place)
+pub pieces-next : (begins : List Begin) (n k : ℕ) (begin next : Begin) → slice_get begins k ≡ Some begin → slice_get begins (suc k) ≡ Some next → slice_get (pieces begins n) k ≡ Some (begin, next.place)
 pieces-next [] n k begin next e f = cc
 pieces-next (b ∷ []) n zero begin next e f = cc
 pieces-next (b ∷ []) n (suc k) begin next e f = cc

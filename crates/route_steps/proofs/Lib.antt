@@ -3,6 +3,7 @@ mod LineLemmas
 mod ListLemmas
 mod PointLemmas
 mod StepLemmas
+mod SumLemmas
 mod TurnLemmas
 mod VertexLemmas
 mod WalkLemmas

@@ -29,7 +29,7 @@ on_earth-holds lon lat there =
     ∙ ap₂ (λ s n. join (Some there.west) (Some there.east) s n) (at_most-holds (negsuc 89999999) lat there.south) (at_most-holds lat (pos 90000000) there.north)
 
 -- the point where a point lies is that point
-point_of-position : (p : Point) → point_of (position_of p) ≡ Some p
+pub point_of-position : (p : Point) → point_of (position_of p) ≡ Some p
 unfolding point_at
 point_of-position p = ap (option_map (λ there. record { lon = p.lon; lat = p.lat; in_range = there })) (on_earth-holds p.lon p.lat p.in_range)
 

@@ -1,6 +1,7 @@
 //! The steps of a walk.
 
-ghost use Rattle.std.specs.Prelude.{◌≡◌, ◌+◌, ◌*◌, ◌^◌, ◌<◌, ◌≤◌, ◌++◌, All, IfOk, OnOk, length, map, slice_index, take};
+ghost use Rattle.std.specs.Prelude.{◌≡◌, ◌+◌, ◌*◌, ◌^◌, ◌<◌, ◌≤◌, ◌++◌, All, IfOk, OnOk, Some, length, map};
+ghost use Rattle.std.specs.List.{slice_get};
 ghost use Rattle.search_graph.specs.Durations.{durlen_ops};
 ghost use Rattle.search_graph.specs.declared.costs.DurLen.{DurLen};
 ghost use Rattle.road_places.specs.Paid.{paid_along, total_of};
@@ -141,8 +142,7 @@ fn course_of(
     ensures turns { IfOk result (λ course. course.turns ≡ turns_paid (road_of network.now base.now) walk.now) }
     ensures course { IfOk result (λ course. IsCourse (length walk.now) course.points course.paid course.turns) }
 {
-    let graph = network.graph();
-    graph.known();
+    network.graph().known();
     let points = leg_points(alloc, network, walk, from, to)?;
     let paid = paid_along(alloc, base, walk, from, to)?;
     let turns = turns_paid(alloc, base, network, walk)?;
@@ -151,6 +151,18 @@ fn course_of(
         paid,
         turns: Costs::of(turns),
     })
+}
+
+// A begin of a step, with the place where that step ends: where the next one begins, or at the walk's end.
+fn piece(begins: &[Begin], k: usize, end: usize) -> (Begin, usize)
+    requires { k < length begins.now }
+    ensures { slice_get (pieces begins.now end) k ≡ Some result }
+{
+    if k + 1 < begins.len() {
+        (begins[k], begins[k + 1].place)
+    } else {
+        (begins[k], end)
+    }
 }
 
 // Adds the step from each begin to where the next one begins, and from the last to the walk's end.
@@ -168,12 +180,8 @@ fn push_steps(
     ensures { OnOk result (steps.new.items ≡ steps.old.items ++ map (step_between network.now walk.now course.now.points course.now.paid course.now.turns) (pieces begins.now (length walk.now))) }
 {
     for k in 0..begins.len() {
-        let end = if k + 1 < begins.len() {
-            begins[k + 1].place
-        } else {
-            walk.len()
-        };
-        steps.push(step_between(alloc, network, walk, course, begins[k], end)?)?;
+        let (begin, end) = piece(begins, k, walk.len());
+        steps.push(step_between(alloc, network, walk, course, begin, end)?)?;
     }
     Ok(())
 }
@@ -197,6 +205,7 @@ pub fn steps(
     ensures totals { IfOk result (AddUp (road_of network.now base.now) from to walk.now) }
     ensures line { IfOk result (IsLineCut (road_of network.now base.now) from to walk.now) }
 {
+    network.graph().known();
     let course = course_of(alloc, base, network, walk, from, to)?;
     let begins = begins_along(alloc, network, walk)?;
     let mut steps = Vec::with_capacity(alloc, begins.len() + 1)?;
