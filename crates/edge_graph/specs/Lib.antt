@@ -15,3 +15,4 @@ pub mod RestrictionParts
 pub mod Spots
 pub mod TurnParts
 pub mod Laws
+pub mod TurnLaws

@@ -1,5 +1,5 @@
 -- The turns of a network: which vertex may follow which (this project's rule).
-use Rattle.std.specs.Prelude.{ℕ, ℤ, ◌==◌, Bool, not, ◌&&◌, ◌||◌, List, map, filter, count_by, if◌then◌else◌}
+use Rattle.std.specs.Prelude.{◌≡◌, ℕ, ℤ, ◌==◌, Bool, not, ◌&&◌, ◌||◌, List, Some, map, filter, count_by, if◌then◌else◌}
 use Rattle.std.specs.List.{enumerate_from, flat_map, slice_get}
 use Rattle.std.specs.Option.{option_map_or}
 use Rattle.std.specs.Ordering.{int_eq}
@@ -40,3 +40,7 @@ turns_from vs rules d = map (λ e. (d.0, e.0)) (filter (is_turn vs rules d) (num
 -- all turns: of all pairs of vertices, by the first and then the second, those that are turns
 unfoldable pub turns : List Vertex → List Rule → List (ℕ × ℕ)
 turns vs rules = flat_map (turns_from vs rules) (numbered vs)
+
+-- no pair stands twice: from one vertex onto another there is at most one turn
+pub record IsSimple (turns : List (ℕ × ℕ)) : Type 0 where
+  pub same : (i j d e : ℕ) → slice_get turns i ≡ Some (d, e) → slice_get turns j ≡ Some (d, e) → i ≡ j

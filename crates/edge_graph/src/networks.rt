@@ -6,7 +6,7 @@ ghost use Rattle.edge_graph.specs.BuildCause.{IsBuildFault, IsWithinLimits};
 ghost use Rattle.edge_graph.specs.Leaving.{AreLeaving};
 ghost use Rattle.edge_graph.specs.NetworkView.{graph_of, network_of, vertices_of};
 ghost use Rattle.edge_graph.specs.Restrictions.{applied_rules};
-ghost use Rattle.edge_graph.specs.Turn.{exits, turns};
+ghost use Rattle.edge_graph.specs.Turn.{IsSimple, exits, turns};
 ghost use Rattle.turn_rules.specs.Rules.{rules_of};
 ghost use Rattle.edge_graph.specs.Vertex.{vertices};
 ghost use Rattle.edge_graph.specs.Segment.{segments};
@@ -257,19 +257,23 @@ impl Network {
         self.graph.arcs()
     }
 
-    /// The number of the turn from vertex `d` onto vertex `e`, or None exactly where there is none.
+    /// The number of the turn from vertex `d` onto vertex `e`, or None exactly where there is none. There is
+    /// at most one.
     pub fn turn(&self, d: u32, e: u32) -> Option<u32>
         requires { d < 2 * length self.now.segments }
-        ensures { MatchOption result ((i : ℕ) → ¬ (slice_get self.now.turns i ≡ Some (d, e))) (λ i. slice_get self.now.turns i ≡ Some (d, e)) }
+        ensures value { MatchOption result ((i : ℕ) → ¬ (slice_get self.now.turns i ≡ Some (d, e))) (λ i. slice_get self.now.turns i ≡ Some (d, e)) }
+        ensures simple { IsSimple self.now.turns }
     {
         arc_between(&self.graph, d, e)
     }
 
     /// The graph of the vertices, whose arcs are the turns: arc i is turn i. The turns are numbered from 0
-    /// by the vertex that they leave and then by the one that they enter.
+    /// by the vertex that they leave and then by the one that they enter, and no two are from one vertex
+    /// onto the same other.
     pub fn graph(&self) -> &Graph
         ensures value { result.now ≡ graph_of self.now }
         ensures limits { IsWithinLimits self.now }
+        ensures simple { IsSimple self.now.turns }
     {
         &self.graph
     }

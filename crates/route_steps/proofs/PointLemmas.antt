@@ -29,7 +29,7 @@ on_earth-holds lon lat there =
     ∙ ap₂ (λ s n. join (Some there.west) (Some there.east) s n) (at_most-holds (negsuc 89999999) lat there.south) (at_most-holds lat (pos 90000000) there.north)
 
 -- the point where a point lies is that point
-point_of-position : (p : Point) → point_of (position_of p) ≡ Some p
+pub point_of-position : (p : Point) → point_of (position_of p) ≡ Some p
 unfolding point_at
 point_of-position p = ap (option_map (λ there. record { lon = p.lon; lat = p.lat; in_range = there })) (on_earth-holds p.lon p.lat p.in_range)
 
@@ -43,13 +43,13 @@ pub point_on-told : (segments : List Segment) (place : Place) (point : Point)
 point_on-told segments place point e = point-found (λ s. position_at (position_of s.from) (position_of s.to) place.at) (slice_get segments place.segment) point e
 
 -- the segment whose ends were told
-record IsTold (o : Option Segment) (from to : Point) : Type 0 where
-  segment : Segment
-  is_segment : o ≡ Some segment
-  is_from : segment.from ≡ from
-  is_to : segment.to ≡ to
+pub record IsTold (o : Option Segment) (from to : Point) : Type 0 where
+  pub segment : Segment
+  pub is_segment : o ≡ Some segment
+  pub is_from : segment.from ≡ from
+  pub is_to : segment.to ≡ to
 
-told : (o : Option Segment) (from to : Point) → option_map {U = Point × Point} (λ (s : Segment). (s.from, s.to)) o ≡ Some (from, to) → IsTold o from to
+pub told : (o : Option Segment) (from to : Point) → option_map {U = Point × Point} (λ (s : Segment). (s.from, s.to)) o ≡ Some (from, to) → IsTold o from to
 told None from to e = cc
 told (Some s) from to e =
     let ends = same_Some {A = Point × Point} (s.from, s.to) (from, to) e in

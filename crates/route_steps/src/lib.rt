@@ -9,11 +9,22 @@
 #![tactic(auto)]
 
 mod annotations;
+mod begins;
+mod maneuvers;
 mod paid;
 mod speeds;
+mod step_lists;
+mod turnings;
 mod walk_points;
+mod walk_steps;
 
 pub use annotations::{Annotation, annotate};
+pub use maneuvers::{Maneuver, ManeuverKind};
 pub use paid::Costs;
 pub use speeds::speed;
+pub use step_lists::{Step, Steps};
 pub use walk_points::leg_points;
+pub use walk_steps::steps;
+
+#[cfg(test)]
+mod tests;
