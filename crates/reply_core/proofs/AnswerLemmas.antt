@@ -20,6 +20,7 @@ use Rattle.edge_graph.specs.NetworkView.{NetworkView}
 use Rattle.metric_make.specs.MetricOf.{MetricView}
 use Rattle.reply_texts.specs.Replies.{route_reply}
 use Rattle.reply_texts.specs.RouteLegs.{ArePermitted, legs_told}
+use Rattle.reply_texts.specs.Steps.{driving_side}
 use Rattle.reply_texts.specs.Waypoints.{waypoints_of}
 use Rattle.road_walks.specs.Legs.{AreAlong, IsLegFault}
 use Rattle.road_walks.specs.declared.leg_faults.LegFault.{LegFault}
@@ -138,11 +139,11 @@ permitted-on road network base places given routes walked n w p r along =
 -- and the reply is the same
 pub route-told : (number : ℕ) (skip : Bool) (own : RouteOptions) (points : List Point) (road : RoadMetric) (network : NetworkView) (base : MetricView) (places given : List Place) (routes walked : List Route)
     → network ≡ road.network → base.weights ≡ road.weights → given ≡ places → walked ≡ routes
-    → route_reply number skip own (legs_told (road_of network base) given walked) (waypoints_of network.segments points given) ≡ route_reply number skip own (legs_told road places routes) (waypoints_of road.network.segments points places)
+    → route_reply number skip own (driving_side network.profile) (legs_told (road_of network base) given walked) (waypoints_of network.segments points given) ≡ route_reply number skip own (driving_side road.network.profile) (legs_told road places routes) (waypoints_of road.network.segments points places)
 route-told number skip own points road network base places given routes walked n w p r =
-    ap (λ (x : RoadMetric). route_reply number skip own (legs_told x given walked) (waypoints_of x.network.segments points given)) (road-same road network base n w)
-    ∙ ap (λ (x : List Place). route_reply number skip own (legs_told road x walked) (waypoints_of road.network.segments points x)) p
-    ∙ ap (λ (x : List Route). route_reply number skip own (legs_told road places x) (waypoints_of road.network.segments points places)) r
+    ap (λ (x : RoadMetric). route_reply number skip own (driving_side x.network.profile) (legs_told x given walked) (waypoints_of x.network.segments points given)) (road-same road network base n w)
+    ∙ ap (λ (x : List Place). route_reply number skip own (driving_side road.network.profile) (legs_told road x walked) (waypoints_of road.network.segments points x)) p
+    ∙ ap (λ (x : List Route). route_reply number skip own (driving_side road.network.profile) (legs_told road places x) (waypoints_of road.network.segments points places)) r
 
 -- the first places on one road are those on the same one
 pub firsts-on : (road : RoadMetric) (network : NetworkView) (base : MetricView) (asked : Point × Filter) (number : ℕ) (found : List Snapped) → network ≡ road.network → base.weights ≡ road.weights

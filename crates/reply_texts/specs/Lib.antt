@@ -5,6 +5,7 @@ pub mod Waypoints
 pub mod Costs
 pub mod Totals
 pub mod Lines
+pub mod Steps
 pub mod Legs
 pub mod RouteLegs
 pub mod Replies
