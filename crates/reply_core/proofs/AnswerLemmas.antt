@@ -5,6 +5,7 @@ use Rattle.std.specs.Result.{IsErrAnd}
 use Rattle.std.specs.List.{AllByRecursion, AllZip, slice_get, zip}
 use Rattle.std.proofs.lemmas.Bool.{eqb-true}
 use Rattle.std.proofs.lemmas.List.{length-map}
+use Rattle.std.proofs.lemmas.List.Elements.{All-weaker}
 use Rattle.std.proofs.lemmas.Option.{same_Some, slice_get-map}
 use Rattle.std.proofs.lemmas.Slice.Zip.{length-zip}
 use Rattle.list_lemmas.proofs.Fronts.{all_zip-each, all_zip-first, slice_get-zip}
@@ -16,13 +17,15 @@ use Rattle.road_places.specs.RoadMetric.{RoadMetric, road_of}
 use Rattle.road_places.specs.declared.walks.Route.{Route}
 use Rattle.search_graph.specs.declared.costs.DurLen.{DurLen}
 use Rattle.search_graph.specs.Digraph.{Weighting}
+use Rattle.search_graph.specs.Durations.{durlen_laws, durlen_ops}
 use Rattle.edge_graph.specs.NetworkView.{NetworkView}
 use Rattle.metric_make.specs.MetricOf.{MetricView}
 use Rattle.reply_texts.specs.Replies.{route_reply}
-use Rattle.reply_texts.specs.RouteLegs.{ArePermitted, legs_told}
+use Rattle.reply_texts.specs.RouteLegs.{ArePermitted, AreSmall, legs_told}
 use Rattle.reply_texts.specs.Steps.{driving_side}
 use Rattle.reply_texts.specs.Waypoints.{waypoints_of}
-use Rattle.road_walks.specs.Legs.{AreAlong, IsLegFault}
+use Rattle.road_walks.specs.Least.{most_units}
+use Rattle.road_walks.specs.Legs.{AreAlong, AreWithinUnits, IsLegFault}
 use Rattle.road_walks.specs.declared.leg_faults.LegFault.{LegFault}
 use Rattle.road_walks.specs.declared.leg_faults.LegFault.TheVariants as leg
 use Rattle.snap_index.specs.Firsts.{AreFirsts}
@@ -124,6 +127,12 @@ pub leg-fault : (road : RoadMetric) (number : ℕ) (request : Request) (own : Ro
     → AllZip (StandsFor road) (asked_in request) places → IsLegFault road places fault → IsFoundFault road number request (leg_fault fault)
 leg-fault road number request own places (leg.NoWalk n) is recent snapped first = (subst HasLegs (sym is) tt, recent, record { places = places; snapped = snapped; first = first })
 leg-fault road number request own places leg.Memory is recent snapped first = tt
+
+-- the routes of a network of so many segments at most cost so little that their steps can be added up
+pub few-units : (network : NetworkView) (routes : List Route) → length network.segments ≤ 2 ^ 22 → AreWithinUnits (most_units network) routes → AreSmall routes
+few-units network routes few within =
+    All-weaker (λ (route : Route). durlen_ops.units route.cost (most_units network)) (λ (route : Route). durlen_ops.units route.cost (2 ^ 30))
+    (λ route h. durlen_laws.units_more route.cost (most_units network) (2 ^ 30) h (omega (arith, few))) routes within
 
 -- a network and costs that are a road's
 road-same : (road : RoadMetric) (network : NetworkView) (base : MetricView) → network ≡ road.network → base.weights ≡ road.weights → road_of network base ≡ road

@@ -1,6 +1,7 @@
 -- The road is that of the metric.
-use Rattle.std.proofs.Common.{refl, ap, ◌∙◌}
+use Rattle.std.proofs.Common.{refl, ap, subst, sym, ◌∙◌}
 use Rattle.json_text.specs.Values.{compact_text}
+use Rattle.reply_texts.specs.RouteLegs.{AreSmall}
 use Rattle.reply_core.proofs.AnswerLemmas.{permitted-on, route-told}
 use Rattle.reply_core.proofs.route_answers.told.Goals as goal
 
@@ -8,6 +9,9 @@ pub route_text-requires-clause-permitted : goal.route_text-requires-clause-permi
 route_text-requires-clause-permitted c =
     permitted-on c.args.under.now.road c.network-network.result.now c.base-base.result.now c.args.places.items c.deref.result.now c.args.routes.items c.deref-2.result.now
     c.network-network.ensures c.base-base.ensures.value c.deref.ensures.value c.deref-2.ensures.value c.requires.along
+
+pub route_text-requires-clause-small : goal.route_text-requires-clause-small
+route_text-requires-clause-small c = subst AreSmall (sym c.deref-2.ensures.value) c.requires.small
 
 pub returns-clause-tells : goal.returns-clause-tells
 returns-clause-tells c =
