@@ -5,10 +5,11 @@ use Rattle.search_graph.specs.declared.costs.DurLen.{DurLen}
 use Rattle.json_text.specs.Values.{JsonValue, text, whole}
 use Rattle.json_text.specs.Wholes.{array_of, object_of, optional_member}
 use Rattle.option_values.specs.declared.option_types.RouteAnnotations.{RouteAnnotations}
+use Rattle.route_steps.specs.Steps.{joined}
 use Rattle.route_steps.specs.declared.step_lists.Step.{Step}
 use Rattle.url_read.specs.declared.requests.RouteOptions.{RouteOptions}
 use Rattle.reply_texts.specs.Costs.{costs_value}
-use Rattle.reply_texts.specs.Lines.{joined, overview_line}
+use Rattle.reply_texts.specs.Lines.{overview_line}
 use Rattle.reply_texts.specs.Optional.{member_if}
 use Rattle.reply_texts.specs.Steps.{steps_value}
 use Rattle.reply_texts.specs.Totals.{leg_totals, route_totals, totals_members}

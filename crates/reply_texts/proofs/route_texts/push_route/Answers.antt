@@ -10,8 +10,9 @@ use Rattle.json_text.specs.Wholes.{array_of, optional_member, with_member, with_
 use Rattle.json_text.specs.WholeLaws.{object_written, with_members-append}
 use Rattle.road_places.specs.RoadMetric.{road_of}
 use Rattle.road_places.specs.declared.walks.Route.{Route}
+use Rattle.route_steps.specs.Steps.{joined}
 use Rattle.reply_texts.specs.Legs.{Leg, leg_value, route_value}
-use Rattle.reply_texts.specs.Lines.{joined, overview_line}
+use Rattle.reply_texts.specs.Lines.{overview_line}
 use Rattle.reply_texts.specs.RouteLegs.{legs_told}
 use Rattle.reply_texts.specs.Steps.{driving_side}
 use Rattle.reply_texts.specs.Totals.{route_totals, totals_members}
