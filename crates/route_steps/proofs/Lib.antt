@@ -1,9 +1,7 @@
 mod CutLemmas
-mod LineLemmas
 mod ListLemmas
 mod PointLemmas
 mod StepLemmas
 mod SumLemmas
-mod TurnLemmas
 mod VertexLemmas
 mod WalkLemmas

@@ -29,7 +29,7 @@ total-rest costs k n h =
     (ap total_of (sym (take-append-drop k costs)) ∙ total_of-append (take k costs) (drop k costs)) h
 
 -- and of any part of it
-total-part : (costs : List DurLen) (i j n : ℕ) → durlen_ops.units (total_of costs) n → durlen_ops.units (total_of (slice_range costs i j)) n
+pub total-part : (costs : List DurLen) (i j n : ℕ) → durlen_ops.units (total_of costs) n → durlen_ops.units (total_of (slice_range costs i j)) n
 total-part costs i j n h = total-front (drop i costs) (j - i) n (total-rest costs i n h)
 
 -- one cost more
@@ -46,20 +46,11 @@ next-units costs k cost sum e before h =
     durlen_laws.units_more (durlen_ops.plus sum cost) (2 ^ 30) (2 ^ 31)
     (subst (λ (x : DurLen). durlen_ops.units x (2 ^ 30)) (sym (front-next costs k cost sum e before)) (total-front costs (k + 1) (2 ^ 30) h)) (omega arith)
 
--- two sums together
-pub both-units : (a b x y : DurLen) → a ≡ x → b ≡ y → durlen_ops.units x (2 ^ 30) → durlen_ops.units y (2 ^ 30) → durlen_ops.units (durlen_ops.plus a b) (2 ^ 31)
-both-units a b x y e f h k =
-    let first = subst (λ (z : DurLen). durlen_ops.units z (2 ^ 30)) (sym e) h in
-    let second = subst (λ (z : DurLen). durlen_ops.units z (2 ^ 30)) (sym f) k in
-    durlen_laws.plus_units a b (2 ^ 30) (2 ^ 30) first second
+-- what is paid at vertices, and what is paid at turns, where both together are within 2^30 units
+pub paid-units : (all paid turns : List DurLen) → all ≡ paid → durlen_ops.units (durlen_ops.plus (total_of paid) (total_of turns)) (2 ^ 30) → durlen_ops.units (total_of all) (2 ^ 30)
+paid-units all paid turns e h =
+    subst (λ (l : List DurLen). durlen_ops.units (total_of l) (2 ^ 30)) (sym e) (first-units (durlen_ops.plus (total_of paid) (total_of turns)) (total_of paid) (total_of turns) (2 ^ 30) refl h)
 
--- some of what is paid at vertices, and some of what is paid at turns, where all together is within 2^30 units
-pub some-paid : (part paid turns : List DurLen) (i j : ℕ) → part ≡ paid → durlen_ops.units (durlen_ops.plus (total_of paid) (total_of turns)) (2 ^ 30) → durlen_ops.units (total_of (slice_range part i j)) (2 ^ 30)
-some-paid part paid turns i j e h =
-    subst (λ (l : List DurLen). durlen_ops.units (total_of (slice_range l i j)) (2 ^ 30)) (sym e)
-    (total-part paid i j (2 ^ 30) (first-units (durlen_ops.plus (total_of paid) (total_of turns)) (total_of paid) (total_of turns) (2 ^ 30) refl h))
-
-pub some-turns : (part paid turns : List DurLen) (i j : ℕ) → part ≡ turns → durlen_ops.units (durlen_ops.plus (total_of paid) (total_of turns)) (2 ^ 30) → durlen_ops.units (total_of (slice_range part i j)) (2 ^ 30)
-some-turns part paid turns i j e h =
-    subst (λ (l : List DurLen). durlen_ops.units (total_of (slice_range l i j)) (2 ^ 30)) (sym e)
-    (total-part turns i j (2 ^ 30) (second-units (durlen_ops.plus (total_of paid) (total_of turns)) (total_of paid) (total_of turns) (2 ^ 30) refl h))
+pub turns-units : (all paid turns : List DurLen) → all ≡ turns → durlen_ops.units (durlen_ops.plus (total_of paid) (total_of turns)) (2 ^ 30) → durlen_ops.units (total_of all) (2 ^ 30)
+turns-units all paid turns e h =
+    subst (λ (l : List DurLen). durlen_ops.units (total_of l) (2 ^ 30)) (sym e) (second-units (durlen_ops.plus (total_of paid) (total_of turns)) (total_of paid) (total_of turns) (2 ^ 30) refl h)

@@ -1,6 +1,6 @@
 //! The steps of a walk.
 
-ghost use Rattle.std.specs.Prelude.{◌≡◌, ◌+◌, ◌*◌, ◌^◌, ◌<◌, ◌≤◌, ◌++◌, All, IfOk, OnOk, Some, length, map};
+ghost use Rattle.std.specs.Prelude.{◌≡◌, ◌+◌, ◌*◌, ◌^◌, ◌<◌, ◌≤◌, ◌++◌, All, IfOk, OnOk, Some, length, map, slice_range};
 ghost use Rattle.std.specs.List.{slice_get};
 ghost use Rattle.search_graph.specs.Durations.{durlen_ops};
 ghost use Rattle.search_graph.specs.declared.costs.DurLen.{DurLen};
@@ -46,6 +46,17 @@ fn total(costs: &[DurLen]) -> DurLen
     sum
 }
 
+// The costs of a part of a list together.
+fn total_between(costs: &[DurLen], begin: usize, end: usize) -> DurLen
+    requires small { durlen_ops.units (total_of costs.now) (2 ^ 30) }
+    requires ahead { begin ≤ end }
+    requires within { end ≤ length costs.now }
+    ensures value { result ≡ total_of (slice_range costs.now begin end) }
+    ensures bound { durlen_ops.units result (2 ^ 30) }
+{
+    total(&costs[begin..end])
+}
+
 // What is paid from one place of a walk to another.
 fn cost_between(course: &Course, begin: usize, end: usize) -> DurLen
     requires course { IsCourse (length course.now.paid) course.now.points course.now.paid course.now.turns }
@@ -53,9 +64,9 @@ fn cost_between(course: &Course, begin: usize, end: usize) -> DurLen
     requires within { end ≤ length course.now.paid }
     ensures { result ≡ cost_between course.now.paid course.now.turns begin end }
 {
-    let paid = course.paid.as_slice();
-    let turns = course.turns.as_slice();
-    total(&paid[begin..end]).plus(total(&turns[begin.saturating_sub(1)..end - 1]))
+    let paid = total_between(course.paid.as_slice(), begin, end);
+    let turns = total_between(course.turns.as_slice(), begin.saturating_sub(1), end - 1);
+    paid.plus(turns)
 }
 
 // What the driver is told where a step begins.

@@ -4,7 +4,8 @@ use Rattle.list_lemmas.proofs.Fronts.{all_zip-second}
 use Rattle.road_places.specs.Paid.{IsTurnCosting, steps_of}
 use Rattle.road_places.specs.RoadMetric.{road_of}
 use Rattle.route_steps.specs.Turnings.{turn_paid}
-use Rattle.route_steps.proofs.TurnLemmas.{length-steps_of, map-more, steps_of-at}
+use Rattle.route_steps.specs.TurnLaws.{length-steps_of}
+use Rattle.route_steps.proofs.ListLemmas.{map-more, steps_of-at}
 use Rattle.route_steps.proofs.turnings.turns_paid.Goals as goal
 
 -- there is a turn from each vertex to the next

@@ -6,9 +6,9 @@ use Rattle.road_places.specs.RoadMetric.{RoadMetric, road_of}
 use Rattle.route_steps.specs.Points.{points_along}
 use Rattle.road_places.specs.Paid.{paid_along}
 use Rattle.route_steps.specs.Turnings.{turns_paid}
-use Rattle.route_steps.proofs.LineLemmas.{length-points_along}
+use Rattle.route_steps.specs.StepLaws.{length-line}
 use Rattle.route_steps.proofs.StepLemmas.{course-along, course-same}
-use Rattle.route_steps.proofs.WalkLemmas.{some-vertex, vertices_of-walk}
+use Rattle.route_steps.specs.WalkLaws.{some-vertex, vertices_of-walk}
 use Rattle.route_steps.proofs.walk_steps.course_of.Goals as goal
 
 -- each vertex has a cost or is closed
@@ -43,8 +43,7 @@ returns-clause-course c =
     let q = c.args.to in
     let d = c.requires.walk.0 in
     let range : AllInRange (2 * length road.network.segments) road.network.turns = subst (λ (g : Digraph). AllInRange g.vertices g.arcs) c.graph.ensures.value c.known.ensures in
-    let all = vertices_of-walk road p q c.requires.from c.requires.to walk d range c.requires.walk.1 in
-    let some = some-vertex road p q c.requires.from c.requires.to walk d c.requires.walk.1 in
+    let some = some-vertex road p q walk d c.requires.walk.1 in
     course-same (length walk) c.in_ok-points.points (points_along road.network.segments p q walk) c.in_ok-paid.paid (paid_along road.weights p q walk) c.of.result (turns_paid road walk)
     c.in_ok-points.ensures c.in_ok-paid.ensures (c.of.ensures ∙ c.in_ok-turns.ensures)
-    (course-along road p q walk some d c.graph.ensures.simple (length-points_along road.network p q walk c.requires.from c.requires.to (λ k e h. (all k e h).0) some) c.requires.walk.1 c.requires.walk.2)
+    (course-along road p q walk some d c.graph.ensures.simple (length-line road p q walk d c.requires.from c.requires.to range c.requires.walk.1) c.requires.walk.1 c.requires.walk.2)

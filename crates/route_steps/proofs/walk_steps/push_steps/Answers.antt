@@ -3,7 +3,7 @@ use Rattle.std.proofs.lemmas.List.{take_all}
 use Rattle.route_steps.specs.Steps.{pieces, step_between}
 use Rattle.route_steps.specs.declared.begins.Begin.{Begin}
 use Rattle.route_steps.proofs.CutLemmas.{length-pieces}
-use Rattle.route_steps.proofs.TurnLemmas.{map-more}
+use Rattle.route_steps.proofs.ListLemmas.{map-more}
 use Rattle.route_steps.proofs.walk_steps.push_steps.Goals as goal
 
 -- one step more

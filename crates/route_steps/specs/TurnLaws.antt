@@ -1,12 +1,10 @@
 -- The turns of a walk: each is the one turn between two vertices, so what a walk pays at them is one list.
-use Rattle.std.proofs.Common.{◌≡◌, ℕ, zero, suc, ◌+◌, ◌-◌, ◌<◌, ◌≤◌, Bool, true, false, cond, List, [], ◌∷◌, ◌++◌, Option, None, Some, append_assoc, arith, ap, ap₂, drop, get_or, length, map, refl, subst, sym, take, ◌∙◌}
+use Rattle.std.proofs.Common.{◌≡◌, ℕ, zero, suc, ◌+◌, ◌-◌, ◌<◌, ◌≤◌, Bool, true, false, cond, List, [], ◌∷◌, ◌++◌, Option, None, Some, arith, ap, ap₂, length, map, refl, subst, sym}
 use Rattle.std.specs.Prelude.{◌==◌, ◌&&◌}
 use Rattle.std.specs.List.{AllZip, find, slice_get, zip}
 use Rattle.std.specs.Option.{option_map_or}
 use Rattle.std.proofs.lemmas.Bool.Decides.{nat_tests}
-use Rattle.std.proofs.lemmas.List.{map-append}
-use Rattle.std.proofs.lemmas.Option.{same_Some, slice_get-get_or}
-use Rattle.list_lemmas.proofs.Fronts.{slice_get-rest, slice_get-zip, take-get}
+use Rattle.std.proofs.lemmas.Option.{same_Some}
 use Rattle.search_graph.specs.declared.costs.DurLen.{DurLen}
 use Rattle.search_graph.specs.Durations.{durlen_ops}
 use Rattle.edge_graph.specs.Turn.{IsSimple}
@@ -75,16 +73,3 @@ count-behind v (u ∷ walk) = ap suc (count-behind u walk)
 pub length-steps_of : (walk : List ℕ) → 0 < length walk → length (steps_of walk) + 1 ≡ length walk
 length-steps_of [] h = absurd (omega arith)
 length-steps_of (v ∷ walk) h = omega (arith, count-behind v walk)
-
--- the turn behind place k
-pub steps_of-at : (walk : List ℕ) (k : ℕ) → k + 1 < length walk → slice_get (steps_of walk) k ≡ Some (get_or walk k 0, get_or walk (k + 1) 0)
-steps_of-at walk k h =
-    slice_get-zip walk (drop 1 walk) k (get_or walk k 0) (get_or walk (k + 1) 0) (slice_get-get_or walk k 0 (omega arith))
-    (slice_get-rest walk k ∙ slice_get-get_or walk (k + 1) 0 h)
-
--- one element more of a list that is mapped
-pub map-more : {X Y : Type 0} (f : X → Y) (xs : List X) (k : ℕ) (x : X) (front old new : List Y) (y : Y) → slice_get xs k ≡ Some x → y ≡ f x → old ≡ front ++ map f (take k xs) → new ≡ old ++ y ∷ []
-    → new ≡ front ++ map f (take (k + 1) xs)
-map-more f xs k x front old new y at is before pushed =
-    pushed ∙ ap₂ (λ l z. l ++ z ∷ []) before is ∙ append_assoc front (map f (take k xs)) (f x ∷ [])
-    ∙ ap (λ l. front ++ l) (sym (ap (map f) (take-get xs k x at) ∙ map-append f (take k xs) (x ∷ [])))

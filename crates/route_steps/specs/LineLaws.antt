@@ -1,6 +1,6 @@
 -- How many points a walk's line has: one more than the walk has vertices.
-use Rattle.std.proofs.Common.{◌≡◌, ℕ, suc, ◌+◌, ◌-◌, ◌*◌, ◌<◌, ◌≤◌, ◌≤ℤ◌, ◌+ℤ◌, ◌-ℤ◌, inl, inr, List, [], ◌∷◌, ◌++◌, All, Option, None, Some, arith, ap, length, length-append, refl, take, ◌∙◌}
-use Rattle.std.specs.Prelude.{ℤ, pos, negsuc, option_map}
+use Rattle.std.proofs.Common.{◌≡◌, ℕ, suc, ◌+◌, ◌-◌, ◌*◌, ◌<◌, ◌≤◌, ◌≤ℤ◌, ◌+ℤ◌, ◌-ℤ◌, Bool, true, false, inl, inr, List, [], ◌∷◌, ◌++◌, All, Option, None, Some, arith, ap, ap₂, length, length-append, refl, take, ◌∙◌}
+use Rattle.std.specs.Prelude.{ℤ, pos, negsuc, int_le, option_map}
 use Rattle.std.specs.List.{cons_option, filter_map, slice_get}
 use Rattle.std.specs.Option.{option_and_then, option_to_list}
 use Rattle.std.proofs.lemmas.Int.{ints}
@@ -8,7 +8,9 @@ use Rattle.std.proofs.lemmas.List.{length-take-le}
 use Rattle.std.proofs.lemmas.List.Elements.{All-head, All-tail, All-take}
 use Rattle.list_lemmas.proofs.Between.{LiesBetween, between-add, between-part, rounded_part}
 use Rattle.list_lemmas.proofs.Gets.{get_some}
+use lib.Dec.{T}
 use Rattle.road_base.specs.Earth.{IsOnEarth}
+use Rattle.road_base.specs.Points.{test, at_most, join, on_earth, point_at}
 use Rattle.road_base.specs.declared.coordinates.Point.{Point}
 use Rattle.road_base.specs.declared.segments.Place.{Place}
 use Rattle.geo_integer.specs.Position.{position_of}
@@ -19,7 +21,23 @@ use Rattle.edge_graph.specs.Segment.{Segment}
 use Rattle.edge_graph.specs.Vertex.{Vertex, vertices}
 use Rattle.road_places.specs.Places.{IsPlaceOn}
 use Rattle.route_steps.specs.Points.{end_of, point_of, point_on, points_along}
-use Rattle.route_steps.proofs.PointLemmas.{point_of-position}
+
+test-holds : (b : Bool) (holds : T b) → test b ≡ Some holds
+test-holds true holds = refl
+test-holds false holds = elim holds [ ]
+
+at_most-holds : (a b : ℤ) (holds : a ≤ℤ b) → at_most a b ≡ Some holds
+at_most-holds a b holds = ap (option_map (λ h. record { le = h })) (test-holds (int_le a b) holds.le)
+
+on_earth-holds : (lon lat : ℤ) (there : IsOnEarth lon lat) → on_earth lon lat ≡ Some there
+on_earth-holds lon lat there =
+    ap₂ (λ w e. join w e (at_most (negsuc 89999999) lat) (at_most lat (pos 90000000))) (at_most-holds (negsuc 179999999) lon there.west) (at_most-holds lon (pos 180000000) there.east)
+    ∙ ap₂ (λ s n. join (Some there.west) (Some there.east) s n) (at_most-holds (negsuc 89999999) lat there.south) (at_most-holds lat (pos 90000000) there.north)
+
+-- the point where a point lies is that point
+pub point_of-position : (p : Point) → point_of (position_of p) ≡ Some p
+unfolding point_at
+point_of-position p = ap (option_map (λ there. record { lon = p.lon; lat = p.lat; in_range = there })) (on_earth-holds p.lon p.lat p.in_range)
 
 -- what lies between two numbers within bounds is within them
 within-bounds : (low high a b c : ℤ) → low ≤ℤ a → a ≤ℤ high → low ≤ℤ b → b ≤ℤ high → LiesBetween a b c → (low ≤ℤ c) × (c ≤ℤ high)
