@@ -8,4 +8,5 @@ pub mod Lines
 pub mod Steps
 pub mod Legs
 pub mod RouteLegs
+pub mod LegLaws
 pub mod Replies
