@@ -1,2 +1,4 @@
+pub mod LastRows
 pub mod MetricOf
+pub mod TrafficRows
 pub mod TurnParts

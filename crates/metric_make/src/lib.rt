@@ -1,7 +1,13 @@
 //! What the vertices and turns of a road network cost: durations in deciseconds and lengths in
-//! decimetres, by the profile of the vehicle. Worked maps are tested in `worked_maps`.
+//! decimetres, by the profile of the vehicle and the rows of traffic files. Worked maps are tested in
+//! `worked_maps`.
 #![tactic(auto)]
 
 mod base_metric;
+mod last_rows;
+mod speed_rows;
+mod turn_rows;
+mod turns;
+mod vertices;
 
-pub use base_metric::{BaseMetric, base};
+pub use base_metric::{BaseMetric, base, metric};

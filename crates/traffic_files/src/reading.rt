@@ -2,6 +2,7 @@
 
 ghost use Rattle.std.specs.Prelude.{◌≡◌, ◌+◌, ◌-◌, ◌<◌, ◌^◌, Ok, IfOk, IfErr};
 ghost use Rattle.traffic_files.specs.Files.{IsFaultOf, SpeedsRead, TurnsRead};
+ghost use Rattle.traffic_files.specs.Ranges.{ArePenaltiesInRange, AreSpeedsInRange};
 ghost use Rattle.traffic_files.specs.declared.rows.TrafficFault.TheVariants.{Row};
 
 use crate::records::{speed_row, turn_row};
@@ -20,6 +21,7 @@ use std::alloc::Global;
 /// any time; any error of `csv` is told as that, since it gives no other over a slice.
 pub fn read_speeds(alloc: Global, bytes: &[u8]) -> Result<Vec<SpeedRow>, TrafficFault>
     ensures rows { IfOk result (λ rows. SpeedsRead bytes.now (Ok rows.items)) }
+    ensures in_range { IfOk result (λ rows. AreSpeedsInRange rows.items) }
     ensures fault { IfErr result (IsFaultOf (SpeedsRead bytes.now)) }
 {
     let reader = ReaderBuilder::new()
@@ -46,6 +48,7 @@ pub fn read_speeds(alloc: Global, bytes: &[u8]) -> Result<Vec<SpeedRow>, Traffic
 /// than 4 or 5, and `OutOfRange` for a penalty above 100000 s.
 pub fn read_turns(alloc: Global, bytes: &[u8]) -> Result<Vec<TurnRow>, TrafficFault>
     ensures rows { IfOk result (λ rows. TurnsRead bytes.now (Ok rows.items)) }
+    ensures in_range { IfOk result (λ rows. ArePenaltiesInRange rows.items) }
     ensures fault { IfErr result (IsFaultOf (TurnsRead bytes.now)) }
 {
     let reader = ReaderBuilder::new()

@@ -1,7 +1,7 @@
 //! The metric of worked networks; the values are worked out by hand from this project's rules.
 
 ghost use Rattle.std.specs.Prelude.{◌≡◌};
-ghost use Rattle.metric_make.specs.MetricOf.{metric_of};
+ghost use Rattle.metric_make.specs.MetricOf.{base_of};
 
 use crate::towns::{add_nodes, add_way, bend, crossing, profile_of};
 use edge_graph::Network;
@@ -39,7 +39,7 @@ pub fn cost_told(alloc: Global, cost: Option<DurLen>) -> Result<String, AllocErr
 
 // What a metric's vertices and turns cost.
 fn told(alloc: Global, network: &Network, metric: &BaseMetric) -> Result<String, AllocError>
-    requires { metric.now ≡ metric_of network.now }
+    requires { metric.now ≡ base_of network.now }
 {
     let mut text = String::new(alloc);
     for v in 0..2 * network.segments() {

@@ -5,7 +5,7 @@ use Rattle.search_graph.specs.Digraph.{Digraph}
 use Rattle.search_graph.specs.Durations.{durlen_ops}
 use Rattle.metric_make.specs.MetricOf.{turn_cost}
 use Rattle.metric_make.proofs.CostLemmas.{turn-step}
-use Rattle.metric_make.proofs.base_metric.turn_costs.Goals as goal
+use Rattle.metric_make.proofs.turns.costs_by.Goals as goal
 
 pub loop-i-preserved : goal.loop-i-preserved
 loop-i-preserved c =

@@ -8,7 +8,7 @@ use Rattle.edge_graph.specs.Laws.{length-vertices}
 use Rattle.metric_make.specs.MetricOf.{bearing_along}
 use Rattle.metric_make.proofs.CostLemmas.{bearing-bound, bearing-read, turning-along, turning-back, turning-bend}
 use Rattle.way_profile.specs.Vehicle.{penalty_of}
-use Rattle.metric_make.proofs.base_metric.turning.Goals as goal
+use Rattle.metric_make.proofs.turns.turning.Goals as goal
 
 pub returns-then-to-other_way-clause-value : goal.returns-then-to-other_way-clause-value
 returns-then-to-other_way-clause-value c =

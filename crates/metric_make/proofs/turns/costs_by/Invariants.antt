@@ -1,7 +1,7 @@
 use Rattle.std.proofs.Common.{◌≡◌, ◌++◌, All, drop, map}
 use Rattle.metric_make.specs.MetricOf.{turn_cost}
 use Rattle.search_graph.specs.Durations.{durlen_ops}
-use Rattle.metric_make.proofs.base_metric.turn_costs.Given as goal
+use Rattle.metric_make.proofs.turns.costs_by.Given as goal
 
 -- the turns so far have their costs
 abbrev pub invariant-loop-i : goal.invariant-loop-i

@@ -3,7 +3,7 @@ use Rattle.std.specs.Option.{ForSome}
 use Rattle.edge_graph.specs.Vertex.{vertices}
 use Rattle.metric_make.specs.MetricOf.{vertex_cost}
 use Rattle.search_graph.specs.Durations.{durlen_ops}
-use Rattle.metric_make.proofs.base_metric.vertex_costs.Given as goal
+use Rattle.metric_make.proofs.vertices.costs_by.Given as goal
 
 -- the segments so far have their costs
 abbrev pub invariant-loop-s : goal.invariant-loop-s

@@ -3,7 +3,7 @@ use Rattle.std.proofs.lemmas.List.Elements.{All-push}
 use Rattle.std.specs.Option.{ForSome}
 use Rattle.search_graph.specs.Durations.{durlen_ops}
 use Rattle.metric_make.proofs.CostLemmas.{segment-step}
-use Rattle.metric_make.proofs.base_metric.vertex_costs.Goals as goal
+use Rattle.metric_make.proofs.vertices.costs_by.Goals as goal
 
 pub loop-s-preserved : goal.loop-s-preserved
 loop-s-preserved c = record {

@@ -1,6 +1,6 @@
 use Rattle.std.proofs.Common.{refl, arith}
 use Rattle.metric_make.proofs.CostLemmas.{bearings-step}
-use Rattle.metric_make.proofs.base_metric.bearings_of.Goals as goal
+use Rattle.metric_make.proofs.turns.bearings_of.Goals as goal
 
 pub loop-s-preserved : goal.loop-s-preserved
 loop-s-preserved c =

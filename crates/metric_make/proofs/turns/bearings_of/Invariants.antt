@@ -1,7 +1,7 @@
 use Rattle.std.proofs.Common.{◌≡◌, ◌++◌, drop, map}
 use Rattle.edge_graph.specs.Vertex.{vertices}
 use Rattle.metric_make.specs.MetricOf.{bearing_along}
-use Rattle.metric_make.proofs.base_metric.bearings_of.Given as goal
+use Rattle.metric_make.proofs.turns.bearings_of.Given as goal
 
 -- the segments so far have their bearings
 abbrev pub invariant-loop-s : goal.invariant-loop-s

@@ -1,0 +1,2 @@
+mod DigitValues
+mod Lengths

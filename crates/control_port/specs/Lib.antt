@@ -1,0 +1,4 @@
+pub mod Asking
+pub mod Controlling
+pub mod Judging
+pub mod Telling

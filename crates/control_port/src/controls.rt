@@ -1,0 +1,118 @@
+//! Does what control requests ask for.
+
+ghost use Rattle.std.specs.Prelude.{◌≡◌, IfErr, IfOk, OnErr};
+ghost use Rattle.control_port.specs.Asking.{IsBodyOf};
+ghost use Rattle.control_port.specs.Controlling.{FilesGive, IsBaseOf, IsControlled, IsOn};
+ghost use Rattle.control_port.specs.Judging.{BaseGives, IsFaultIn};
+ghost use Rattle.customized.specs.Exact.{Customized};
+ghost use Rattle.edge_graph.specs.NetworkView.{graph_of};
+ghost use Rattle.search_graph.specs.Durations.{durlen_ops};
+ghost use Rattle.search_graph.specs.Weighted.{IsWeighting};
+
+use crate::asking::ControlHead;
+use crate::controlled::Controlled;
+use customized::{Metric, Roads};
+use edge_graph::Network;
+use metric_make::{BaseMetric, metric};
+use metric_publish::held::Refused;
+use metric_publish::meaning::Publishing;
+use std::alloc::{AllocError, Global};
+use std::sync::Arc;
+use std::thread::Threads;
+use traffic_files::{TrafficFault, read_speeds, read_turns};
+
+/// Does what a control request with its body asks for.
+///
+/// Of a metric both traffic files of the body are read, the speeds file first. `Refused` tells their first faulty
+/// row. Else the metric of their rows, made from the profile whatever was published before, is published on the
+/// desk under the next number: `Published` tells that number and how many rows matched nothing, and the list is one
+/// metric longer; `Spent` tells that no number is left. A stop is `Stopping`, what is no request `BadRequest`. But
+/// after `Published` the list is as before; so it is after an error, which comes only where memory runs out. The
+/// cells of the metric are customized side by side in threads.
+pub fn control<R: Threads + Sync, P: Publishing<Metric, R>>(
+    rt: &R,
+    alloc: Global,
+    desk: &mut P,
+    roads: &Roads,
+    request: ControlHead,
+    body: &[u8],
+) -> Result<Controlled, AllocError>
+    requires body { IsBodyOf request body.now }
+    requires kin { (x : Customized) → IsOn roads.now x → P.kin desk.old x }
+    ensures controlled { IfOk result (λ answer. IsControlled roads.now (P.list desk.old) request body.now answer (P.list desk.new)) }
+    ensures busy { OnErr result (P.list desk.new ≡ P.list desk.old) }
+    ensures kin_stays { (x : Customized) → P.kin desk.old x → P.kin desk.new x }
+{
+    match request {
+        ControlHead::Metric { speeds, length: _ } => {
+            publish_files(rt, alloc, desk, roads, &body[..speeds], &body[speeds..])
+        }
+        ControlHead::Stop => Ok(Controlled::Stopping),
+        ControlHead::Bad => Ok(Controlled::BadRequest),
+    }
+}
+
+// Publishes the metric of two traffic files.
+fn publish_files<R: Threads + Sync, P: Publishing<Metric, R>>(
+    rt: &R,
+    alloc: Global,
+    desk: &mut P,
+    roads: &Roads,
+    speeds: &[u8],
+    turns: &[u8],
+) -> Result<Controlled, AllocError>
+    requires kin { (x : Customized) → IsOn roads.now x → P.kin desk.old x }
+    ensures controlled { IfOk result (λ answer. FilesGive roads.now (P.list desk.old) speeds.now turns.now answer (P.list desk.new)) }
+    ensures busy { OnErr result (P.list desk.new ≡ P.list desk.old) }
+    ensures kin_stays { (x : Customized) → P.kin desk.old x → P.kin desk.new x }
+{
+    match base_of_files(alloc, roads.network(), speeds, turns) {
+        Ok(base) => publish_base(rt, alloc, desk, roads, base),
+        Err(TrafficFault::Row(fault)) => Ok(Controlled::Refused(fault)),
+        Err(TrafficFault::Memory) => Err(AllocError),
+    }
+}
+
+// Publishes the metric of roads under these costs.
+fn publish_base<R: Threads + Sync, P: Publishing<Metric, R>>(
+    rt: &R,
+    alloc: Global,
+    desk: &mut P,
+    roads: &Roads,
+    base: BaseMetric,
+) -> Result<Controlled, AllocError>
+    requires weighting { IsWeighting durlen_ops (graph_of roads.now.network) base.weights }
+    requires kin { (x : Customized) → IsOn roads.now x → P.kin desk.old x }
+    ensures controlled { IfOk result (λ answer. BaseGives roads.now (P.list desk.old) base answer (P.list desk.new)) }
+    ensures busy { OnErr result (P.list desk.new ≡ P.list desk.old) }
+    ensures kin_stays { (x : Customized) → P.kin desk.old x → P.kin desk.new x }
+{
+    let unmatched = base.unmatched();
+    let metric = Metric::make(rt, alloc, roads, base)?;
+    let shared = Arc::new(alloc, metric)?;
+    match desk.publish(rt, shared) {
+        Ok(receipt) => Ok(Controlled::Published {
+            number: receipt.number,
+            unmatched,
+        }),
+        Err(Refused::Spent(_)) => Ok(Controlled::Spent(u32::MAX)),
+        Err(Refused::Memory(_)) => Err(AllocError),
+    }
+}
+
+// What the vertices and turns of a network cost under the rows of two traffic files.
+fn base_of_files(
+    alloc: Global,
+    network: &Network,
+    speeds: &[u8],
+    turns: &[u8],
+) -> Result<BaseMetric, TrafficFault>
+    ensures base { IfOk result (IsBaseOf network.now speeds.now turns.now) }
+    ensures weighting { IfOk result (λ base. IsWeighting durlen_ops (graph_of network.now) base.weights) }
+    ensures fault { IfErr result (IsFaultIn speeds.now turns.now) }
+{
+    let speed_rows = read_speeds(alloc, speeds)?;
+    let turn_rows = read_turns(alloc, turns)?;
+    let base = metric(alloc, network, &speed_rows, &turn_rows)?;
+    Ok(base)
+}

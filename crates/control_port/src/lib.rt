@@ -1,0 +1,18 @@
+//! The control port: what its requests ask for, what comes of them, and what their replies say.
+//!
+//! [`ControlHead::of`] says what a head asks for, [`control`] does it over any board of metrics that share their
+//! roads, and [`ReplyRoom`] writes the reply without memory, so that none runs out once a metric is published.
+//! `specs/` is to be read in this order: `Asking` (what a head asks for), `Controlling` (what comes of a request, and
+//! which list of publications stands then), `Telling` (what the reply says).
+#![tactic(auto)]
+
+mod asking;
+mod controlled;
+mod controls;
+mod numbers;
+mod replies;
+
+pub use asking::{Announced, ControlHead, MOST_BYTES};
+pub use controlled::Controlled;
+pub use controls::control;
+pub use replies::{BodyRoom, ReplyRoom};
