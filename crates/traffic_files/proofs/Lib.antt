@@ -1,4 +1,5 @@
 pub mod Appending
 pub mod Digits
 pub mod Parts
+pub mod RowRanges
 pub mod Standing

@@ -8,6 +8,7 @@ use Rattle.csv.proofs.ReadFacts.{rows-more}
 use Rattle.traffic_files.specs.Files.{IsFirstFault}
 use Rattle.traffic_files.specs.Rows.{speed_row_of}
 use Rattle.traffic_files.specs.declared.rows.TrafficFile.TheVariants.{Speeds}
+use Rattle.traffic_files.proofs.RowRanges.{speeds-in_range}
 use Rattle.traffic_files.proofs.Standing.{StandFor-more, StandFor-length}
 use Rattle.traffic_files.proofs.reading.read_speeds.Goals as goal
 
@@ -67,3 +68,6 @@ returns-in-Err-clause-fault c =
     }
     in
     rw c.fault.ensures (inv.4, c.loop-record.rows.items, fields, first)
+
+pub returns-clause-in_range : goal.returns-clause-in_range
+returns-clause-in_range c = speeds-in_range c.loop-record.invariant.4 c.loop-record.rows.items c.loop-record.invariant.8
