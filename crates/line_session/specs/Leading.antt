@@ -51,7 +51,7 @@ IsUnanswered unanswered.Memory None before after = ReadsSome before after []
 pub record IsReplyTo (last : Publication) (line : List ℕ) (names : Option (List ℕ × List ℕ)) (text : List ℕ) (before after : FilesView) (next : Publication) : Type 0 where
   pub told : Telling
   pub answers : AnswersTo before.content last line names told next
-  pub text : text ≡ told.text
+  pub is_text : text ≡ told.text
   pub read : ReadsAll before after told.reads
 
 -- a line was answered
@@ -97,7 +97,7 @@ pub record SoFar (first last : Publication) (taken held : List ℕ) (start now :
   pub are : taken ≡ ended parts ++ part
   pub clean : AllByRecursion NoNewline parts
   pub begun : NoNewline part
-  pub held : held ≡ take 8194 part
+  pub held_is : held ≡ take 8194 part
   pub told : Telling
   pub is_told : Told start.files.content first (map strip_carriage_return parts) told last
   pub grows : Grows told start now

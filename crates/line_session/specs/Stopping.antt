@@ -86,10 +86,10 @@ pub record TookTooMuch (first last : Publication) (before after : Outside) : Typ
 
 -- of the whole lines taken, or at the end of the input of all lines, not all were answered, and so it ended; the
 -- input did not fail
-pub record Broke (halted : List (List ℕ) → Sides → Sides → Type 0) (before after : Outside) : Type 0 where
+pub record Broke (how : List (List ℕ) → Sides → Sides → Type 0) (before after : Outside) : Type 0 where
   pub all : List (List ℕ)
   pub took : TookSome before.input after.input all ⊎ TookToEnd before.input after.input all
-  pub halted : halted all (sides_of before) (sides_of after)
+  pub halted : how all (sides_of before) (sides_of after)
   pub steady : after.input.faults ≡ before.input.faults
 
 abbrev pub OutputFailed : Publication → Publication → Outside → Outside → Type 0

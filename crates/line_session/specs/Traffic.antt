@@ -1,17 +1,21 @@
 -- Lines that ask for a metric of two traffic files (this project's rule): `TRAFFIC` and the names of the files, one
 -- blank before each.
 use Rattle.std.specs.Prelude.{◌≡◌, ℕ, Bool, not, ◌&&◌, ◌==◌, List, [], ◌∷◌, ◌++◌, ◌⊎◌, length, codes, bytes_eq, nat_le, Option, Some, None, if◌then◌else◌}
-use Rattle.std.specs.List.{list_all, slice_split}
+use Rattle.std.specs.List.{list_any, slice_split}
 use Rattle.std.specs.Str.{is_utf8}
 use Rattle.road_io.specs.Told.{IsContent}
 
 -- one byte at least, and no tab; that there is no blank is known of what stands between blanks
 abbrev pub is_name : List ℕ → Bool
-is_name text = nat_le 1 (length text) && list_all (λ b. not (b == 9)) text
+is_name text = nat_le 1 (length text) && not (list_any (λ b. b == 9) text)
 
--- the names of the speeds file and of the turns file in the parts of a line between its blanks
+-- the names of the speeds file and of the turns file behind the word
+abbrev pub names_behind : List ℕ → List ℕ → List ℕ → Option (List ℕ × List ℕ)
+names_behind word speeds turns = if bytes_eq word (codes "TRAFFIC") && (is_name speeds && is_name turns) then Some (speeds, turns) else None
+
+-- those in the parts of a line between its blanks
 abbrev pub names_in : List (List ℕ) → Option (List ℕ × List ℕ)
-names_in (word ∷ speeds ∷ turns ∷ []) = if bytes_eq word (codes "TRAFFIC") && (is_name speeds && is_name turns) then Some (speeds, turns) else None
+names_in (word ∷ speeds ∷ turns ∷ []) = names_behind word speeds turns
 names_in parts = None
 
 -- those in a line of text of at most 8192 bytes; None where the line is of another form

@@ -1,13 +1,13 @@
 //! Answers lines, as their bytes come.
 
-ghost use Rattle.std.specs.Prelude.{◌≡◌, ◌≤◌, ◌<◌, ◌∷◌, [], OnErr, OnOk, IfErr, vec_capacity};
+ghost use Rattle.std.specs.Prelude.{◌≡◌, ◌≤◌, ◌<◌, ◌∷◌, ◌++◌, [], length, take, OnErr, OnOk, IfErr, vec_capacity};
 ghost use Rattle.std.specs.Io.KnownBytes.{Appends};
 ghost use Rattle.std.specs.Str.Lines.{strip_carriage_return};
 ghost use Rattle.road_io.specs.Faults.{OutputRose};
 ghost use Rattle.road_io.specs.Outside.{outside};
 ghost use Rattle.road_io.specs.Told.{AppendsFront};
 ghost use Rattle.line_session.specs.Growing.{sides};
-ghost use Rattle.line_session.specs.Leading.{Goes, GoesHalted, NoNewline, Puts, Steps, StopsAt, StopsWith};
+ghost use Rattle.line_session.specs.Leading.{Goes, GoesHalted, Puts, Steps, StopsAt, StopsWith};
 ghost use Rattle.line_session.specs.Stopping.{Stopped, ToldAll};
 
 use crate::published::Published;
@@ -49,7 +49,7 @@ const TOO_MANY: u64 = 1 << 63;
 #[derive(Drop)]
 struct LineBuffer {
     held: Vec<u8>,
-    ghost no_newline: { NoNewline held.items },
+    ghost short: { length held.items ≤ 8194 },
     ghost room: { 8194 ≤ vec_capacity held },
 }
 
@@ -99,6 +99,19 @@ fn without_return(line: &[u8]) -> &[u8]
     line
 }
 
+// Holds a byte of the line that has begun, or drops it where enough are held.
+fn hold(buffer: &mut LineBuffer, byte: u8)
+    ensures { buffer.new.held.items ≡ take 8194 (buffer.old.held.items ++ byte ∷ []) }
+{
+    if buffer.held.len() >= MOST_HELD {
+        return;
+    }
+    match buffer.held.push(byte) {
+        Ok(()) => {}
+        Err(_) => unreachable!(),
+    }
+}
+
 // Goes on by a byte: a newline ends the line that has begun, and it is answered.
 fn take_byte<R: Threads + Sync, F: Files, O: Sink>(
     rt: &R,
@@ -117,12 +130,7 @@ fn take_byte<R: Threads + Sync, F: Files, O: Sink>(
         buffer.held.clear();
         return Ok(());
     }
-    if buffer.held.len() < MOST_HELD {
-        match buffer.held.push(byte) {
-            Ok(()) => {}
-            Err(_) => unreachable!(),
-        }
-    }
+    hold(buffer, byte);
     Ok(())
 }
 
@@ -140,7 +148,10 @@ fn take_piece<R: Threads + Sync, F: Files, O: Sink>(
     ensures stopped { IfErr result (λ why. GoesHalted why published.old published.new buffer.old.held.items piece.now (sides (F.view files.old) (O.view output.old)) (sides (F.view files.new) (O.view output.new))) }
 {
     for byte in piece {
-        take_byte(rt, alloc, published, files, *byte, buffer, output)?;
+        match take_byte(rt, alloc, published, files, *byte, buffer, output) {
+            Ok(()) => {}
+            Err(why) => return Err(why),
+        }
     }
     Ok(())
 }
@@ -179,7 +190,10 @@ pub fn answer_lines<R: Threads + Sync, F: Files, I: Source, O: Sink>(
         if count == 0 {
             return answer_line(rt, alloc, published, files, &buffer.held, output);
         }
-        take_piece(rt, alloc, published, files, &piece[..count], &mut buffer, output)?;
+        match take_piece(rt, alloc, published, files, &piece[..count], &mut buffer, output) {
+            Ok(()) => {}
+            Err(why) => return Err(why),
+        }
         taken += count as u64;
     }
     Err(Stop::TooLong)

@@ -87,10 +87,10 @@ impl Published {
     {
         let room = BodyRoom::new(alloc)?;
         let mut body = speeds;
-        let request_speeds = body.len();
+        let speeds_length = body.len();
         body.extend_from_slice(turns)?;
         let request = ControlHead::Metric {
-            speeds: request_speeds,
+            speeds: speeds_length,
             length: body.len(),
         };
         let answer = control(rt, alloc, &mut self.board, &self.roads, request, &body)?;
