@@ -19,8 +19,10 @@ use Rattle.edge_graph.specs.NetworkView.{NetworkView, vertices_of}
 use Rattle.edge_graph.specs.Turn.{exits}
 use Rattle.edge_graph.specs.Vertex.{Vertex, against, along, opposite, vertices}
 use Rattle.edge_graph.specs.Laws.{vertices-even, vertices-odd}
-use Rattle.metric_make.specs.MetricOf.{bearing_along, bend_penalty, cost_at, penalty_at, vertex_cost}
-use Rattle.metric_make.specs.TurnParts.{turning_at, waiting_at}
+use Rattle.metric_make.specs.MetricOf.{bearing_along, bend_penalty, cost_at, penalty_at, penalty_under, vertex_cost}
+use Rattle.metric_make.specs.TurnParts.{row_at, turning_at, waiting_at}
+use Rattle.traffic_files.specs.declared.rows.SpeedRow.{SpeedRow}
+use Rattle.traffic_files.specs.declared.rows.TurnRow.{TurnRow}
 use Rattle.way_profile.specs.Vehicle.{penalty_of}
 
 -- an element, and what stands behind it
@@ -48,15 +50,15 @@ pub length_of-same : (a b : Position) → length_of a b ≡ length_of b a
 length_of-same a b = ap (λ (n : ℕ). max 1 (root_of n * 111195 / 6553600000)) (plane_between-same a b)
 
 -- the costs of both directions of one more segment
-pub segment-step : (segments : List Segment) (s decimetres : ℕ) (from to : Point) (costs new : List (Option DurLen)) (one other : Option DurLen) (total : List (Option DurLen)) → s < length segments
+pub segment-step : (speeds : List SpeedRow) (segments : List Segment) (s decimetres : ℕ) (from to : Point) (costs new : List (Option DurLen)) (one other : Option DurLen) (total : List (Option DurLen)) → s < length segments
     → option_map {U = Point × Point} (λ x. (x.from, x.to)) (slice_get segments s) ≡ Some (from, to)
     → decimetres ≡ length_of (position_of from) (position_of to)
-    → option_map (cost_at decimetres) (slice_get (vertices segments) (2 * s)) ≡ Some one
-    → option_map (cost_at decimetres) (slice_get (vertices segments) (2 * s + 1)) ≡ Some other
+    → option_map (cost_at speeds decimetres) (slice_get (vertices segments) (2 * s)) ≡ Some one
+    → option_map (cost_at speeds decimetres) (slice_get (vertices segments) (2 * s + 1)) ≡ Some other
     → new ≡ (costs ++ one ∷ []) ++ other ∷ []
-    → costs ++ map vertex_cost (vertices (drop s segments)) ≡ total
-    → new ++ map vertex_cost (vertices (drop (s + 1) segments)) ≡ total
-segment-step segments s decimetres from to costs new one other total lt ends long first second both so_far =
+    → costs ++ map (vertex_cost speeds) (vertices (drop s segments)) ≡ total
+    → new ++ map (vertex_cost speeds) (vertices (drop (s + 1) segments)) ≡ total
+segment-step speeds segments s decimetres from to costs new one other total lt ends long first second both so_far =
     let g = get_some segments s lt in
     let x = g.0 in
     let up : suc s ≡ s + 1 = omega arith in
@@ -65,19 +67,19 @@ segment-step segments s decimetres from to costs new one other total lt ends lon
     let to_is : x.to ≡ to = ap (λ (e : Point × Point). e.1) ends_are in
     let long_is : decimetres ≡ length_of (position_of x.from) (position_of x.to) =
     long ∙ ap (λ (p : Point). length_of (position_of p) (position_of to)) (sym from_is) ∙ ap (λ (p : Point). length_of (position_of x.from) (position_of p)) (sym to_is) in
-    let one_is : one ≡ vertex_cost (along x) =
-    same_Some _ _ (sym first ∙ ap (option_map (cost_at decimetres)) (vertices-even segments s x (2 * s) g.1 refl)) ∙ ap (λ (n : ℕ). cost_at n (along x)) long_is in
-    let other_is : other ≡ vertex_cost (against x) =
-    same_Some _ _ (sym second ∙ ap (option_map (cost_at decimetres)) (vertices-odd segments s x (2 * s + 1) g.1 refl))
-    ∙ ap (λ (n : ℕ). cost_at n (against x)) (long_is ∙ length_of-same (position_of x.from) (position_of x.to)) in
-    let rest = map vertex_cost (vertices (drop (s + 1) segments)) in
-    let front : map vertex_cost (vertices (drop s segments)) ≡ vertex_cost (along x) ∷ vertex_cost (against x) ∷ rest =
-    ap (λ (l : List Segment). map vertex_cost (vertices l)) (drop-get segments s x g.1 ∙ ap (λ (k : ℕ). x ∷ drop k segments) up) in
+    let one_is : one ≡ vertex_cost speeds (along x) =
+    same_Some _ _ (sym first ∙ ap (option_map (cost_at speeds decimetres)) (vertices-even segments s x (2 * s) g.1 refl)) ∙ ap (λ (n : ℕ). cost_at speeds n (along x)) long_is in
+    let other_is : other ≡ vertex_cost speeds (against x) =
+    same_Some _ _ (sym second ∙ ap (option_map (cost_at speeds decimetres)) (vertices-odd segments s x (2 * s + 1) g.1 refl))
+    ∙ ap (λ (n : ℕ). cost_at speeds n (against x)) (long_is ∙ length_of-same (position_of x.from) (position_of x.to)) in
+    let rest = map (vertex_cost speeds) (vertices (drop (s + 1) segments)) in
+    let front : map (vertex_cost speeds) (vertices (drop s segments)) ≡ vertex_cost speeds (along x) ∷ vertex_cost speeds (against x) ∷ rest =
+    ap (λ (l : List Segment). map (vertex_cost speeds) (vertices l)) (drop-get segments s x g.1 ∙ ap (λ (k : ℕ). x ∷ drop k segments) up) in
     ap (λ (l : List (Option DurLen)). l ++ rest) both
     ∙ append_assoc (costs ++ one ∷ []) (other ∷ []) rest
     ∙ append_assoc costs (one ∷ []) (other ∷ rest)
     ∙ ap (λ (o : Option DurLen). costs ++ o ∷ other ∷ rest) one_is
-    ∙ ap (λ (o : Option DurLen). costs ++ vertex_cost (along x) ∷ o ∷ rest) other_is
+    ∙ ap (λ (o : Option DurLen). costs ++ vertex_cost speeds (along x) ∷ o ∷ rest) other_is
     ∙ ap (λ (l : List (Option DurLen)). costs ++ l) (sym front)
     ∙ so_far
 
@@ -144,14 +146,15 @@ module _ (network : NetworkView) (from to : ℕ) (d e : Vertex) (at : slice_get 
       let test : nat_le 2 (exits (vertices_of network) from) ≡ true = grind (arith, nat_tests, many) in
       turning-on apart ∙ ap (λ (b : Bool). cond b (penalty_of network.profile (modifier_of (bearing_along d) (bearing_along e) false)) 0) test
 
-  -- the two parts of a penalty
-  pub penalty-parts : penalty_at network from to (slice_get (vertices_of network) from) (slice_get (vertices_of network) to)
-      ≡ turning_at network from to (slice_get (vertices_of network) from) (slice_get (vertices_of network) to) + waiting_at network (slice_get (vertices_of network) from)
-  penalty-parts =
-      ap (λ (o : Option Vertex). penalty_at network from to o (slice_get (vertices_of network) to)) at
-      ∙ ap (λ (o : Option Vertex). penalty_at network from to (Some d) o) next
-      ∙ ap (λ (o : Option Vertex). turning_at network from to (Some d) o + waiting_at network (Some d)) (sym next)
-      ∙ ap (λ (o : Option Vertex). turning_at network from to o (slice_get (vertices_of network) to) + waiting_at network o) (sym at)
+  -- the penalty of a turn is the row's, or the two parts of the profile's
+  pub penalty-parts : (rows : List TurnRow) → penalty_at network rows from to (slice_get (vertices_of network) from) (slice_get (vertices_of network) to)
+      ≡ penalty_under (row_at rows (slice_get (vertices_of network) from) (slice_get (vertices_of network) to))
+        (turning_at network from to (slice_get (vertices_of network) from) (slice_get (vertices_of network) to) + waiting_at network (slice_get (vertices_of network) from))
+  penalty-parts rows =
+      ap (λ (o : Option Vertex). penalty_at network rows from to o (slice_get (vertices_of network) to)) at
+      ∙ ap (λ (o : Option Vertex). penalty_at network rows from to (Some d) o) next
+      ∙ ap (λ (o : Option Vertex). penalty_under (row_at rows (Some d) o) (turning_at network from to (Some d) o + waiting_at network (Some d))) (sym next)
+      ∙ ap (λ (o : Option Vertex). penalty_under (row_at rows o (slice_get (vertices_of network) to)) (turning_at network from to o (slice_get (vertices_of network) to) + waiting_at network o)) (sym at)
 
 -- the cost of one more turn
 pub turn-step : (f : ℕ × ℕ → DurLen) (arcs : List (ℕ × ℕ)) (i from to : ℕ) (costs new : List DurLen) (cost : DurLen) (total : List DurLen)

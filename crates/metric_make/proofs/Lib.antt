@@ -1,1 +1,3 @@
 pub mod CostLemmas
+pub mod LastRowLemmas
+pub mod MatchLemmas

@@ -1,11 +1,12 @@
 //! The rows of a speeds file by the two nodes that they are for.
 
-ghost use Rattle.std.specs.Prelude.{◌≡◌, ℤ, Bool, true, false, not, ◌||◌, IfOk, option_map, if◌then◌else◌, count_by};
+ghost use Rattle.std.specs.Prelude.{◌≡◌, ℤ, Bool, false, not, ◌||◌, IfOk, count_by};
 ghost use Rattle.std.specs.HashMap.{get};
+ghost use Rattle.std.specs.Option.{option_map_or};
 ghost use Rattle.metric_make.specs.LastRows.{AreLastSpeeds, AreMarked, pair_eq};
 ghost use Rattle.metric_make.specs.TrafficRows.{speed_for};
 
-use crate::last_rows::LastRow;
+use crate::last_rows::{LastRow, row_at};
 use std::alloc::{AllocError, Global};
 use std::collections::HashMap;
 use traffic_files::SpeedRow;
@@ -40,9 +41,19 @@ pub(crate) fn matching_speed(
     match last.get_mut(&(tail, head)) {
         Some(entry) => {
             entry.matched = true;
-            rows.get(entry.row).copied()
+            row_at(rows, entry.row)
         }
         None => None,
+    }
+}
+
+// Whether the last row for the nodes of a row is matched.
+fn is_matched(row: &SpeedRow, last: &LastSpeeds) -> bool
+    ensures { result ≡ option_map_or (λ entry. entry.matched) (get pair_eq last.now (row.now.from, row.now.to)) false }
+{
+    match last.get(&(row.from, row.to)) {
+        Some(entry) => entry.matched,
+        None => false,
     }
 }
 
@@ -51,11 +62,9 @@ pub(crate) fn unmatched_speeds(rows: &[SpeedRow], last: &LastSpeeds) -> u64
     requires { AreLastSpeeds rows.now last.now }
     ensures { (matched : ℤ × ℤ → Bool) → AreMarked pair_eq matched last.now → result ≡ count_by (λ row. not (matched (row.from, row.to))) rows.now }
 {
-    let mut count = 0;
+    let mut count: u64 = 0;
     for row in rows {
-        if let Some(entry) = last.get(&(row.from, row.to))
-            && !entry.matched
-        {
+        if !is_matched(row, last) {
             count += 1;
         }
     }

@@ -1,14 +1,15 @@
 //! The metric of worked networks; the values are worked out by hand from this project's rules.
 
-ghost use Rattle.std.specs.Prelude.{◌≡◌};
-ghost use Rattle.metric_make.specs.MetricOf.{base_of};
+ghost use Rattle.std.specs.Prelude.{◌≡◌, ◌*◌, length, map};
+ghost use Rattle.traffic_files.specs.Ranges.{ArePenaltiesInRange, AreSpeedsInRange};
 
 use crate::towns::{add_nodes, add_way, bend, crossing, profile_of};
 use edge_graph::Network;
-use metric_make::{BaseMetric, base};
+use metric_make::{BaseMetric, base, metric};
 use road_base::Object;
 use search_graph::DurLen;
 use std::alloc::{AllocError, Global};
+use traffic_files::{SpeedRow, TurnRow};
 
 const CAR: &str =
     "name = \"car\"\nvehicle = \"motorcar\"\nu_turn_penalty = 200\n[speeds]\nresidential = 40\n";
@@ -39,7 +40,8 @@ pub fn cost_told(alloc: Global, cost: Option<DurLen>) -> Result<String, AllocErr
 
 // What a metric's vertices and turns cost.
 fn told(alloc: Global, network: &Network, metric: &BaseMetric) -> Result<String, AllocError>
-    requires { metric.now ≡ base_of network.now }
+    requires vertices { length metric.now.weights.vertex ≡ 2 * length network.now.segments }
+    requires turns { length metric.now.weights.arc ≡ length network.now.turns }
 {
     let mut text = String::new(alloc);
     for v in 0..2 * network.segments() {
@@ -61,6 +63,24 @@ fn costs_of(alloc: Global, objects: &[Object], settings: &str) -> Result<String,
     };
     let metric = base(alloc, &network)?;
     told(alloc, &network, &metric)
+}
+
+// What the vertices and turns of a map cost under rows of traffic files, and how many rows match nothing.
+fn costs_under(
+    alloc: Global,
+    objects: &[Object],
+    speeds: &[SpeedRow],
+    turns: &[TurnRow],
+) -> Result<String, AllocError>
+    requires speeds { AreSpeedsInRange speeds.now }
+    requires penalties { ArePenaltiesInRange turns.now }
+{
+    let Ok(network) = Network::build(alloc, objects, &profile_of(alloc, WITH_PENALTIES)?) else {
+        return Err(AllocError);
+    };
+    let metric = metric(alloc, &network, speeds, turns)?;
+    let costs = told(alloc, &network, &metric)?;
+    format!(in alloc; "{costs}| {}", metric.unmatched())
 }
 
 // 1111 decimetres at 40 km/h are 99.99 deciseconds. The turns are 0-2, 2-3 and 3-2; the latter two turn
@@ -98,6 +118,92 @@ fn bends_and_signals_have_their_penalties(rt: HostRuntime) -> Result<(), AllocEr
     assert_eq!(rt;
         bent.as_str(),
         "99/1111 99/1111 99/1111 99/1111 | 0/0 200/0 200/0 0/0 "
+    );
+    Ok(())
+}
+
+const fn speed(from: i64, to: i64, speed: u32) -> SpeedRow {
+    SpeedRow { from, to, speed }
+}
+
+const fn turn(from: i64, via: i64, to: i64, penalty: u32) -> TurnRow {
+    TurnRow {
+        from,
+        via,
+        to,
+        penalty,
+    }
+}
+
+// At 1 km/h 1111 decimetres are 3999.6 deciseconds. The street from node 1 to node 2 is one-way, so that a row
+// the other way round matches nothing; nor does a turn back at node 2, of which there is none but from node 3.
+#[test]
+fn the_last_row_for_a_vertex_or_a_turn_decides(rt: HostRuntime) -> Result<(), AllocError> {
+    let alloc = rt.alloc();
+    let map = streets(alloc)?;
+    let cases: [(&[SpeedRow], &[TurnRow], &str); 9] = [
+        (&[], &[], "99/1111 - 1/1 1/1 | 0/0 200/0 200/0 | 0"),
+        (
+            &[speed(1, 2, 1000)],
+            &[],
+            "3999/1111 - 1/1 1/1 | 0/0 200/0 200/0 | 0",
+        ),
+        (
+            &[speed(1, 2, 0), speed(1, 9, 20000), speed(1, 2, 20000)],
+            &[],
+            "199/1111 - 1/1 1/1 | 0/0 200/0 200/0 | 1",
+        ),
+        (
+            &[speed(1, 2, 20000), speed(1, 2, 0)],
+            &[],
+            "- - 1/1 1/1 | 0/0 200/0 200/0 | 0",
+        ),
+        (
+            &[speed(2, 1, 20000), speed(2, 1, 0)],
+            &[],
+            "99/1111 - 1/1 1/1 | 0/0 200/0 200/0 | 2",
+        ),
+        (
+            &[],
+            &[turn(1, 2, 3, 50), turn(2, 3, 2, 7)],
+            "99/1111 - 1/1 1/1 | 50/0 7/0 200/0 | 0",
+        ),
+        (
+            &[],
+            &[turn(1, 2, 3, 50), turn(1, 2, 3, 0), turn(3, 2, 1, 5)],
+            "99/1111 - 1/1 1/1 | 0/0 200/0 200/0 | 1",
+        ),
+        (
+            &[speed(1, 2, 0)],
+            &[turn(1, 2, 3, 70)],
+            "- - 1/1 1/1 | 70/0 200/0 200/0 | 0",
+        ),
+        (
+            &[speed(3, 2, 1000000)],
+            &[turn(3, 2, 3, 1000000), turn(1, 2, 1, 1)],
+            "99/1111 - 1/1 1/1 | 0/0 200/0 1000000/0 | 1",
+        ),
+    ];
+    for (speeds, turns, expected) in cases {
+        let got = costs_under(alloc, &map, speeds, turns)?;
+        assert_eq!(rt; got.as_str(), expected);
+    }
+    Ok(())
+}
+
+// The row's penalty counts in place of the bend's and of the signal's together.
+#[test]
+fn a_row_for_a_turn_replaces_the_signal_too(rt: HostRuntime) -> Result<(), AllocError> {
+    let alloc = rt.alloc();
+    let signal = [("highway", "traffic_signals")];
+    let rows = [turn(1, 5, 4, 10)];
+    let got = costs_under(alloc, &crossing(alloc, &signal)?, &[], &rows)?;
+    let ways = "99/1111 99/1111 99/1111 99/1111 99/1111 99/1111 99/1111 99/1111 | ";
+    let turns =
+        "37/0 30/0 10/0 200/0 200/0 80/0 37/0 30/0 200/0 30/0 80/0 37/0 37/0 30/0 80/0 230/0 ";
+    assert_eq!(rt;
+        got.as_str(),
+        format!(in alloc; "{ways}{turns}| 0")?.as_str()
     );
     Ok(())
 }

@@ -14,11 +14,11 @@ small_weights-requires c =
     let few : c.graph.result.now.vertices ≤ 2 ^ 27 = search rules in
     let vertices =
     ap length c.in_ok-vertex.ensures.value
-    ∙ length-map (vertices_of c.args.network.now) vertex_cost
+    ∙ length-map (vertices_of c.args.network.now) (vertex_cost c.args.speeds.now)
     ∙ length-vertices c.args.network.now.segments
     ∙ sym (ap (λ (g : Digraph). g.vertices) c.graph.ensures.value) in
     let arcs =
     ap length c.in_ok-arc.ensures.value
-    ∙ length-map c.args.network.now.turns (turn_cost c.args.network.now)
+    ∙ length-map c.args.network.now.turns (turn_cost c.args.network.now c.args.turns.now)
     ∙ sym (ap (λ (g : Digraph). length g.arcs) c.graph.ensures.value) in
-    small_from_lists durlen_ops c.graph.result.now c.in_ok-vertex.vertex c.in_ok-arc.arc few vertices arcs c.in_ok-vertex.ensures.unit c.in_ok-arc.ensures.unit
+    small_from_lists durlen_ops c.graph.result.now c.in_ok-vertex.vertex.costs c.in_ok-arc.arc.costs few vertices arcs c.in_ok-vertex.ensures.unit c.in_ok-arc.ensures.unit

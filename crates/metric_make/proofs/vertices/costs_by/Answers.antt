@@ -1,17 +1,33 @@
-use Rattle.std.proofs.Common.{refl, arith}
+use Rattle.std.proofs.Common.{◌≡◌, ℕ, ◌+◌, ◌*◌, List, take, refl, subst, arith}
 use Rattle.std.proofs.lemmas.List.Elements.{All-push}
 use Rattle.std.specs.Option.{ForSome}
 use Rattle.search_graph.specs.Durations.{durlen_ops}
+use Rattle.std.proofs.lemmas.List.{take_all}
+use Rattle.edge_graph.specs.Laws.{length-vertices}
+use Rattle.edge_graph.specs.NetworkView.{vertices_of}
+use Rattle.edge_graph.specs.Vertex.{Vertex}
+use Rattle.metric_make.specs.LastRows.{AreMarked, pair_eq}
+use Rattle.metric_make.specs.TrafficRows.{is_way}
 use Rattle.metric_make.proofs.CostLemmas.{segment-step}
 use Rattle.metric_make.proofs.vertices.costs_by.Goals as goal
 
 pub loop-s-preserved : goal.loop-s-preserved
 loop-s-preserved c = record {
-  rest = segment-step c.args.network.now.segments c.loop-s.s c.length-decimetres.result c.ends.result.0 c.ends.result.1 c.loop-s.costs c.push-in-loop-s.new.self c.cost.result c.cost-in-loop-s.result _
+  rest = segment-step c.args.rows.now c.args.network.now.segments c.loop-s.s c.length-decimetres.result c.ends.result.0 c.ends.result.1 c.loop-s.costs c.push-in-loop-s.new.self c.cost.result c.cost-in-loop-s.result _
       (omega (arith, c.segments-s-end.ensures.value)) c.ends.ensures c.length-decimetres.ensures.value c.cost.ensures.value c.cost-in-loop-s.ensures.value
       (rw (c.in_ok-push-2.ensures.pushed, c.in_ok-push.ensures.pushed) refl) c.loop-s.invariant.rest;
   unit =
       rw (c.in_ok-push-2.ensures.pushed, c.in_ok-push.ensures.pushed)
       (All-push (λ o. ForSome o (λ x. durlen_ops.units x 1)) _ c.cost-in-loop-s.result
       (All-push (λ o. ForSome o (λ x. durlen_ops.units x 1)) c.loop-s.costs c.cost.result c.loop-s.invariant.unit c.cost.ensures.unit) c.cost-in-loop-s.ensures.unit);
+  rows = c.cost-in-loop-s.ensures.rows;
+  matched =
+      let both : 2 * c.loop-s.s + 1 + 1 ≡ 2 * (c.loop-s.s + 1) = omega arith in
+      subst (λ (n : ℕ). AreMarked pair_eq (λ q. is_way (take n (vertices_of c.args.network.now)) q.0 q.1) c.cost-in-loop-s.new.last) both c.cost-in-loop-s.ensures.matched;
 }
+
+pub returns-clause-matched : goal.returns-clause-matched
+returns-clause-matched c =
+    let vs = vertices_of c.args.network.now in
+    let all : take (2 * c.loop-s.s) vs ≡ vs = take_all (2 * c.loop-s.s) vs (omega (arith, length-vertices c.args.network.now.segments, c.segments-s-end.ensures.value)) in
+    subst (λ (l : List Vertex). AreMarked pair_eq (λ q. is_way l q.0 q.1) c.loop-s.last) all c.loop-s.invariant.matched
