@@ -12,7 +12,7 @@ use Rattle.http_session.specs.Taking.{TakesSome, TakesNone}
 use Rattle.http_session.specs.declared.coming.Coming.{Coming}
 use Rattle.http_session.specs.declared.coming.Coming.TheVariants as coming
 
-keeps_sink_then : (first mid now : ConnState) → KeepsSink first mid → KeepsSink mid now → KeepsSink first now
+pub keeps_sink_then : (first mid now : ConnState) → KeepsSink first mid → KeepsSink mid now → KeepsSink first now
 keeps_sink_then first mid now one two = record { sink = two.sink ∙ one.sink; opening = two.opening ∙ one.opening }
 
 pub grows_start : (state : ConnState) (unread : List ℕ) → Grows state state unread unread
@@ -39,7 +39,7 @@ grows_none first mid now unread held same one two = record {
   sink = keeps_sink_then first mid now one.sink two.sink;
 }
 
-no_bytes : (xs : List ℕ) → length xs ≡ 0 → xs ≡ []
+pub no_bytes : (xs : List ℕ) → length xs ≡ 0 → xs ≡ []
 no_bytes [] none = refl
 no_bytes (x ∷ xs) none = absurd (omega arith)
 
