@@ -1,8 +1,8 @@
-use Rattle.std.proofs.Common.{◌^◌, ◌<◌, ◌≤◌, ◌∙◌, length, arith, refl}
+use Rattle.std.proofs.Common.{◌≡◌, ℕ, ◌^◌, ◌<◌, ◌≤◌, ◌∙◌, List, [], length, arith, refl, rules, subst, sym}
 use Rattle.std.proofs.lemmas.Result.{on_ok_weaker}
 use Rattle.road_io.specs.Outside.{outside}
 use Rattle.line_session.specs.Growing.{sides}
-use Rattle.line_session.specs.Leading.{StopsAt}
+use Rattle.line_session.specs.Leading.{StopsAt, TakenSoFar}
 use Rattle.line_session.specs.Stopping.{Stopped}
 use Rattle.line_session.specs.declared.asking.Stop.{Stop}
 use Rattle.line_session.proofs.AnswerLaws.{if_err_weaker}
@@ -10,11 +10,15 @@ use Rattle.line_session.proofs.EndLaws.{input_failed, stopped_last, stopped_with
 use Rattle.line_session.proofs.asking.answer_lines.Goals as goal
 
 pub loop-taken-init : goal.loop-taken-init
-loop-taken-init g c = record {
-  so_far = taken_none c.args.published.now (g.I.Source.view c.args.input.now) (sides (g.F.Files.view c.args.files.now) (g.O.Sink.view c.args.output.now));
-  below = omega arith;
-  steady = refl;
-}
+loop-taken-init g c =
+    let input = g.I.Source.view c.args.input.now in
+    let start = sides (g.F.Files.view c.args.files.now) (g.O.Sink.view c.args.output.now) in
+    let none : c.in-Ok.held.items ≡ [] = search rules in
+    record {
+      so_far = subst (λ (held : List ℕ). TakenSoFar c.args.published.now c.args.published.now input input held start start 0) (sym none) (taken_none c.args.published.now input start);
+      below = omega arith;
+      steady = refl;
+    }
 
 -- the input failed
 pub returns-in-Err-clause-stopped : goal.returns-in-Err-clause-stopped
