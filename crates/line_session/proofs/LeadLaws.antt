@@ -1,192 +1,220 @@
--- How what is told of an input goes on, byte by byte and piece by piece.
-use Rattle.std.proofs.Common.{◌⊎◌, Bool, true, nat_le, Option, None, ◌≡◌, ℕ, ◌+◌, ◌<◌, ◌≤◌, false, ◌==◌, Result, Ok, Err, OnErr, get_or, drop, add-one, take-suc, take-append-drop, List, [], ◌∷◌, ◌++◌, length, take, refl, sym, ap, ◌∙◌, subst, inl, inr, append_assoc, append-nil, arith}
-use Rattle.std.proofs.lemmas.Bool.Decides.{nat_tests}
+-- How the answering of lines goes on, byte by byte and piece by piece.
+use Rattle.std.proofs.Common.{◌≡◌, ℕ, ◌+◌, ◌<◌, ◌⊎◌, inl, inr, Bool, true, false, ◌==◌, Option, Some, None, List, [], ◌∷◌, ◌++◌, length, map, take, drop, get_or, add-one, take-suc, take-append-drop, drop-cons, refl, sym, ap, ◌∙◌, subst, append_assoc, append-nil, arith}
+use Rattle.std.specs.Prelude.{if◌then◌else◌}
+use Rattle.std.specs.Str.{is_utf8}
 use Rattle.std.specs.Str.Lines.{lines, strip_carriage_return}
-use Rattle.reply_core.specs.Answers.{IsAnswerToAny, IsLineAnswer}
-use Rattle.reply_core.specs.Request.{target_of}
-use Rattle.road_places.specs.RoadMetric.{RoadMetric}
-use Rattle.reply_texts.specs.Refusals.{busy_text}
-use Rattle.reply_core.specs.declared.answers.Answer.{Answer}
-use Rattle.road_io.specs.Told.{appends_none, appends_then, front_of_first, front_of_second}
-use Rattle.road_io.specs.Views.{OutputView}
-use Rattle.line_session.specs.Leading.{AddsAll, AddsFront, Goes, GoesStopped, IsWholeFront, Leads, NoNewline, TellsAll, TellsFront}
-use Rattle.line_session.specs.Publication.{IsReplyLine, Publication, newline}
-use Rattle.line_session.specs.Told.{Adds, Told, whole_lines}
-use Rattle.line_session.proofs.LineLaws.{LongLines, lines_at, lines_last, long_lines, whole_at, whole_long}
+use Rattle.std.proofs.lemmas.List.Elements.{All-nil, All-push}
+use Rattle.line_session.specs.Growing.{Grows, GrowsFront, GrowsUnread, Sides}
+use Rattle.line_session.specs.Leading.{Goes, GoesHalted, Halts, NoNewline, Puts, PutsFront, PutsNone, SoFar, Steps, StopsAt, StopsWith, ended}
+use Rattle.line_session.specs.Publication.{Publication}
+use Rattle.line_session.specs.Stopping.{Answered, CutOff, Unread}
+use Rattle.line_session.specs.Told.{Contents, Adds, Telling, Told, also, nothing, whole_lines}
+use Rattle.line_session.specs.Traffic.{traffic_names}
+use Rattle.line_session.specs.declared.asking.Stop.{Stop}
+use Rattle.line_session.specs.declared.asking.Stop.TheVariants as stop
+use Rattle.line_session.proofs.GrowLaws.{grows_none, grows_then, grows_then_front, grows_then_unread}
+use Rattle.line_session.proofs.LineLaws.{clean_push, ended_push, lines_ended, lines_last, map_push, whole_at, whole_ended, whole_none}
+use Rattle.line_session.proofs.LineTold.{Alike, adds_alike, alike_held, alike_strip, held_more, names_alike, told_one, told_then}
 
--- a line that is too long asks for nothing
-target_of-long : (line : List ℕ) → 8192 < length line → target_of line ≡ None
-target_of-long line long = go (nat_le (length line) 8192) refl
-  where
-    go : (within : Bool) → nat_le (length line) 8192 ≡ within → target_of line ≡ None
-    go true e = let short : length line ≤ 8192 = grind (arith, nat_tests) in absurd (omega arith)
-    go false e = rw e refl
-
--- an answer to a line that is too long is one to any other such line
-answer_of_long : (metric : RoadMetric) (number : ℕ) (line other : List ℕ) (answer : Answer) → 8192 < length line → 8192 < length other → IsLineAnswer metric number line answer → IsLineAnswer metric number other answer
-answer_of_long metric number line other answer long long_other is =
-    subst (λ (target : Option (List ℕ)). IsAnswerToAny metric number target answer) (target_of-long line long ∙ sym (target_of-long other long_other)) is
-
--- two lines that are too long add the same
-adds_long : (last next : Publication) (line other text : List ℕ) → 8192 < length line → 8192 < length other → Adds last line text next → Adds last other text next
-adds_long last next [] other text long long_other adds = absurd (omega arith)
-adds_long last next (b ∷ line) [] text long long_other adds = absurd (omega arith)
-adds_long last next (b ∷ line) (c ∷ other) text long long_other (inl answers) =
-    let reply = answers.0 in
-    let answer = reply.1.0 in
-    inl ((reply.0, (answer, answer_of_long last.value last.number (b ∷ line) (c ∷ other) answer long long_other reply.1.1, reply.1.2), reply.2), answers.1)
-adds_long last next (b ∷ line) (c ∷ other) text long long_other (inr busy) = inr busy
-
-told_long : (last : Publication) (line other : List ℕ) (more : List (List ℕ)) (out : List ℕ) → 8192 < length line → 8192 < length other → Told last (line ∷ more) out → Told last (other ∷ more) out
-told_long last line other more out long long_other told =
-    (told.0, told.1, told.2, adds_long last told.1 line other told.0 long long_other told.3, told.4, told.5)
-
-told_first : (last : Publication) (line : List ℕ) (more : List (List ℕ)) (text out : List ℕ) → Adds last line text last → Told last more out → Told last (line ∷ more) (text ++ out)
-told_first last line more text out adds told = (text, last, out, adds, refl, told)
-
--- something is told of any lines
-told_total : (last : Publication) (all : List (List ℕ)) → (out : List ℕ) × Told last all out
-told_total last [] = ([], refl)
-told_total last ([] ∷ more) = let rest = told_total last more in (rest.0, told_first last [] more [] rest.0 (refl, refl) rest.1)
-told_total last ((b ∷ line) ∷ more) =
-    let rest = told_total last more in
-    ((busy_text ++ newline) ++ rest.0, told_first last (b ∷ line) more (busy_text ++ newline) rest.0 (inr (refl, refl)) rest.1)
-
-lead_start : (last : Publication) (all : List ℕ) → Leads last all [] all
-lead_start last all = record { leads = λ out told. told; whole = λ out told. told }
-
-lead_then : (last : Publication) (all first mid second rest : List ℕ) → Leads last all first mid → Leads last mid second rest → Leads last all (first ++ second) rest
-lead_then last all first mid second rest one two = record {
-  leads = λ out told. subst (λ (xs : List ℕ). Told last (lines all) xs) (sym (append_assoc first second out)) (one.leads (second ++ out) (two.leads out told));
-  whole = λ out told. subst (λ (xs : List ℕ). Told last (whole_lines all) xs) (sym (append_assoc first second out)) (one.whole (second ++ out) (two.whole out told));
+-- before the first byte
+pub so_far_none : (first : Publication) (s : Sides) → SoFar first first [] [] s s
+so_far_none first s = record {
+  parts = [];
+  part = [];
+  are = refl;
+  clean = tt;
+  begun = All-nil (λ b. (b == 10) ≡ false);
+  held_is = refl;
+  told = nothing;
+  is_told = (refl, refl);
+  grows = grows_none s;
 }
 
--- a newline ends the line that is held
-lead_line : (last : Publication) (held more text : List ℕ) → NoNewline held → Adds last (strip_carriage_return held) text last → Leads last (held ++ (10 ∷ more)) text more
-lead_line last held more text none adds = record {
-  leads = λ out told. subst (λ (all : List (List ℕ)). Told last all (text ++ out)) (sym (lines_at held more none)) (told_first last (strip_carriage_return held) (lines more) text out adds told);
-  whole = λ out told. subst (λ (all : List (List ℕ)). Told last all (text ++ out)) (sym (whole_at held more none)) (told_first last (strip_carriage_return held) (whole_lines more) text out adds told);
-}
+module _ (first last next : Publication) (taken held : List ℕ) (start before after : Sides) (so_far : SoFar first last taken held start before) where
+  -- what was told before, by the files as they stand now
+  here : before.files.content ≡ start.files.content
+  here = so_far.grows.read.content
 
--- two texts whose lines differ only in a first one that is too long in both add the same
-told_other : (last : Publication) (of : List ℕ → List (List ℕ)) (held : List ℕ) (b : ℕ) (more out : List ℕ) → 8194 ≤ length held → LongLines of held b more → Told last (of (held ++ more)) out → Told last (of (held ++ (b ∷ more))) out
-told_other last of held b more out long split told =
-    let first : 8192 < length split.without = omega (arith, split.long_without) in
-    let second : 8192 < length split.within = omega (arith, split.long_within) in
-    subst (λ (all : List (List ℕ)). Told last all out) (sym split.lines_within)
-    (told_long last split.without split.within split.rest out first second
-    (subst (λ (all : List (List ℕ)). Told last all out) split.lines_without told))
+  -- lines are told behind those
+  told_more : (more : List (List ℕ)) (added : Telling) → Told before.files.content last more added next → Told start.files.content first (map strip_carriage_return so_far.parts ++ more) (also so_far.told added) next
+  told_more more added told =
+      told_then start.files.content first last next (map strip_carriage_return so_far.parts) more so_far.told added so_far.is_told
+      (subst (λ (content : Contents). Told content last more added next) here told)
 
-told_whole : (last : Publication) (held : List ℕ) (b : ℕ) (more out : List ℕ) → 8194 ≤ length held → ((whole_lines (held ++ more) ≡ []) × (whole_lines (held ++ (b ∷ more)) ≡ [])) ⊎ LongLines whole_lines held b more → Told last (whole_lines (held ++ more)) out → Told last (whole_lines (held ++ (b ∷ more))) out
-told_whole last held b more out long (inl none) told = subst (λ (all : List (List ℕ)). Told last all out) (none.0 ∙ sym none.1) told
-told_whole last held b more out long (inr split) told = told_other last whole_lines held b more out long split told
+  told_line : (line : List ℕ) (added : Telling) → Adds before.files.content last line added next → Told start.files.content first (map strip_carriage_return so_far.parts ++ line ∷ []) (also so_far.told added) next
+  told_line line added adds = told_more (line ∷ []) added (told_one before.files.content last next line added adds)
 
--- a byte more is dropped where many are held
-lead_long : (last : Publication) (held : List ℕ) (b : ℕ) (more : List ℕ) → NoNewline held → (b == 10) ≡ false → 8194 ≤ length held → Leads last (held ++ (b ∷ more)) [] (held ++ more)
-lead_long last held b more none other long = record {
-  leads = λ out told. told_other last lines held b more out long (long_lines held b more none other (omega arith)) told;
-  whole = λ out told. told_whole last held b more out long (whole_long held b more none other) told;
-}
+  -- a byte was held or dropped
+  held_byte : (b : ℕ) (rest : List ℕ) → (b == 10) ≡ false → rest ≡ take 8194 (held ++ b ∷ []) → next ≡ last → after ≡ before → SoFar first next (taken ++ b ∷ []) rest start after
+  held_byte b rest other rest_is same stays = record {
+    parts = so_far.parts;
+    part = so_far.part ++ b ∷ [];
+    are = ap (λ (xs : List ℕ). xs ++ b ∷ []) so_far.are ∙ append_assoc (ended so_far.parts) so_far.part (b ∷ []);
+    clean = so_far.clean;
+    begun = All-push (λ c. (c == 10) ≡ false) so_far.part b so_far.begun other;
+    held_is = rest_is ∙ held_more so_far.part held b so_far.held_is;
+    told = so_far.told;
+    is_told = subst (λ (p : Publication). Told start.files.content first (map strip_carriage_return so_far.parts) so_far.told p) (sym same) so_far.is_told;
+    grows = subst (λ (s : Sides). Grows so_far.told start s) (sym stays) so_far.grows;
+  }
 
--- a byte was a newline, was held, or was dropped
-pub goes_line : (last : Publication) (held line rest : List ℕ) (b : ℕ) (before after : OutputView) → NoNewline held → b ≡ 10 → line ≡ strip_carriage_return held → rest ≡ [] → AddsAll last line before after → Goes last held (b ∷ []) before after rest
-goes_line last held line rest b before after none newline_is line_is rest_is adds =
-    let adds_line = subst (λ (xs : List ℕ). Adds last xs adds.0 last) line_is adds.1 in
-    let goes : Goes last held (10 ∷ []) before after [] = record { text = adds.0; put = adds.2; leads = λ more. lead_line last held more adds.0 none adds_line } in
-    subst (λ (xs : List ℕ). Goes last held (b ∷ []) before after xs) (sym rest_is)
-    (subst (λ (byte : ℕ). Goes last held (byte ∷ []) before after []) (sym newline_is) goes)
+  all_taken : (more : List ℕ) → taken ++ more ≡ ended so_far.parts ++ (so_far.part ++ more)
+  all_taken more = ap (λ (xs : List ℕ). xs ++ more) so_far.are ∙ append_assoc (ended so_far.parts) so_far.part more
 
-pub goes_held : (last : Publication) (held : List ℕ) (b : ℕ) (view : OutputView) → Goes last held (b ∷ []) view view (held ++ (b ∷ []))
-goes_held last held b view = record {
-  text = [];
-  put = appends_none view.written;
-  leads = λ more. subst (λ (xs : List ℕ). Leads last xs [] ((held ++ (b ∷ [])) ++ more)) (append_assoc held (b ∷ []) more) (lead_start last ((held ++ (b ∷ [])) ++ more));
-}
+  -- a newline ended a line, which was answered
+  line_byte : Puts last (strip_carriage_return held) before after next → SoFar first next (taken ++ 10 ∷ []) [] start after
+  line_byte puts = record {
+    parts = so_far.parts ++ so_far.part ∷ [];
+    part = [];
+    are = all_taken (10 ∷ []) ∙ ended_push so_far.parts so_far.part ∙ sym (append-nil (ended (so_far.parts ++ so_far.part ∷ [])));
+    clean = clean_push so_far.parts so_far.part so_far.clean so_far.begun;
+    begun = All-nil (λ b. (b == 10) ≡ false);
+    held_is = refl;
+    told = also so_far.told puts.told;
+    is_told = subst (λ (all : List (List ℕ)). Told start.files.content first all (also so_far.told puts.told) next) (sym (map_push so_far.parts so_far.part))
+        (told_line (strip_carriage_return so_far.part) puts.told
+        (adds_alike before.files.content last next (strip_carriage_return held) (strip_carriage_return so_far.part) puts.told (alike_strip so_far.part held so_far.held_is) puts.adds));
+    grows = grows_then so_far.told puts.told start before after so_far.grows puts.grows;
+  }
 
-pub goes_dropped : (last : Publication) (held : List ℕ) (b : ℕ) (view : OutputView) → NoNewline held → (b == 10) ≡ false → 8194 ≤ length held → Goes last held (b ∷ []) view view held
-goes_dropped last held b view none other long = record { text = []; put = appends_none view.written; leads = λ more. lead_long last held b more none other long }
+  whole_taken : (more : List ℕ) → whole_lines (taken ++ (10 ∷ more)) ≡ map strip_carriage_return so_far.parts ++ (strip_carriage_return so_far.part ∷ whole_lines more)
+  whole_taken more =
+      ap whole_lines (all_taken (10 ∷ more))
+      ∙ whole_ended so_far.parts (so_far.part ++ (10 ∷ more)) so_far.clean
+      ∙ ap (λ (all : List (List ℕ)). map strip_carriage_return so_far.parts ++ all) (whole_at so_far.part more so_far.begun)
 
--- the reply to a line was cut off
-pub stopped_line : (last : Publication) (held line : List ℕ) (b : ℕ) (before after : OutputView) → NoNewline held → b ≡ 10 → line ≡ strip_carriage_return held → AddsFront last line before after → GoesStopped last held (b ∷ []) before after
-stopped_line last held line b before after none newline_is line_is adds =
-    let adds_line = subst (λ (xs : List ℕ). Adds last xs adds.0 last) line_is adds.1 in
-    let stopped : GoesStopped last held (10 ∷ []) before after = record {
-      part = adds.2.0;
-      put = adds.2.2;
-      front = λ more.
-          let out = told_total last (whole_lines more) in
-          (adds.0 ++ out.0, (lead_line last held more adds.0 none adds_line).whole out.0 out.1, front_of_first adds.2.0 adds.0 out.0 adds.2.1);
-    } in
-    subst (λ (byte : ℕ). GoesStopped last held (byte ∷ []) before after) (sym newline_is) stopped
+  -- the reply to a line was cut off, or a file of it could not be read
+  cut_line : (line : List ℕ) (rest all : List (List ℕ)) → all ≡ map strip_carriage_return so_far.parts ++ (line ∷ rest) → (given : List ℕ) → Alike given line → PutsFront last given before after next → CutOff first next all start after
+  cut_line line rest all are given alike puts = record {
+    answered = map strip_carriage_return so_far.parts ++ line ∷ [];
+    rest = rest;
+    are = are ∙ sym (append_assoc (map strip_carriage_return so_far.parts) (line ∷ []) rest);
+    told = also so_far.told puts.told;
+    is_told = told_line line puts.told (adds_alike before.files.content last next given line puts.told alike puts.adds);
+    grows = grows_then_front so_far.told puts.told start before after so_far.grows puts.grows;
+  }
 
--- pieces, one behind the other
-pub goes_start : (last : Publication) (held : List ℕ) (view : OutputView) → Goes last held [] view view held
-goes_start last held view = record { text = []; put = appends_none view.written; leads = λ more. lead_start last (held ++ more) }
+  unread_line : (name line : List ℕ) (rest all : List (List ℕ)) → all ≡ map strip_carriage_return so_far.parts ++ (line ∷ rest) → (given : List ℕ) → Alike given line → PutsNone name last given before after next → Unread name first next all start after
+  unread_line name line rest all are given alike puts = record {
+    answered = map strip_carriage_return so_far.parts;
+    line = line;
+    rest = rest;
+    are = are;
+    told = so_far.told;
+    is_told = subst (λ (p : Publication). Told start.files.content first (map strip_carriage_return so_far.parts) so_far.told p) (sym puts.stays) so_far.is_told;
+    names = puts.names;
+    are_names = names_alike given line puts.names alike puts.are_names;
+    reads = puts.reads;
+    up_to = puts.up_to;
+    grows = grows_then_unread so_far.told puts.reads name start before after so_far.grows puts.grows;
+  }
 
-pub goes_then : (last : Publication) (held first mid second rest : List ℕ) (before middle after : OutputView) → Goes last held first before middle mid → Goes last mid second middle after rest → Goes last held (first ++ second) before after rest
-goes_then last held first mid second rest before middle after one two = record {
-  text = one.text ++ two.text;
-  put = appends_then before.written middle.written after.written one.text two.text one.put two.put;
-  leads = λ more. subst (λ (xs : List ℕ). Leads last (held ++ xs) (one.text ++ two.text) (rest ++ more)) (sym (append_assoc first second more))
-      (lead_then last (held ++ (first ++ (second ++ more))) one.text (mid ++ (second ++ more)) two.text (rest ++ more) (one.leads (second ++ more)) (two.leads more));
-}
+  halted_line : (why : Stop) (line : List ℕ) (rest all : List (List ℕ)) → all ≡ map strip_carriage_return so_far.parts ++ (line ∷ rest) → (given : List ℕ) → Alike given line → StopsAt why last given before after next → Halts why first next all start after
+  halted_line stop.Output line rest all are given alike stops = cut_line line rest all are given alike stops
+  halted_line (stop.File name) line rest all are given alike stops = unread_line name line rest all are given alike stops
+  halted_line stop.Input line rest all are given alike stops = stops
+  halted_line stop.TooLong line rest all are given alike stops = stops
+  halted_line stop.Memory line rest all are given alike stops = stops
 
-pub goes_stopped : (last : Publication) (held first mid second : List ℕ) (before middle after : OutputView) → Goes last held first before middle mid → GoesStopped last mid second middle after → GoesStopped last held (first ++ second) before after
-goes_stopped last held first mid second before middle after one two = record {
-  part = one.text ++ two.part;
-  put = appends_then before.written middle.written after.written one.text two.part one.put two.put;
-  front = λ more.
-      let told = two.front more in
-      subst (λ (xs : List ℕ). IsWholeFront last (held ++ xs) (one.text ++ two.part)) (sym (append_assoc first second more))
-      (one.text ++ told.0, (one.leads (second ++ more)).whole told.0 told.1, front_of_second two.part one.text told.0 told.2);
-}
+  halted_byte : (why : Stop) (more : List ℕ) → StopsAt why last (strip_carriage_return held) before after next → Halts why first next (whole_lines (taken ++ (10 ∷ more))) start after
+  halted_byte why more stops =
+      halted_line why (strip_carriage_return so_far.part) (whole_lines more) (whole_lines (taken ++ (10 ∷ more))) (whole_taken more) (strip_carriage_return held) (alike_strip so_far.part held so_far.held_is) stops
 
-pub stopped_longer : (last : Publication) (held piece more : List ℕ) (before after : OutputView) → GoesStopped last held piece before after → GoesStopped last held (piece ++ more) before after
-stopped_longer last held piece more before after stopped = record {
-  part = stopped.part;
-  put = stopped.put;
-  front = λ rest. subst (λ (xs : List ℕ). IsWholeFront last (held ++ xs) stopped.part) (sym (append_assoc piece more rest)) (stopped.front (more ++ rest));
-}
+  -- what stands behind the last newline is a line, if there is something
+  last_lines : lines taken ≡ map strip_carriage_return so_far.parts ++ lines so_far.part
+  last_lines = ap lines so_far.are ∙ lines_ended so_far.parts so_far.part so_far.clean
 
--- one byte of a piece more
-pub goes_byte : (last : Publication) (held mid rest piece : List ℕ) (index : ℕ) (before middle after : OutputView) → index < length piece → Goes last held (take index piece) before middle mid → Goes last mid (get_or piece index 0 ∷ []) middle after rest → Goes last held (take (index + 1) piece) before after rest
-goes_byte last held mid rest piece index before middle after bound one two =
-    subst (λ (xs : List ℕ). Goes last held xs before after rest) (sym (ap (λ (n : ℕ). take n piece) (add-one index) ∙ take-suc piece index 0 bound))
-    (goes_then last held (take index piece) mid (get_or piece index 0 ∷ []) rest before middle after one two)
+  told_last : (part : List ℕ) (added : Telling) → NoNewline part → Adds before.files.content last part added next → Told before.files.content last (lines part) added next
+  told_last [] added none adds = adds
+  told_last (b ∷ part) added none adds =
+      subst (λ (all : List (List ℕ)). Told before.files.content last all added next) (sym (lines_last (b ∷ part) none (omega arith)))
+      (told_one before.files.content last next (b ∷ part) added adds)
 
-pub stopped_byte : (last : Publication) (held mid piece : List ℕ) (index : ℕ) (before middle after : OutputView) → index < length piece → Goes last held (take index piece) before middle mid → GoesStopped last mid (get_or piece index 0 ∷ []) middle after → GoesStopped last held piece before after
-stopped_byte last held mid piece index before middle after bound one two =
-    let front = goes_stopped last held (take index piece) mid (get_or piece index 0 ∷ []) before middle after one two in
-    let taken : GoesStopped last held (take (index + 1) piece) before after =
-    subst (λ (xs : List ℕ). GoesStopped last held xs before after) (sym (ap (λ (n : ℕ). take n piece) (add-one index) ∙ take-suc piece index 0 bound)) front in
-    subst (λ (xs : List ℕ). GoesStopped last held xs before after) (take-append-drop (index + 1) piece)
-    (stopped_longer last held (take (index + 1) piece) (drop (index + 1) piece) before after taken)
+  pub answered_last : Puts last held before after next → Answered first next (lines taken) start after
+  answered_last puts = record {
+    told = also so_far.told puts.told;
+    is_told = subst (λ (all : List (List ℕ)). Told start.files.content first all (also so_far.told puts.told) next) (sym last_lines)
+        (told_more (lines so_far.part) puts.told
+        (told_last so_far.part puts.told so_far.begun (adds_alike before.files.content last next held so_far.part puts.told (alike_held so_far.part held so_far.held_is) puts.adds)));
+    grows = grows_then so_far.told puts.told start before after so_far.grows puts.grows;
+  }
 
--- what a line adds that is not empty
-pub adds_reply : (last : Publication) (line text : List ℕ) → 0 < length line → IsReplyLine last line text → Adds last line text last
-adds_reply last [] text some is = absurd (omega arith)
-adds_reply last (b ∷ line) text some is = inl (is, refl)
+  cut_last : PutsFront last held before after next → CutOff first next (lines taken) start after
+  cut_last puts = record {
+    answered = lines taken;
+    rest = [];
+    are = sym (append-nil (lines taken));
+    told = also so_far.told puts.told;
+    is_told = subst (λ (all : List (List ℕ)). Told start.files.content first all (also so_far.told puts.told) next) (sym last_lines)
+        (told_more (lines so_far.part) puts.told
+        (told_last so_far.part puts.told so_far.begun (adds_alike before.files.content last next held so_far.part puts.told (alike_held so_far.part held so_far.held_is) puts.adds)));
+    grows = grows_then_front so_far.told puts.told start before after so_far.grows puts.grows;
+  }
 
-pub adds_busy : (last : Publication) (line : List ℕ) → 0 < length line → Adds last line (busy_text ++ newline) last
-adds_busy last [] some = absurd (omega arith)
-adds_busy last (b ∷ line) some = inr (refl, refl)
+  none_anyway : (b : Bool) → ◌≡◌ {A = Option (List ℕ × List ℕ)} (if b then None else None) None
+  none_anyway true = refl
+  none_anyway false = refl
 
--- what is left behind the last newline
-tells_last : (last : Publication) (held text : List ℕ) → NoNewline held → Adds last held text last → Told last (lines held) text
-tells_last last [] text none adds = adds.0
-tells_last last (b ∷ held) text none adds =
-    subst (λ (all : List (List ℕ)). Told last all text) (sym (lines_last (b ∷ held) none (omega arith)))
-    (text, last, [], adds, sym (append-nil text), refl)
+  one_last : (part : List ℕ) (names : List ℕ × List ℕ) → NoNewline part → traffic_names part ≡ Some names → lines part ≡ part ∷ []
+  one_last [] names none are = let clash : None ≡ Some names = sym (none_anyway (is_utf8 [])) ∙ are in cc
+  one_last (b ∷ part) names none are = lines_last (b ∷ part) none (omega arith)
 
-pub tells_all : (last : Publication) (held line : List ℕ) (before after : OutputView) → NoNewline held → line ≡ held → AddsAll last line before after → TellsAll last held before after
-tells_all last held line before after none line_is adds =
-    (adds.0, tells_last last held adds.0 none (subst (λ (xs : List ℕ). Adds last xs adds.0 last) line_is adds.1), adds.2)
+  unread_last : (name : List ℕ) → PutsNone name last held before after next → Unread name first next (lines taken) start after
+  unread_last name puts =
+      let alike = alike_held so_far.part held so_far.held_is in
+      let one = one_last so_far.part puts.names so_far.begun (names_alike held so_far.part puts.names alike puts.are_names) in
+      unread_line name so_far.part [] (lines taken) (last_lines ∙ ap (λ (all : List (List ℕ)). map strip_carriage_return so_far.parts ++ all) one) held alike puts
 
-pub tells_front : (last : Publication) (held line : List ℕ) (before after : OutputView) → NoNewline held → line ≡ held → AddsFront last line before after → TellsFront last held before after
-tells_front last held line before after none line_is adds =
-    (adds.0, tells_last last held adds.0 none (subst (λ (xs : List ℕ). Adds last xs adds.0 last) line_is adds.1), adds.2)
+  pub halted_last : (why : Stop) → StopsAt why last held before after next → Halts why first next (lines taken) start after
+  halted_last stop.Output stops = cut_last stops
+  halted_last (stop.File name) stops = unread_last name stops
+  halted_last stop.Input stops = stops
+  halted_last stop.TooLong stops = stops
+  halted_last stop.Memory stops = stops
 
--- what holds at a failure
-pub on_err_given : {T E P : Type 0} (r : Result T E) → P → OnErr r P
-on_err_given (Ok x) holds = tt
-on_err_given (Err e) holds = holds
+-- the whole lines taken were answered
+pub answered_whole : (first last : Publication) (taken held : List ℕ) (start now : Sides) → SoFar first last taken held start now → Answered first last (whole_lines taken) start now
+answered_whole first last taken held start now so_far =
+    let all : whole_lines taken ≡ map strip_carriage_return so_far.parts =
+    ap whole_lines so_far.are ∙ whole_ended so_far.parts so_far.part so_far.clean
+    ∙ ap (λ (more : List (List ℕ)). map strip_carriage_return so_far.parts ++ more) (whole_none so_far.part so_far.begun)
+    ∙ append-nil (map strip_carriage_return so_far.parts) in
+    record {
+      told = so_far.told;
+      is_told = subst (λ (ls : List (List ℕ)). Told start.files.content first ls so_far.told last) (sym all) so_far.is_told;
+      grows = so_far.grows;
+    }
+
+-- a byte more
+so_far_byte : (first last next : Publication) (taken held rest : List ℕ) (b : ℕ) (start before after : Sides) → SoFar first last taken held start before → Steps last next held b rest before after → SoFar first next (taken ++ b ∷ []) rest start after
+so_far_byte first last next taken held rest b start before after so_far (inl ended_line) =
+    subst (λ (c : ℕ). SoFar first next (taken ++ c ∷ []) rest start after) (sym ended_line.0)
+    (subst (λ (xs : List ℕ). SoFar first next (taken ++ 10 ∷ []) xs start after) (sym ended_line.1)
+    (line_byte first last next taken held start before after so_far ended_line.2))
+so_far_byte first last next taken held rest b start before after so_far (inr kept) =
+    held_byte first last next taken held start before after so_far b rest kept.0 kept.1 kept.2 kept.3
+
+-- of a piece the first bytes, one more, and all
+pub goes_none : (last : Publication) (held piece : List ℕ) (s : Sides) → Goes last last held (take 0 piece) held s s
+goes_none last held piece s first start taken so_far = subst (λ (xs : List ℕ). SoFar first last xs held start s) (sym (append-nil taken)) so_far
+
+pub goes_byte : (last mid next : Publication) (held held_mid rest piece : List ℕ) (index : ℕ) (before middle after : Sides) → index < length piece → Goes last mid held (take index piece) held_mid before middle
+    → Steps mid next held_mid (get_or piece index 0) rest middle after → Goes last next held (take (index + 1) piece) rest before after
+goes_byte last mid next held held_mid rest piece index before middle after bound goes steps first start taken so_far =
+    subst (λ (xs : List ℕ). SoFar first next xs rest start after)
+    (append_assoc taken (take index piece) (get_or piece index 0 ∷ []) ∙ ap (λ (xs : List ℕ). taken ++ xs) (sym (ap (λ (n : ℕ). take n piece) (add-one index) ∙ take-suc piece index 0 bound)))
+    (so_far_byte first mid next (taken ++ take index piece) held_mid rest (get_or piece index 0) start middle after (goes first start taken so_far) steps)
+
+pub goes_halted : (why : Stop) (last mid next : Publication) (held held_mid piece : List ℕ) (index : ℕ) (before middle after : Sides) → index < length piece → Goes last mid held (take index piece) held_mid before middle
+    → StopsWith why mid next held_mid (get_or piece index 0) middle after → GoesHalted why last next held piece before after
+goes_halted why last mid next held held_mid piece index before middle after bound goes stops first start taken more so_far =
+    let rest : List ℕ = drop (index + 1) piece in
+    let piece_is : piece ≡ take index piece ++ (10 ∷ rest) =
+    sym (take-append-drop (index + 1) piece)
+    ∙ ap (λ (xs : List ℕ). xs ++ rest) (ap (λ (n : ℕ). take n piece) (add-one index) ∙ take-suc piece index 0 bound ∙ ap (λ (b : ℕ). take index piece ++ b ∷ []) stops.0)
+    ∙ append_assoc (take index piece) (10 ∷ []) rest in
+    let all : (taken ++ take index piece) ++ (10 ∷ (rest ++ more)) ≡ taken ++ (piece ++ more) =
+    append_assoc taken (take index piece) (10 ∷ (rest ++ more))
+    ∙ ap (λ (xs : List ℕ). taken ++ xs) (sym (append_assoc (take index piece) (10 ∷ rest) more) ∙ ap (λ (xs : List ℕ). xs ++ more) (sym piece_is)) in
+    subst (λ (xs : List ℕ). Halts why first next (whole_lines xs) start after) all
+    (halted_byte first mid next (taken ++ take index piece) held_mid start middle after (goes first start taken so_far) why (rest ++ more) stops.1)

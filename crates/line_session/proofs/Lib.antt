@@ -1,3 +1,9 @@
+pub mod AnswerLaws
+pub mod BoardLaws
 pub mod EndLaws
+pub mod GrowLaws
 pub mod LeadLaws
 pub mod LineLaws
+pub mod LineTold
+pub mod ReadLaws
+pub mod TrafficLaws

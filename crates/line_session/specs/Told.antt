@@ -1,28 +1,74 @@
--- What is told of the lines of an input (this project's rule): one reply a line, each with a newline,
--- under the last publication before it.
-use Rattle.std.specs.Prelude.{◌≡◌, ℕ, List, [], ◌∷◌, ◌++◌, ◌⊎◌, ◌==◌}
+-- What is told of the lines of an input (this project's rule): one reply a line, each with a newline, under the last
+-- publication before it. A traffic line publishes a metric under the next number, or is refused.
+use Rattle.std.specs.Prelude.{◌≡◌, ℕ, List, [], ◌∷◌, ◌++◌, ◌⊎◌, ◌==◌, Option, Some, None}
 use Rattle.std.specs.List.{slice_split}
 use Rattle.std.specs.Str.Lines.{strip_carriage_return}
 use Rattle.reply_texts.specs.Refusals.{busy_text}
-use Rattle.line_session.specs.Publication.{Publication, IsReplyLine, newline}
+use Rattle.control_port.specs.Telling.{body_of}
+use Rattle.control_port.specs.declared.controlled.Controlled.{Controlled}
+use Rattle.line_session.specs.Publication.{Comes, Publication, IsReplyLine, newline}
+use Rattle.line_session.specs.Traffic.{StandsFor, files_of, traffic_names}
 
--- the reply to a line under the last publication, and the last publication after it
-abbrev pub Answers : Publication → List ℕ → List ℕ → Publication → Type 0
-Answers last line text next = IsReplyLine last line text × (next ≡ last)
+-- what files hold, by their names, where they tell it
+abbrev pub Contents : Type 0
+Contents = List ℕ → Option (List ℕ)
 
--- there was no memory for the reply
-abbrev pub IsBusy : Publication → List ℕ → Publication → Type 0
-IsBusy last text next = (text ≡ busy_text ++ newline) × (next ≡ last)
+-- what some lines add: the bytes that are put, and the names of the files that are read, in order
+pub record Telling : Type 0 where
+  pub text : List ℕ
+  pub reads : List (List ℕ)
 
--- what a line adds to the output: nothing where it is empty
-abbrev pub Adds : Publication → List ℕ → List ℕ → Publication → Type 0
-Adds last [] text next = (text ≡ []) × (next ≡ last)
-Adds last (b ∷ line) text next = Answers last (b ∷ line) text next ⊎ IsBusy last text next
+abbrev pub nothing : Telling
+nothing = record { text = []; reads = [] }
 
--- the lines, in order, add these bytes to the output
-abbrev pub Told : Publication → List (List ℕ) → List ℕ → Type 0
-Told last [] out = out ≡ []
-Told last (line ∷ more) out = (text : List ℕ) × (next : Publication) × (rest : List ℕ) × Adds last line text next × (out ≡ text ++ rest) × Told next more rest
+-- one after the other
+abbrev pub also : Telling → Telling → Telling
+also one two = record { text = one.text ++ two.text; reads = one.reads ++ two.reads }
+
+-- the reply to a line that is no traffic line; the publication stays
+pub record SaysAnswer (last : Publication) (line : List ℕ) (added : Telling) (next : Publication) : Type 0 where
+  pub reply : IsReplyLine last line added.text
+  pub reads : added.reads ≡ []
+  pub stays : next ≡ last
+
+-- the reply to a traffic line of these names: both files are read, and then it is what comes of their bytes
+pub record SaysTraffic (content : Contents) (last : Publication) (names : List ℕ × List ℕ) (added : Telling) (next : Publication) : Type 0 where
+  pub speeds : List ℕ
+  pub turns : List ℕ
+  pub are_speeds : StandsFor content names.0 speeds
+  pub are_turns : StandsFor content names.1 turns
+  pub answer : Controlled
+  pub comes : Comes last speeds turns answer next
+  pub text : added.text ≡ body_of answer ++ newline
+  pub reads : added.reads ≡ files_of names
+
+-- there was no memory for the reply to a line of these files, of which all, some or none were read; the publication
+-- stays
+pub record IsBusy (last : Publication) (files : List (List ℕ)) (added : Telling) (next : Publication) : Type 0 where
+  pub text : added.text ≡ busy_text ++ newline
+  pub unread : List (List ℕ)
+  pub reads : files ≡ added.reads ++ unread
+  pub stays : next ≡ last
+
+-- the reply to a line that is not empty, by the names of its files where it is a traffic line, and the publication
+-- after it
+abbrev pub AnswersTo : Contents → Publication → List ℕ → Option (List ℕ × List ℕ) → Telling → Publication → Type 0
+AnswersTo content last line None added next = SaysAnswer last line added next ⊎ IsBusy last [] added next
+AnswersTo content last line (Some names) added next = SaysTraffic content last names added next ⊎ IsBusy last (files_of names) added next
+
+abbrev pub Answers : Contents → Publication → List ℕ → Telling → Publication → Type 0
+Answers content last line added next = AnswersTo content last line (traffic_names line) added next
+
+-- what a line adds: nothing where it is empty
+abbrev pub Adds : Contents → Publication → List ℕ → Telling → Publication → Type 0
+Adds content last [] added next = (added ≡ nothing) × (next ≡ last)
+Adds content last (b ∷ line) added next = Answers content last (b ∷ line) added next
+
+-- what the lines add, in order, from the first publication on, and the publication after them
+abbrev pub Told : Contents → Publication → List (List ℕ) → Telling → Publication → Type 0
+Told content first [] told last = (told ≡ nothing) × (last ≡ first)
+Told content first (line ∷ more) told last =
+    (one : Telling) × (next : Publication) × (rest : Telling) × Adds content first line one next × (told ≡ also one rest) × Told content next more rest last
 
 -- of the parts between newlines all but the last, each without the carriage return at its end
 abbrev pub ended_parts : List (List ℕ) → List (List ℕ)

@@ -1,10 +1,14 @@
-//! Answers the lines of an input, one reply a line, each under the last published metric. How the input is
-//! cut into pieces makes no difference. What is told of an input stands in `specs/Told`, what a call leaves
-//! in `specs/Stopping`. The tests are those of `road_router`.
+//! Answers the lines of an input, one reply a line: a target under the last published metric, traffic files by
+//! publishing their metric. How the input is cut into pieces makes no difference. `specs/` is to be read in this
+//! order: `Publication` (what is published, and what comes of traffic files), `Traffic` (which lines name them),
+//! `Told` (what is told of an input), `Growing` and `Stopping` (what a call leaves). The tests are those of
+//! `road_router`.
 #![tactic(auto)]
 
 mod asking;
 mod published;
+mod replying;
+mod traffic_lines;
 
 pub use asking::{Stop, answer_lines};
 pub use published::Published;

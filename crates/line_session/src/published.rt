@@ -1,9 +1,11 @@
 //! The metric that was published last.
 
-ghost use Rattle.std.specs.Prelude.{◌≡◌, IfOk};
+ghost use Rattle.std.specs.Prelude.{◌≡◌, IfOk, OnErr};
 ghost use Rattle.edge_graph.specs.NetworkView.{NetworkView};
+ghost use Rattle.line_session.specs.Leading.{IsTrafficReply};
 ghost use Rattle.line_session.specs.Publication.{IsReplyLine, opening};
 
+use control_port::{BodyRoom, ControlHead, control};
 use customized::{Metric, Roads, SERVER_LIMITS};
 use edge_graph::Network;
 use metric_make::base;
@@ -20,6 +22,7 @@ use std::thread::Threads;
 /// lie. Contracts see the last publication.
 #[derive(Drop)]
 pub struct Published {
+    roads: Roads,
     board: LocalBoard<Metric>,
     grid: Grid,
 }
@@ -29,14 +32,13 @@ impl Model for Published {
 
     ghost Value = { Publication };
 
-    ghost use Rattle.std.specs.Prelude.{◌≡◌};
     ghost use Rattle.std.specs.Arc.{arc_value};
     ghost use Rattle.metric_publish.specs.History.{entry_of};
-    ghost use Rattle.snap_index.specs.Ends.{all_ends};
+    ghost use Rattle.line_session.specs.Parts.{AreParts};
 
     ghost view = { λ p. publication_of (entry_of p.board.page.put) };
 
-    ghost invariant = { λ p. p.grid ≡ all_ends (arc_value p.board.page.put.value).road.network.segments };
+    ghost invariant = { λ p. AreParts p.roads p.board.page.token.log (arc_value p.board.page.put.value) p.grid };
 }
 
 impl Published {
@@ -55,7 +57,7 @@ impl Published {
         let grid = Grid::of(alloc, roads.network())?;
         let metric = Metric::make(rt, alloc, &roads, base)?;
         let board = LocalBoard::of(alloc, Arc::new(alloc, metric)?, 0)?;
-        Ok(Published { board, grid })
+        Ok(Published { roads, board, grid })
     }
 
     /// The reply to a line that is not empty, with a newline behind it. It answers an error only where
@@ -67,6 +69,33 @@ impl Published {
         let answer = line_answer(alloc, &held, &self.grid, line)?;
         let mut text = answer.text.into_string();
         text.push('\n')?;
+        Ok(Text::of(text))
+    }
+
+    /// Publishes the metric of the bytes of two traffic files, and answers the reply to them, with a newline
+    /// behind it. The cells of the metric are customized in threads. It answers an error only where memory
+    /// runs out, and then nothing was published: the room for the reply is taken first.
+    pub fn publish<R: Threads + Sync>(
+        &mut self,
+        rt: &R,
+        alloc: Global,
+        speeds: Vec<u8>,
+        turns: &[u8],
+    ) -> Result<Text, AllocError>
+        ensures reply { IfOk result (λ text. IsTrafficReply self.old speeds.items turns.now text self.new) }
+        ensures stays { OnErr result (self.new ≡ self.old) }
+    {
+        let room = BodyRoom::new(alloc)?;
+        let mut body = speeds;
+        let speeds_length = body.len();
+        body.extend_from_slice(turns)?;
+        let request = ControlHead::Metric {
+            speeds: speeds_length,
+            length: body.len(),
+        };
+        let answer = control(rt, alloc, &mut self.board, &self.roads, request, &body)?;
+        let mut text = room.body(&answer);
+        text.push('\n').unwrap();
         Ok(Text::of(text))
     }
 }

@@ -15,3 +15,4 @@ pub mod Taking
 pub mod TakingLaws
 pub mod Told
 pub mod Views
+pub mod NameLaws

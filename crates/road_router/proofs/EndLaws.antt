@@ -1,25 +1,23 @@
--- Lines put behind what stands in the output.
+-- What the parts of a run say, put together.
 use Rattle.std.proofs.Common.{◌≡◌, ◌≤◌, ℕ, List, [], ◌∷◌, ◌++◌, ◌⊎◌, ⊎_elim, inl, inr, Option, Some, None, Result, Ok, Err, OnErr, IsErrOf, refl, ap, sym, ◌∙◌, subst, append_assoc}
-use Rattle.std.specs.Io.KnownBytes.{Appends}
 use Rattle.road_io.specs.Faults.{FilesRose, InputRose, OutputRose}
-use Rattle.road_io.specs.Outside.{outside}
+use Rattle.road_io.specs.NameLaws.{names_then}
+use Rattle.road_io.specs.Outside.{Outside, outside}
 use Rattle.road_io.specs.Putting.{Closes}
 use Rattle.road_io.specs.Views.{FilesView, InputView, OutputView}
-use Rattle.line_session.specs.Stopping.{InputFailed, OutputFailed, ToldAll, TookTooMuch}
 use Rattle.road_base.specs.declared.program_status.Status.{Status}
 use Rattle.road_base.specs.declared.program_status.Status.TheVariants as status
 use Rattle.road_io.specs.FailedNames.{AppendsNames, TellsFailed, TellsRead}
-use Rattle.road_io.specs.FaultLaws.{rose_since}
 use Rattle.road_io.specs.Faults.{HasFileCause, Rose}
 use Rattle.road_io.specs.declared.failures.FileFault.{FileFault}
 use Rattle.road_io.specs.declared.failures.FileFault.TheVariants as file
-use Rattle.road_io.specs.Told.{IsContent, appends_then, appends_front_then}
+use Rattle.road_io.specs.Told.{IsContent}
 use Rattle.edge_graph.specs.NetworkView.{NetworkView}
 use Rattle.line_session.specs.Publication.{Publication, opening}
 use Rattle.opl_read.specs.Objects.{opl_objects}
 use Rattle.road_base.specs.declared.osm_objects.Object.{Object}
 use Rattle.map_loading.specs.Counting.{check_text, counts_of}
-use Rattle.road_router.specs.AskEnding.{Answering, EndsAsk, IsLong, long_line}
+use Rattle.road_router.specs.AskEnding.{Answering, EndsAsk, EndsFailed, EndsTold, EndsUnread, IsLong}
 use Rattle.road_router.specs.CheckEnding.{CountedFront, EndsCheck, IsCounted}
 use Rattle.road_router.specs.FileReads.{AreBegun, AreRead}
 use Rattle.road_router.specs.InnerEnds.{EndsCountOver, EndsFrom, EndsOver, EndsPut, IsLeft, answered, count_exhausted, count_refused, counted, exhausted, refused}
@@ -30,30 +28,6 @@ use Rattle.map_loading.specs.Loading.{load_of, memory_line}
 pub on_err_always : {T E P : Type 0} (r : Result T E) → P → OnErr r P
 on_err_always (Ok x) p = tt
 on_err_always (Err e) p = p
-
-closes_then : (before middle after : OutputView) (part line : List ℕ) → Appends before.written middle.written part → before.faults ≤ middle.faults → Closes middle after line → Closes before after (part ++ line)
-closes_then before middle after part line put later (inl more) = inl (appends_then before.written middle.written after.written part line put more)
-closes_then before middle after part line put later (inr more) =
-    inr (rose_since before.faults middle.faults after.faults later more.0, appends_front_then before.written middle.written after.written part line put more.1)
-
--- the line for too much input, behind the replies
-pub long_then : (first : Publication) (input_before input_after : InputView) (before middle after : OutputView)
-    → TookTooMuch first input_before input_after before middle → before.faults ≤ middle.faults → Closes middle after long_line
-    → IsLong first input_before input_after before after
-long_then first input_before input_after before middle after too_much later closes = record {
-  text = too_much.text;
-  answered = too_much.answered;
-  put = closes_then before middle after too_much.text long_line too_much.put later closes;
-  steady = too_much.input_steady;
-}
-
--- names told one behind another
-pub names_then : (old middle new : Option (List (List ℕ))) (first second : List (List ℕ)) → AppendsNames old middle first → AppendsNames middle new second → AppendsNames old new (first ++ second)
-names_then None middle new first second one two = tt
-names_then (Some told) None new first second one two = absurd one
-names_then (Some told) (Some held) None first second one two = absurd two
-names_then (Some told) (Some held) (Some now) first second one two =
-    two ∙ ap (λ (l : List (List ℕ)). l ++ second) one ∙ append_assoc told first second
 
 -- the reads of both files, where the first was read
 pub both_read : (first middle last : FilesView) (map settings map_bytes settings_bytes : List ℕ)
@@ -177,36 +151,42 @@ check_of_left code first last input before after map settings name fault left (b
 check_of_left code first last input before after map settings name fault left (by_memory memory is put) =
     subst (λ (c : Status). EndsCheck c (outside first input before) (outside last input after) map settings) (sym is) (exhausted_of first last input before after map settings (left.memory memory) put)
 
-answering_of : (ended : Publication → Type 0) (first last : FilesView) (map settings map_bytes settings_bytes : List ℕ) (network : NetworkView)
-    → AreRead first last map settings map_bytes settings_bytes → load_of map_bytes settings_bytes ≡ Ok network
-    → ended (opening network) → Answering ended first last map settings
-answering_of ended first last map settings map_bytes settings_bytes network read loads ends = record {
+answering_of : (ended : Publication → Outside → Outside → Type 0) (before after : Outside) (files : FilesView) (map settings map_bytes settings_bytes : List ℕ) (network : NetworkView)
+    → AreRead before.files files map settings map_bytes settings_bytes → load_of map_bytes settings_bytes ≡ Ok network
+    → ended (opening network) (outside files before.input before.output) after → Answering ended before after map settings
+answering_of ended before after files map settings map_bytes settings_bytes network read loads ends = record {
+  files = files;
   network = network;
   loaded = record { map_bytes = map_bytes; settings_bytes = settings_bytes; read = read; loads = loads };
   ends = ends;
 }
 
 -- how answering over what was loaded ends, by its status
-ends_from : (code : Status) (first last : FilesView) (input_before input_after : InputView) (before after : OutputView) (map settings map_bytes settings_bytes : List ℕ) (network : NetworkView)
-    → AreRead first last map settings map_bytes settings_bytes → load_of map_bytes settings_bytes ≡ Ok network
-    → EndsFrom code (opening network) input_before input_after before after
-    → EndsAsk code (outside first input_before before) (outside last input_after after) map settings
-ends_from status.Ok first last input_before input_after before after map settings map_bytes settings_bytes network read loads h = (
-  record { files = read.steady; input = h.0; output = h.1 },
-  answering_of (λ (p : Publication). ToldAll p input_before input_after before after) first last map settings map_bytes settings_bytes network read loads h.2,
+ends_from : (code : Status) (before after : Outside) (files : FilesView) (map settings map_bytes settings_bytes : List ℕ) (network : NetworkView)
+    → AreRead before.files files map settings map_bytes settings_bytes → load_of map_bytes settings_bytes ≡ Ok network
+    → EndsFrom code (opening network) (outside files before.input before.output) after
+    → EndsAsk code before after map settings
+ends_from status.Ok before after files map settings map_bytes settings_bytes network read loads h = (
+  record { files = h.1.answered.grows.read.steady ∙ read.steady; input = h.1.steady; output = h.1.answered.grows.steady },
+  answering_of EndsTold before after files map settings map_bytes settings_bytes network read loads h,
 )
-ends_from status.Outside first last input_before input_after before after map settings map_bytes settings_bytes network read loads h =
-    inr (answering_of (λ (p : Publication). InputFailed p input_before input_after before after ⊎ OutputFailed p input_before input_after before after) first last map settings map_bytes settings_bytes network read loads h)
-ends_from status.Words first last input_before input_after before after map settings map_bytes settings_bytes network read loads h = absurd h
-ends_from status.Refused first last input_before input_after before after map settings map_bytes settings_bytes network read loads h =
-    inr (answering_of (λ (p : Publication). IsLong p input_before input_after before after) first last map settings map_bytes settings_bytes network read loads h)
-ends_from status.Memory first last input_before input_after before after map settings map_bytes settings_bytes network read loads h =
-    record { files = begun_both first last map settings map_bytes settings_bytes read; input = h.0; put = h.1 }
+ends_from status.Outside before after files map settings map_bytes settings_bytes network read loads (inl failed) =
+    inr (inl (answering_of EndsFailed before after files map settings map_bytes settings_bytes network read loads failed))
+ends_from status.Outside before after files map settings map_bytes settings_bytes network read loads (inr unread) =
+    inr (inr (answering_of EndsUnread before after files map settings map_bytes settings_bytes network read loads unread))
+ends_from status.Words before after files map settings map_bytes settings_bytes network read loads h = absurd h
+ends_from status.Refused before after files map settings map_bytes settings_bytes network read loads h =
+    inr (answering_of IsLong before after files map settings map_bytes settings_bytes network read loads h)
+ends_from status.Memory before after files map settings map_bytes settings_bytes network read loads h = record {
+  files = subst (λ (v : FilesView). AreBegun before.files v map settings) (sym h.0) (begun_both before.files files map settings map_bytes settings_bytes read);
+  input = h.1;
+  put = h.2;
+}
 
-refuses_of : (first last : FilesView) (input_before input_after : InputView) (before after : OutputView) (map settings map_bytes settings_bytes line : List ℕ)
-    → AreRead first last map settings map_bytes settings_bytes → load_of map_bytes settings_bytes ≡ Err line
-    → input_after ≡ input_before → Closes before after line → Refuses (outside first input_before before) (outside last input_after after) map settings
-refuses_of first last input_before input_after before after map settings map_bytes settings_bytes line read refuses untaken put = record {
+refuses_of : (before after : Outside) (map settings map_bytes settings_bytes line : List ℕ)
+    → AreRead before.files after.files map settings map_bytes settings_bytes → load_of map_bytes settings_bytes ≡ Err line
+    → after.input ≡ before.input → Closes before.output after.output line → Refuses before after map settings
+refuses_of before after map settings map_bytes settings_bytes line read refuses untaken put = record {
   line = line;
   refused = record { map_bytes = map_bytes; settings_bytes = settings_bytes; read = read; refuses = refuses };
   input = untaken;
@@ -214,18 +194,22 @@ refuses_of first last input_before input_after before after map settings map_byt
 }
 
 -- how a run ends that read its files and answers
-pub ends_of_read : (code : Status) (first last : FilesView) (input_before input_after : InputView) (before after : OutputView) (map settings map_bytes settings_bytes : List ℕ)
-    → AreRead first last map settings map_bytes settings_bytes
-    → EndsOver code (load_of map_bytes settings_bytes) input_before input_after before after
-    → EndsAsk code (outside first input_before before) (outside last input_after after) map settings
-ends_of_read code first last input_before input_after before after map settings map_bytes settings_bytes read (answered network loads from) =
-    ends_from code first last input_before input_after before after map settings map_bytes settings_bytes network read loads from
-ends_of_read code first last input_before input_after before after map settings map_bytes settings_bytes read (refused line refuses is untaken put) =
-    subst (λ (c : Status). EndsAsk c (outside first input_before before) (outside last input_after after) map settings) (sym is)
-    (inl (refuses_of first last input_before input_after before after map settings map_bytes settings_bytes line read refuses untaken put))
-ends_of_read code first last input_before input_after before after map settings map_bytes settings_bytes read (exhausted is untaken put) =
-    subst (λ (c : Status). EndsAsk c (outside first input_before before) (outside last input_after after) map settings) (sym is)
-    (record { files = begun_both first last map settings map_bytes settings_bytes read; input = untaken; put = put })
+pub ends_of_read : (code : Status) (before after : Outside) (files : FilesView) (map settings map_bytes settings_bytes : List ℕ)
+    → AreRead before.files files map settings map_bytes settings_bytes
+    → EndsOver code (load_of map_bytes settings_bytes) (outside files before.input before.output) after
+    → EndsAsk code before after map settings
+ends_of_read code before after files map settings map_bytes settings_bytes read (answered network loads from) =
+    ends_from code before after files map settings map_bytes settings_bytes network read loads from
+ends_of_read code before after files map settings map_bytes settings_bytes read (refused line refuses is unread untaken put) =
+    subst (λ (c : Status). EndsAsk c before after map settings) (sym is)
+    (inl (refuses_of before after map settings map_bytes settings_bytes line (subst (λ (v : FilesView). AreRead before.files v map settings map_bytes settings_bytes) (sym unread) read) refuses untaken put))
+ends_of_read code before after files map settings map_bytes settings_bytes read (exhausted is unread untaken put) =
+    subst (λ (c : Status). EndsAsk c before after map settings) (sym is)
+    (record {
+      files = subst (λ (v : FilesView). AreBegun before.files v map settings) (sym unread) (begun_both before.files files map settings map_bytes settings_bytes read);
+      input = untaken;
+      put = put;
+    })
 
 counted_of : (first last : FilesView) (map settings map_bytes settings_bytes : List ℕ) (objects : List Object) (network : NetworkView)
     → AreRead first last map settings map_bytes settings_bytes → opl_objects map_bytes ≡ Ok objects → load_of map_bytes settings_bytes ≡ Ok network
@@ -261,7 +245,7 @@ check_of_read code first last input before after map settings map_bytes settings
     count_from code first last input before after map settings map_bytes settings_bytes (check_text (counts_of objects) network) read (counted_of first last map settings map_bytes settings_bytes objects network read are loads) put
 check_of_read code first last input before after map settings map_bytes settings_bytes read (count_refused line refuses is put) =
     subst (λ (c : Status). EndsCheck c (outside first input before) (outside last input after) map settings) (sym is)
-    (refuses_of first last input input before after map settings map_bytes settings_bytes line read refuses refl put)
+    (refuses_of (outside first input before) (outside last input after) map settings map_bytes settings_bytes line read refuses refl put)
 check_of_read code first last input before after map settings map_bytes settings_bytes read (count_exhausted is put) =
     subst (λ (c : Status). EndsCheck c (outside first input before) (outside last input after) map settings) (sym is)
     (exhausted_of first last input before after map settings (begun_both first last map settings map_bytes settings_bytes read) put)
@@ -274,13 +258,12 @@ check_outside code first last input before after map settings ends is =
     let h : EndsCheck status.Outside (outside first input before) (outside last input after) map settings = subst (λ (c : Status). EndsCheck c (outside first input before) (outside last input after) map settings) is ends in
     ⊎_elim (λ (unread : IsUnread (outside first input before) (outside last input after) map settings). inl unread.failed.rose) (λ (rest : OutputRose before after × CountedFront (outside first input before) (outside last input after) map settings). inr (inr rest.0)) h
 
+outside_of : (before after : Outside) (map settings : List ℕ) → EndsAsk status.Outside before after map settings → FilesRose before.files after.files ⊎ (InputRose before.input after.input ⊎ OutputRose before.output after.output)
+outside_of before after map settings (inl unread) = inl unread.failed.rose
+outside_of before after map settings (inr (inl answering)) = elim answering.ends.1 [ inl failed ↦ inr (inl failed.rose) | inr failed ↦ inr (inr failed.halted.grows.rose) ]
+outside_of before after map settings (inr (inr answering)) = inl (subst (λ (n : ℕ). Rose n after.files.faults) answering.loaded.read.steady answering.ends.failed.halted.grows.read.rose)
+
 -- and so does a run that answers
-pub ask_outside : (code : Status) (first last : FilesView) (input_before input_after : InputView) (before after : OutputView) (map settings : List ℕ)
-    → EndsAsk code (outside first input_before before) (outside last input_after after) map settings
-    → code ≡ status.Outside → FilesRose first last ⊎ (InputRose input_before input_after ⊎ OutputRose before after)
-ask_outside code first last input_before input_after before after map settings ends is =
-    let h : EndsAsk status.Outside (outside first input_before before) (outside last input_after after) map settings = subst (λ (c : Status). EndsAsk c (outside first input_before before) (outside last input_after after) map settings) is ends in
-    elim h [
-      | inl unread ↦ inl unread.failed.rose
-      | inr answering ↦ elim answering.ends [ inl failed ↦ inr (inl failed.rose) | inr failed ↦ inr (inr failed.rose) ]
-    ]
+pub ask_outside : (code : Status) (before after : Outside) (map settings : List ℕ) → EndsAsk code before after map settings → code ≡ status.Outside
+    → FilesRose before.files after.files ⊎ (InputRose before.input after.input ⊎ OutputRose before.output after.output)
+ask_outside code before after map settings ends is = outside_of before after map settings (subst (λ (c : Status). EndsAsk c before after map settings) is ends)

@@ -4,10 +4,10 @@ use Rattle.std.specs.Prelude.{◌≡◌, ℕ, ◌⊎◌, List, [], Result, Ok, E
 use Rattle.std.specs.Io.KnownBytes.{Appends}
 use Rattle.edge_graph.specs.NetworkView.{NetworkView}
 use Rattle.road_io.specs.Faults.{OutputRose}
+use Rattle.road_io.specs.Outside.{Outside}
 use Rattle.road_io.specs.Putting.{Closes}
-use Rattle.road_io.specs.Views.{FilesView, InputView, OutputView}
+use Rattle.road_io.specs.Views.{FilesView, OutputView}
 use Rattle.line_session.specs.Publication.{Publication, opening}
-use Rattle.line_session.specs.Stopping.{InputFailed, OutputFailed, ToldAll}
 use Rattle.map_loading.specs.Counting.{check_text, counts_of}
 use Rattle.map_loading.specs.Loading.{load_of, memory_line}
 use Rattle.opl_read.specs.Objects.{opl_objects}
@@ -17,7 +17,7 @@ use Rattle.road_base.specs.declared.program_status.Status.TheVariants as status
 use Rattle.road_io.specs.declared.failures.FileFault.{FileFault}
 use Rattle.road_io.specs.declared.failures.FileFault.TheVariants as file
 use Rattle.road_io.specs.Told.{AppendsFront}
-use Rattle.road_router.specs.AskEnding.{IsLong}
+use Rattle.road_router.specs.AskEnding.{EndsFailed, EndsTold, EndsUnread, IsLong}
 use Rattle.road_router.specs.FileReads.{AreBegun, IsFailed}
 
 -- of the two files the one of this name was not read, with this fault
@@ -26,21 +26,19 @@ pub record IsLeft (before after : FilesView) (map settings name : List ℕ) (fau
   pub memory : fault ≡ file.Memory → AreBegun before after map settings
 
 -- the end of answering lines from a publication on, by the status
-abbrev pub EndsFrom : Status → Publication → InputView → InputView → OutputView → OutputView → Type 0
-EndsFrom status.Ok first input_before input_after before after =
-    (input_after.faults ≡ input_before.faults) × (after.faults ≡ before.faults) × ToldAll first input_before input_after before after
-EndsFrom status.Outside first input_before input_after before after =
-    InputFailed first input_before input_after before after ⊎ OutputFailed first input_before input_after before after
-EndsFrom status.Words first input_before input_after before after = ⊥
-EndsFrom status.Refused first input_before input_after before after = IsLong first input_before input_after before after
-EndsFrom status.Memory first input_before input_after before after = (input_after ≡ input_before) × Closes before after memory_line
+abbrev pub EndsFrom : Status → Publication → Outside → Outside → Type 0
+EndsFrom status.Ok first before after = EndsTold first before after
+EndsFrom status.Outside first before after = EndsFailed first before after ⊎ EndsUnread first before after
+EndsFrom status.Words first before after = ⊥
+EndsFrom status.Refused first before after = IsLong first before after
+EndsFrom status.Memory first before after = (after.files ≡ before.files) × (after.input ≡ before.input) × Closes before.output after.output memory_line
 
 -- the end of answering lines over what a map and settings are loaded as; where that was not begun, nothing
--- was taken of the input
-pub data EndsOver (code : Status) (loaded : Result NetworkView (List ℕ)) (input_before input_after : InputView) (before after : OutputView) : Type 0 where
-  answered : (network : NetworkView) → loaded ≡ Ok network → EndsFrom code (opening network) input_before input_after before after → EndsOver code loaded input_before input_after before after
-  refused : (line : List ℕ) → loaded ≡ Err line → code ≡ status.Refused → input_after ≡ input_before → Closes before after line → EndsOver code loaded input_before input_after before after
-  exhausted : code ≡ status.Memory → input_after ≡ input_before → Closes before after memory_line → EndsOver code loaded input_before input_after before after
+-- was taken of the input, and no further file was read
+pub data EndsOver (code : Status) (loaded : Result NetworkView (List ℕ)) (before after : Outside) : Type 0 where
+  answered : (network : NetworkView) → loaded ≡ Ok network → EndsFrom code (opening network) before after → EndsOver code loaded before after
+  refused : (line : List ℕ) → loaded ≡ Err line → code ≡ status.Refused → after.files ≡ before.files → after.input ≡ before.input → Closes before.output after.output line → EndsOver code loaded before after
+  exhausted : code ≡ status.Memory → after.files ≡ before.files → after.input ≡ before.input → Closes before.output after.output memory_line → EndsOver code loaded before after
 
 -- the end of putting a text, by its status
 abbrev pub EndsPut : Status → List ℕ → OutputView → OutputView → Type 0

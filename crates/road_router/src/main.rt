@@ -1,5 +1,5 @@
 //! Walnutkiln's program: reads a map and the settings of a vehicle, and counts what is in them, or answers
-//! lines of standard input, each under the last published metric.
+//! lines of standard input: targets under the last published metric, traffic files by publishing theirs.
 //!
 //! `running::run` does all that the program does over what is handed in, and its contract is the program's
 //! theorem: `specs/Ending` says what stands in the output, by the status, and what each status comes from.
@@ -15,6 +15,8 @@ mod retrying;
 mod running;
 #[cfg(test)]
 mod tests;
+#[cfg(test)]
+mod traffic_tests;
 mod typed_words;
 
 use endings::{Ended, run_to_end};

@@ -81,19 +81,22 @@ fn end_unread<O: Sink>(output: &mut O, name: &str, fault: FileFault) -> Status
 }
 
 // Answers the lines of the input from a publication on, and puts the line on which that ends.
-fn answer<I: Source, O: Sink>(
+fn answer<R: Threads + Sync, F: Files, I: Source, O: Sink>(
+    rt: &R,
     alloc: Global,
-    published: &Published,
+    published: &mut Published,
+    files: &mut F,
     input: &mut I,
     output: &mut O,
 ) -> Status
-    ensures { EndsFrom result published.now (I.view input.old) (I.view input.new)
-        (O.view output.old) (O.view output.new) }
+    ensures { EndsFrom result published.old (outside (F.view files.old) (I.view input.old) (O.view output.old))
+        (outside (F.view files.new) (I.view input.new) (O.view output.new)) }
 {
-    match answer_lines(alloc, published, input, output) {
+    match answer_lines(rt, alloc, published, files, input, output) {
         Ok(()) => Status::Ok,
         Err(Stop::Input) => Status::Outside,
         Err(Stop::Output) => Status::Outside,
+        Err(Stop::File(name)) => end_unread(output, name.as_str(), FileFault::Failed),
         Err(Stop::TooLong) => {
             close(output, LONG);
             Status::Refused
@@ -142,20 +145,21 @@ fn read_files<'a, F: Files>(
 }
 
 // Answers lines over a map and settings that were read, or refuses them.
-fn ask_over<R: Threads + Sync, I: Source, O: Sink>(
+fn ask_over<R: Threads + Sync, F: Files, I: Source, O: Sink>(
     rt: &R,
     alloc: Global,
     map: Vec<u8>,
     settings: &[u8],
+    files: &mut F,
     input: &mut I,
     output: &mut O,
 ) -> Status
-    ensures { EndsOver result (load_of map.items settings.now) (I.view input.old) (I.view input.new)
-        (O.view output.old) (O.view output.new) }
+    ensures { EndsOver result (load_of map.items settings.now) (outside (F.view files.old) (I.view input.old) (O.view output.old))
+        (outside (F.view files.new) (I.view input.new) (O.view output.new)) }
 {
     match load(alloc, map, settings) {
         Ok(loaded) => match Published::opening(rt, alloc, loaded.network) {
-            Ok(published) => answer(alloc, &published, input, output),
+            Ok(mut published) => answer(rt, alloc, &mut published, files, input, output),
             Err(_) => end_exhausted(output),
         },
         Err(LoadFault::Refused(line)) => end_refused(output, line),
@@ -164,7 +168,8 @@ fn ask_over<R: Threads + Sync, I: Source, O: Sink>(
 }
 
 /// Answers the lines of the input over the map and the settings in the files of these names, which are
-/// read first, in this order. The map is customized in threads. It waits for nobody but the outside.
+/// read first, in this order; then those are read that traffic lines name. Metrics are customized in
+/// threads. It waits for nobody but the outside.
 pub fn ask<R: Threads + Sync, F: Files, I: Source, O: Sink>(
     rt: &R,
     alloc: Global,
@@ -178,7 +183,9 @@ pub fn ask<R: Threads + Sync, F: Files, I: Source, O: Sink>(
         (outside (F.view files.new) (I.view input.new) (O.view output.new)) map.now settings.now }
 {
     match read_files(alloc, map, settings, files) {
-        Ok((map, settings)) => ask_over(rt, alloc, map, settings.as_slice(), input, output),
+        Ok((map, settings)) => {
+            ask_over(rt, alloc, map, settings.as_slice(), files, input, output)
+        }
         Err(unread) => end_unread(output, unread.name, unread.fault),
     }
 }

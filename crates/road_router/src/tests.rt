@@ -6,15 +6,15 @@ use road_io::{MemFiles, MemSink, MemSource, NoDoors, OpenGate};
 use std::alloc::{AllocError, Global};
 use std::thread::Threads;
 
-const TOWN: &[u8] =
+pub(crate) const TOWN: &[u8] =
     b"n1 x0 y0\nn2 x0 y0.001\nn3 x0.001 y0.001\nw10 Thighway=residential Nn1,n2,n3\n";
 
-const SETTINGS: &[u8] =
+pub(crate) const SETTINGS: &[u8] =
     b"name = \"car\"\nvehicle = \"motorcar\"\nu_turn_penalty = 200\n\n[speeds]\nresidential = 40\n";
 
-const LINE: &[u8] = b"GET /route/v1/car/0,0;0.001,0.001?overview=false\n";
+pub(crate) const LINE: &[u8] = b"GET /route/v1/car/0,0;0.001,0.001?overview=false\n";
 
-const REPLY: &[u8] =
+pub(crate) const REPLY: &[u8] =
     b"{\"code\":\"Ok\",\"data_version\":\"0\",\"routes\":[{\"distance\":222.2,\"duration\":19.8,\"weight\":19.8,\"weight_name\":\"duration\",\"legs\":[{\"distance\":222.2,\"duration\":19.8,\"weight\":19.8,\"summary\":\"\",\"steps\":[]}]}],\"waypoints\":[{\"distance\":0.0,\"name\":\"\",\"location\":[0.000000,0.000000]},{\"distance\":0.0,\"name\":\"\",\"location\":[0.001000,0.001000]}]}\n";
 
 const BAD: &[u8] = b"{\"code\":\"BadRequest\"}\n";
@@ -68,21 +68,21 @@ const BARRIERS: &[u8] =
 
 const BACKWARDS: &[u8] = b"GET /route/v1/car/0.00075,0;0.00025,0?overview=false\n";
 
-const SOUTH_TO_WEST: &[u8] = b"GET /route/v1/car/0.001,0;0,0.001?overview=false\n";
+pub(crate) const SOUTH_TO_WEST: &[u8] = b"GET /route/v1/car/0.001,0;0,0.001?overview=false\n";
 
 // A run of `ask` over a map, settings and an input that comes in pieces of this size; a size of 0 is no
 // limit. The output has this much room.
 #[derive(Clone, Copy)]
-struct Case<'a> {
-    map: &'a [u8],
-    settings: &'a [u8],
-    input: &'a [u8],
-    piece: usize,
-    room: usize,
+pub(crate) struct Case<'a> {
+    pub(crate) map: &'a [u8],
+    pub(crate) settings: &'a [u8],
+    pub(crate) input: &'a [u8],
+    pub(crate) piece: usize,
+    pub(crate) room: usize,
 }
 
 impl<'a> Case<'a> {
-    fn over_town(input: &'a [u8]) -> Case<'a> {
+    pub(crate) fn over_town(input: &'a [u8]) -> Case<'a> {
         Case {
             map: TOWN,
             settings: SETTINGS,
@@ -93,7 +93,7 @@ impl<'a> Case<'a> {
     }
 }
 
-fn named(alloc: Global, name: &str, bytes: &[u8]) -> Result<(Text, Vec<u8>), AllocError> {
+pub(crate) fn named(alloc: Global, name: &str, bytes: &[u8]) -> Result<(Text, Vec<u8>), AllocError> {
     Ok((Text::copy_of(alloc, name)?, Vec::from_slice(alloc, bytes)?))
 }
 
@@ -113,7 +113,7 @@ fn files_of(alloc: Global, case: Case<'_>) -> Result<MemFiles, AllocError> {
     Ok(MemFiles::of(alloc, list, Vec::new(alloc)))
 }
 
-fn run_over(
+pub(crate) fn run_over(
     rt: &(impl Threads + Sync),
     alloc: Global,
     case: Case<'_>,
@@ -187,7 +187,7 @@ fn lines_are_answered_one_by_one(rt: HostRuntime) -> Result<(), AllocError> {
         (b"\n\r\n\n", b""),
         (b"GET /\r\n", BAD_PATH),
         (
-            b"GET /\nTRAFFIC - -",
+            b"GET /\nTRAFFIC -  -",
             b"{\"code\":\"InvalidUrl\",\"message\":\"path\"}\n{\"code\":\"BadRequest\"}\n",
         ),
         (b"\r", BAD),
@@ -400,7 +400,7 @@ fn routes_over_small_maps(rt: HostRuntime) -> Result<(), AllocError> {
 }
 
 // The star with these tags at its fifth node, and this restriction.
-fn star(alloc: Global, tags: &[u8], restriction: &[u8]) -> Result<Vec<u8>, AllocError> {
+pub(crate) fn star(alloc: Global, tags: &[u8], restriction: &[u8]) -> Result<Vec<u8>, AllocError> {
     let mut map = Vec::from_slice(alloc, STAR_NODES)?;
     map.extend_from_slice(tags)?;
     map.extend_from_slice(STAR_WAYS)?;

@@ -1,14 +1,14 @@
 use Rattle.std.proofs.Common.{◌≡◌, ◌+◌, ◌-◌, ◌^◌, ◌≤◌}
+use Rattle.line_session.specs.Growing.{sides}
 use Rattle.line_session.specs.Leading.{TakenSoFar}
 use Rattle.line_session.proofs.asking.answer_lines.Given as goal
 
--- what was put for the bytes taken so far leads on, and nothing failed
+-- so many bytes were taken, and the input did not fail
 abbrev pub invariant-loop-taken : goal.invariant-loop-taken
 invariant-loop-taken g l = record {
-  so_far : TakenSoFar l.published (g.I.Source.view l.initial.input) (g.I.Source.view l.input) (g.O.Sink.view l.initial.output) (g.O.Sink.view l.output) l.buffer.held.items l.taken;
+  so_far : TakenSoFar l.initial.published l.published (g.I.Source.view l.initial.input) (g.I.Source.view l.input) l.buffer.held.items (sides (g.F.Files.view l.initial.files) (g.O.Sink.view l.initial.output)) (sides (g.F.Files.view l.files) (g.O.Sink.view l.output)) l.taken;
   below : l.taken ≤ 2 ^ 63 + 8192;
-  input_steady : (g.I.Source.view l.input).faults ≡ (g.I.Source.view l.initial.input).faults;
-  output_steady : (g.O.Sink.view l.output).faults ≡ (g.O.Sink.view l.initial.output).faults;
+  steady : (g.I.Source.view l.input).faults ≡ (g.I.Source.view l.initial.input).faults;
 }
 
 -- each piece takes a byte at the least

@@ -13,7 +13,7 @@ returns-in-Ok-Check-clause-outside g c =
 
 pub returns-in-Ok-Ask-clause-outside : goal.returns-in-Ok-Ask-clause-outside
 returns-in-Ok-Ask-clause-outside g c =
-    ask_outside c.ask.result (g.F.Files.view c.args.files.now) (g.F.Files.view c.ask.new.files) (g.I.Source.view c.args.input.now) (g.I.Source.view c.ask.new.input) (g.O.Sink.view c.args.output.now) (g.O.Sink.view c.ask.new.output) c.in-Ok-Ask.map.now c.in-Ok-Ask.settings.now c.ask.ensures.ends
+    ask_outside c.ask.result (outside (g.F.Files.view c.args.files.now) (g.I.Source.view c.args.input.now) (g.O.Sink.view c.args.output.now)) (outside (g.F.Files.view c.ask.new.files) (g.I.Source.view c.ask.new.input) (g.O.Sink.view c.ask.new.output)) c.in-Ok-Ask.map.now c.in-Ok-Ask.settings.now c.ask.ensures.ends
 
 pub returns-in-Err-Unknown-clause-ends : goal.returns-in-Err-Unknown-clause-ends
 returns-in-Err-Unknown-clause-ends g c =

@@ -1,0 +1,164 @@
+//! Traffic lines over worked towns: what is told of them, and of the routes behind them.
+
+use crate::tests::{Case, LINE, REPLY, SOUTH_TO_WEST, named, run_over, star};
+use road_base::{Status, Text};
+use road_io::{MemFiles, MemSink};
+use std::alloc::{AllocError, Global};
+use std::thread::Threads;
+
+const TRAFFIC: [(&str, &[u8]); 8] = [
+    ("slow.csv", b"1,2,20\n"),
+    ("closed.csv", b"1,2,0\n"),
+    ("nowhere.csv", b"1,9,20\n"),
+    ("crawl.csv", b"1,2,0.5\n"),
+    ("fast.csv", b"1,2,1000.001\n"),
+    ("faulty.csv", b"1,2,20\n2,3,30\n3,2,abc\n"),
+    ("left.csv", b"1,5,4,10\n"),
+    ("left_and_nowhere.csv", b"1,5,4,10\n1,5,9,10\n"),
+];
+
+const PUBLISHED: &str = "{\"code\":\"Ok\",\"data_version\":\"1\",\"unmatched\":0}";
+
+const BAD: &str = "{\"code\":\"BadRequest\"}";
+
+// The route over the town, before any traffic.
+const AS_BEFORE: &str =
+    "{\"code\":\"Ok\",\"data_version\":\"0\",\"routes\":[{\"distance\":222.2,\"duration\":19.8,";
+
+// The files of a map, its settings and traffic.
+fn files_of(alloc: Global, case: Case<'_>) -> Result<MemFiles, AllocError> {
+    let mut list: Vec<(Text, Vec<u8>)> = Vec::new(alloc);
+    list.push(named(alloc, "town.opl", case.map)?)?;
+    list.push(named(alloc, "settings.toml", case.settings)?)?;
+    for (name, bytes) in TRAFFIC {
+        list.push(named(alloc, name, bytes)?)?;
+    }
+    Ok(MemFiles::of(alloc, list, Vec::new(alloc)))
+}
+
+fn ask(
+    rt: &(impl Threads + Sync),
+    alloc: Global,
+    case: Case<'_>,
+) -> Result<(Status, MemSink, MemFiles), AllocError> {
+    let mut files = files_of(alloc, case)?;
+    let words = ["ask", "town.opl", "settings.toml"];
+    let (status, output) = run_over(rt, alloc, case, &words, &mut files)?;
+    Ok((status, output, files))
+}
+
+// Whether the run is done and puts as many lines as these, each of which begins so.
+fn tells(
+    rt: &(impl Threads + Sync),
+    alloc: Global,
+    case: Case<'_>,
+    expected: &[&str],
+) -> Result<bool, AllocError> {
+    let (status, output, _) = ask(rt, alloc, case)?;
+    let told = std::str::from_utf8(output.as_bytes()).unwrap_or("");
+    let mut lines = told.lines();
+    for front in expected {
+        match lines.next() {
+            Some(line) if line.starts_with(*front) => {}
+            _ => return Ok(false),
+        }
+    }
+    Ok(status == Status::Ok && lines.next().is_none())
+}
+
+#[test]
+fn routes_follow_the_traffic(rt: HostRuntime) -> Result<(), AllocError> {
+    let cases: [(&str, &[u8], &str, &str); 9] = [
+        ("TRAFFIC - -\n", LINE, PUBLISHED, "{\"code\":\"Ok\",\"data_version\":\"1\",\"routes\":[{\"distance\":222.2,\"duration\":19.8,"),
+        ("TRAFFIC slow.csv -\n", LINE, PUBLISHED, "{\"code\":\"Ok\",\"data_version\":\"1\",\"routes\":[{\"distance\":222.2,\"duration\":29.8,"),
+        ("TRAFFIC slow.csv -\r\n", b"GET /route/v1/car/0.001,0.001;0,0?overview=false", PUBLISHED, "{\"code\":\"Ok\",\"data_version\":\"1\",\"routes\":[{\"distance\":222.2,\"duration\":19.8,"),
+        ("TRAFFIC closed.csv -\n", LINE, PUBLISHED, "{\"code\":\"NoRoute\",\"data_version\":\"1\",\"message\":\"leg 0\"}"),
+        ("TRAFFIC nowhere.csv -\n", LINE, "{\"code\":\"Ok\",\"data_version\":\"1\",\"unmatched\":1}", "{\"code\":\"Ok\",\"data_version\":\"1\","),
+        ("TRAFFIC crawl.csv -\n", LINE, PUBLISHED, "{\"code\":\"Ok\",\"data_version\":\"1\",\"routes\":[{\"distance\":222.2,\"duration\":409.8,"),
+        ("TRAFFIC fast.csv -\n", LINE, "{\"code\":\"Refused\",\"file\":\"speeds\",\"row\":1,\"kind\":\"OutOfRange\"}", AS_BEFORE),
+        ("TRAFFIC faulty.csv -\n", LINE, "{\"code\":\"Refused\",\"file\":\"speeds\",\"row\":3,\"kind\":\"BadNumber\"}", AS_BEFORE),
+        ("TRAFFIC slow.csv closed.csv\n", LINE, "{\"code\":\"Refused\",\"file\":\"turns\",\"row\":1,\"kind\":\"BadCount\"}", AS_BEFORE),
+    ];
+    for (traffic, line, reply, route) in cases {
+        let mut input = Vec::from_slice(rt.alloc(), traffic.as_bytes())?;
+        input.extend_from_slice(line)?;
+        let case = Case::over_town(input.as_slice());
+        assert!(rt; tells(&rt, rt.alloc(), case, &[reply, route])?, "{traffic}");
+    }
+    Ok(())
+}
+
+// Each traffic line begins again with the profile.
+#[test]
+fn traffic_replaces_traffic(rt: HostRuntime) -> Result<(), AllocError> {
+    let mut input = Vec::from_slice(rt.alloc(), b"TRAFFIC slow.csv -\nTRAFFIC - -\n")?;
+    input.extend_from_slice(LINE)?;
+    let expected = [
+        PUBLISHED,
+        "{\"code\":\"Ok\",\"data_version\":\"2\",\"unmatched\":0}",
+        "{\"code\":\"Ok\",\"data_version\":\"2\",\"routes\":[{\"distance\":222.2,\"duration\":19.8,",
+    ];
+    assert!(rt; tells(&rt, rt.alloc(), Case::over_town(input.as_slice()), &expected)?);
+    Ok(())
+}
+
+#[test]
+fn penalties_of_turns_are_replaced(rt: HostRuntime) -> Result<(), AllocError> {
+    let route = "{\"code\":\"Ok\",\"data_version\":\"1\",\"routes\":[{\"distance\":222.2,\"duration\":29.8,";
+    let cases: [(&str, &str); 2] = [
+        ("TRAFFIC - left.csv\n", PUBLISHED),
+        (
+            "TRAFFIC - left_and_nowhere.csv\n",
+            "{\"code\":\"Ok\",\"data_version\":\"1\",\"unmatched\":1}",
+        ),
+    ];
+    let map = star(rt.alloc(), b"", b"")?;
+    for (traffic, reply) in cases {
+        let mut input = Vec::from_slice(rt.alloc(), traffic.as_bytes())?;
+        input.extend_from_slice(SOUTH_TO_WEST)?;
+        let case = Case {
+            map: map.as_slice(),
+            ..Case::over_town(input.as_slice())
+        };
+        assert!(rt; tells(&rt, rt.alloc(), case, &[reply, route])?, "{traffic}");
+    }
+    Ok(())
+}
+
+// One blank before each name, and nothing else.
+#[test]
+fn other_lines_are_no_traffic(rt: HostRuntime) -> Result<(), AllocError> {
+    let input: &[u8] =
+        b"TRAFFIC -  -\nTRAFFIC - - \n TRAFFIC - -\nTRAFFIC -\ntraffic - -\nTRAFFIC - -\t\nTRAFFIC - - -\nTRAFFIC - -\r";
+    let expected = [BAD, BAD, BAD, BAD, BAD, BAD, BAD, "cannot read"];
+    let (status, output, files) = ask(&rt, rt.alloc(), Case::over_town(input))?;
+    let told = std::str::from_utf8(output.as_bytes()).unwrap_or("");
+    let mut lines = told.lines();
+    for front in expected {
+        assert!(rt; lines.next().unwrap_or("").starts_with(front));
+    }
+    assert_eq!(rt; status, Status::Outside);
+    assert_eq!(rt; files.reads().len(), 3);
+    Ok(())
+}
+
+// The replies before the line are put, and then a line that names the file.
+#[test]
+fn a_traffic_file_that_cannot_be_read_ends_the_run(rt: HostRuntime) -> Result<(), AllocError> {
+    let cases: [(&[u8], usize); 2] = [
+        (b"TRAFFIC slow.csv none.csv\nGET /\n", 4),
+        (b"TRAFFIC none.csv slow.csv\nGET /\n", 3),
+    ];
+    for (traffic, reads) in cases {
+        let mut input = Vec::from_slice(rt.alloc(), LINE)?;
+        input.extend_from_slice(traffic)?;
+        let mut expected = Vec::from_slice(rt.alloc(), REPLY)?;
+        expected.extend_from_slice(b"cannot read none.csv\n")?;
+        let (status, output, files) = ask(&rt, rt.alloc(), Case::over_town(input.as_slice()))?;
+        assert_eq!(rt; status, Status::Outside);
+        assert_eq!(rt; output.as_bytes(), expected.as_slice());
+        assert_eq!(rt; files.reads().len(), reads);
+        assert_eq!(rt; files.failed_names().len(), 1);
+    }
+    Ok(())
+}
