@@ -41,8 +41,7 @@ abbrev pub AreAhead : ℕ → List (Begin × ℕ) → Type 0
 AreAhead n pieces = All (LeadsAhead n) pieces
 
 -- what is paid from place i to place j: at the vertices between them, and at the turns (that at place k is number
--- k - 1) from place i on that lie
--- before place j
+-- k - 1) from place i on that lie before place j
 abbrev pub cost_between : List DurLen → List DurLen → ℕ → ℕ → DurLen
 cost_between paid turns i j = durlen_ops.plus (total_of (slice_range paid i j)) (total_of (slice_range turns (i - 1) (j - 1)))
 
