@@ -33,4 +33,6 @@ pub use route_connections::serve_connection;
 pub use serving::serve_with;
 
 #[cfg(test)]
+mod control_tests;
+#[cfg(test)]
 mod tests;
