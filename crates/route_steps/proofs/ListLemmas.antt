@@ -1,6 +1,6 @@
 -- Lists that are made element by element.
 use Rattle.std.proofs.Common.{◌≡◌, ℕ, suc, ◌+◌, ◌-◌, ◌<◌, ◌≤◌, List, [], ◌∷◌, ◌++◌, Option, Some, length, map, take, drop, get_or, append_assoc, arith, refl, ap, ap₂, sym, ◌∙◌}
-use Rattle.std.specs.List.{cons_option, filter_map, slice_get, zip}
+use Rattle.std.specs.List.{cons_option, filter_map, slice_get}
 use Rattle.std.proofs.lemmas.List.{map-append, take_all}
 use Rattle.std.proofs.lemmas.List.Elements.{filter_map-append}
 use Rattle.std.proofs.lemmas.Option.{slice_get-get_or}

@@ -1,31 +1,22 @@
 -- Steps made from the lists of a walk.
-use Rattle.std.proofs.Common.{◌≡◌, ℕ, ◌+◌, ◌-◌, ◌^◌, ◌*◌, ◌<◌, ◌≤◌, List, [], ◌∷◌, ◌++◌, All, Option, None, Some, arith, ap, ap₂, get_or, length, map, refl, subst, sym, take, ◌∙◌}
-use Rattle.std.specs.Prelude.{option_map, slice_index, unwrap_or}
-use Rattle.std.proofs.lemmas.List.{length-map, length_push, map-append, take_all, take_at}
-use Rattle.std.proofs.lemmas.Option.{same_Some, slice_get_read}
-use Rattle.std.proofs.lemmas.Slice.{between_from_start}
-use Rattle.list_lemmas.proofs.Fronts.{map-map}
+use Rattle.std.proofs.Common.{◌≡◌, ℕ, ◌+◌, ◌-◌, ◌^◌, ◌<◌, List, [], ◌∷◌, ◌++◌, Option, ap, ap₂, get_or, length, map, refl, subst, sym, ◌∙◌}
+use Rattle.std.specs.Prelude.{slice_index, unwrap_or}
+use Rattle.std.proofs.lemmas.Option.{slice_get_read}
 use Rattle.road_base.specs.declared.coordinates.Point.{Point}
-use Rattle.road_base.specs.declared.directions.Modifier.{Modifier}
 use Rattle.road_base.specs.declared.segments.Place.{Place}
 use Rattle.search_graph.specs.declared.costs.DurLen.{DurLen}
-use Rattle.search_graph.specs.Digraph.{Weighting}
-use Rattle.search_graph.specs.Durations.{durlen_laws, durlen_ops}
-use Rattle.edge_graph.specs.NetworkView.{NetworkView}
+use Rattle.search_graph.specs.Durations.{durlen_ops}
 use Rattle.edge_graph.specs.Turn.{IsSimple}
-use Rattle.road_places.specs.Paid.{paid_along, paid_to, steps_of, total_of}
-use Rattle.road_places.specs.PaidLaws.{permitted_adds_up, total_of-append}
+use Rattle.road_places.specs.Paid.{paid_along, total_of}
+use Rattle.road_places.specs.PaidLaws.{permitted_adds_up}
 use Rattle.road_places.specs.Permitted.{IsPermitted}
 use Rattle.road_places.specs.RoadMetric.{RoadMetric}
-use Rattle.route_steps.specs.CutLaws.{cost_of, cuts-ahead, pieces-cost, pieces-line, points_of}
 use Rattle.route_steps.specs.Points.{points_along}
 use Rattle.route_steps.specs.StepParts.{IsCourse}
-use Rattle.route_steps.specs.StepSums.{AddUp, IsLineCut}
-use Rattle.route_steps.specs.Steps.{AreAhead, arrival_at, begin_at, begins_along, cost_between, departure, joined, pieces, point_in, points_between, step_between, steps_along}
-use Rattle.route_steps.specs.Turnings.{maneuver_at, turn_paid, turns_paid}
+use Rattle.route_steps.specs.Steps.{arrival_at, begins_along, pieces, point_in, step_between, steps_along}
+use Rattle.route_steps.specs.Turnings.{turns_paid}
 use Rattle.route_steps.specs.declared.begins.Begin.{Begin}
 use Rattle.route_steps.specs.declared.maneuvers.Maneuver.{Maneuver}
-use Rattle.route_steps.specs.declared.maneuvers.ManeuverKind.{ManeuverKind}
 use Rattle.route_steps.specs.declared.step_lists.Step.{Step}
 use Rattle.route_steps.specs.StepLaws.{length-paid_along, length-turns_paid}
 use Rattle.route_steps.specs.TurnLaws.{turns_paid-along}

@@ -1,6 +1,6 @@
 -- What holds however a walk is cut: its pieces cost together what is paid from the first cut on, and their lines joined
 -- are the line from there on; and cuts at some of the places of a walk lead ahead.
-use Rattle.std.proofs.Common.{◌≡◌, ℕ, zero, suc, ◌+◌, ◌-◌, ◌<◌, ◌≤◌, List, [], ◌∷◌, ◌++◌, Option, None, Some, arith, drop, take, length, map, refl, ap, ap₂, sym, ◌∙◌, append-nil}
+use Rattle.std.proofs.Common.{◌≡◌, ℕ, zero, suc, ◌+◌, ◌-◌, ◌<◌, ◌≤◌, List, [], ◌∷◌, ◌++◌, Option, None, Some, arith, drop, take, map, refl, ap, ap₂, sym, ◌∙◌, append-nil}
 use Rattle.std.specs.Prelude.{slice_range}
 use Rattle.std.specs.List.{cons_option, filter_map, flat_map, range_with_len}
 use Rattle.std.proofs.lemmas.List.{drop-drop, take-take}

@@ -1,7 +1,7 @@
 -- How many points a walk's line has: one more than the walk has vertices.
-use Rattle.std.proofs.Common.{◌≡◌, ℕ, suc, ◌+◌, ◌-◌, ◌*◌, ◌<◌, ◌≤◌, ◌≤ℤ◌, ◌+ℤ◌, ◌-ℤ◌, Bool, true, false, inl, inr, List, [], ◌∷◌, ◌++◌, All, Option, None, Some, arith, ap, ap₂, length, length-append, refl, take, ◌∙◌}
+use Rattle.std.proofs.Common.{◌≡◌, ℕ, suc, ◌+◌, ◌-◌, ◌*◌, ◌<◌, ◌≤◌, ◌≤ℤ◌, ◌-ℤ◌, Bool, true, false, inl, inr, List, [], ◌∷◌, ◌++◌, All, Option, Some, arith, ap, ap₂, length, length-append, refl, take, ◌∙◌}
 use Rattle.std.specs.Prelude.{ℤ, pos, negsuc, int_le, option_map}
-use Rattle.std.specs.List.{cons_option, filter_map, slice_get}
+use Rattle.std.specs.List.{cons_option, filter_map}
 use Rattle.std.specs.Option.{option_and_then, option_to_list}
 use Rattle.std.proofs.lemmas.Int.{ints}
 use Rattle.std.proofs.lemmas.List.{length-take-le}

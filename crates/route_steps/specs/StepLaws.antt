@@ -1,9 +1,9 @@
 -- What holds of the steps of a permitted walk as a whole: they cost what it costs, and their lines joined are its
 -- line.
-use Rattle.std.proofs.Common.{◌≡◌, ℕ, ◌+◌, ◌-◌, ◌^◌, ◌*◌, ◌<◌, ◌≤◌, List, [], ◌∷◌, ◌++◌, All, Option, None, Some, arith, ap, ap₂, get_or, length, map, refl, subst, sym, take, ◌∙◌}
-use Rattle.std.specs.Prelude.{option_map, slice_index, unwrap_or}
+use Rattle.std.proofs.Common.{◌≡◌, ℕ, ◌+◌, ◌-◌, ◌*◌, ◌<◌, List, [], ◌∷◌, ◌++◌, Option, None, Some, arith, ap, ap₂, length, map, refl, sym, take, ◌∙◌}
+use Rattle.std.specs.Prelude.{option_map, slice_index}
 use Rattle.std.proofs.lemmas.List.{length-map, length_push, map-append, take_all, take_at}
-use Rattle.std.proofs.lemmas.Option.{same_Some, slice_get_read}
+use Rattle.std.proofs.lemmas.Option.{same_Some}
 use Rattle.std.proofs.lemmas.Slice.{between_from_start}
 use Rattle.list_lemmas.proofs.Fronts.{map-map}
 use Rattle.road_base.specs.declared.coordinates.Point.{Point}
@@ -22,12 +22,10 @@ use Rattle.road_places.specs.Places.{IsPlaceOn}
 use Rattle.road_places.specs.RoadMetric.{RoadMetric}
 use Rattle.route_steps.specs.CutLaws.{cost_of, cuts-ahead, pieces-cost, pieces-line, points_of}
 use Rattle.route_steps.specs.Points.{points_along}
-use Rattle.route_steps.specs.StepParts.{IsCourse}
 use Rattle.route_steps.specs.StepSums.{AddUp, IsLineCut}
-use Rattle.route_steps.specs.Steps.{AreAhead, arrival_at, begin_at, begins_along, cost_between, departure, joined, pieces, point_in, points_between, step_between, steps_along}
+use Rattle.route_steps.specs.Steps.{AreAhead, arrival_at, begin_at, begins_along, cost_between, departure, joined, pieces, point_in, step_between, steps_along}
 use Rattle.route_steps.specs.Turnings.{maneuver_at, turn_paid, turns_paid}
 use Rattle.route_steps.specs.declared.begins.Begin.{Begin}
-use Rattle.route_steps.specs.declared.maneuvers.Maneuver.{Maneuver}
 use Rattle.route_steps.specs.declared.maneuvers.ManeuverKind.{ManeuverKind}
 use Rattle.route_steps.specs.declared.step_lists.Step.{Step}
 use Rattle.route_steps.specs.LineLaws.{length-points_along}

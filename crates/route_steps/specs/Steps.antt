@@ -40,8 +40,8 @@ LeadsAhead n piece = (piece.0.place < piece.1) × (piece.1 ≤ n)
 abbrev pub AreAhead : ℕ → List (Begin × ℕ) → Type 0
 AreAhead n pieces = All (LeadsAhead n) pieces
 
--- what is paid from place i to place j: at the vertices between them, and at the turns from place i on that lie
--- before place j
+-- what is paid from place i to place j: at the vertices between them, and at the turns (that at place k is number
+-- k - 1) from place i on that lie before place j
 abbrev pub cost_between : List DurLen → List DurLen → ℕ → ℕ → DurLen
 cost_between paid turns i j = durlen_ops.plus (total_of (slice_range paid i j)) (total_of (slice_range turns (i - 1) (j - 1)))
 
@@ -49,9 +49,13 @@ cost_between paid turns i j = durlen_ops.plus (total_of (slice_range paid i j)) 
 abbrev pub points_between : List Point → ℕ → ℕ → List Point
 points_between points i j = slice_range points i (j + 1)
 
--- the point at place i; that of no longitude and no latitude where there is none, which no permitted walk meets
+-- the point of no longitude and no latitude
+abbrev pub origin : Point
+origin = record { lon = pos 0; lat = pos 0; in_range = record { west = record { le = tt }; east = record { le = tt }; south = record { le = tt }; north = record { le = tt } } }
+
+-- the point at place i; the origin where there is none, which no permitted walk meets
 abbrev pub point_in : List Point → ℕ → Point
-point_in points i = unwrap_or (slice_get points i) (record { lon = pos 0; lat = pos 0; in_range = record { west = record { le = tt }; east = record { le = tt }; south = record { le = tt }; north = record { le = tt } } })
+point_in points i = unwrap_or (slice_get points i) origin
 
 -- how a walk comes to place i: at its begin from nowhere, else along the vertex before
 abbrev pub bearing_to : NetworkView → List ℕ → ℕ → ℕ

@@ -1,5 +1,5 @@
 -- The turns of a walk: each is the one turn between two vertices, so what a walk pays at them is one list.
-use Rattle.std.proofs.Common.{◌≡◌, ℕ, zero, suc, ◌+◌, ◌-◌, ◌<◌, ◌≤◌, Bool, true, false, cond, List, [], ◌∷◌, ◌++◌, Option, None, Some, arith, ap, ap₂, length, map, refl, subst, sym}
+use Rattle.std.proofs.Common.{◌≡◌, ℕ, zero, suc, ◌+◌, ◌<◌, Bool, true, false, cond, List, [], ◌∷◌, Option, Some, arith, ap, ap₂, length, map, refl, subst, sym}
 use Rattle.std.specs.Prelude.{◌==◌, ◌&&◌}
 use Rattle.std.specs.List.{AllZip, find, slice_get, zip}
 use Rattle.std.specs.Option.{option_map_or}

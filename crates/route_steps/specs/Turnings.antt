@@ -16,10 +16,11 @@ use Rattle.road_places.specs.RoadMetric.{RoadMetric}
 use Rattle.route_steps.specs.Maneuvers.{told}
 use Rattle.route_steps.specs.declared.maneuvers.ManeuverKind.{ManeuverKind}
 
--- the bearing of vertex v from where it begins to where it ends, and the name of its road; none is 0 or empty
+-- the bearing of vertex v, from where it begins to where it ends; 0 where there is no such vertex
 abbrev pub bearing_on : NetworkView → ℕ → ℕ
 bearing_on network v = option_map_or bearing_along (slice_get (vertices_of network) v) 0
 
+-- the name of its road; empty where there is none
 abbrev pub name_on : NetworkView → ℕ → List ℕ
 name_on network v = option_map_or (λ x. x.name) (slice_get (vertices_of network) v) []
 

@@ -197,10 +197,11 @@ fn push_steps(
     Ok(())
 }
 
-/// The steps of a permitted walk from one place to another that costs at most 2^30 units: the first begins with the departure, a
-/// further one at each turn of which the driver is told, and the last is the arrival. A turn's cost belongs to the
-/// step that begins at it, or else to the one in which it lies; the steps cost together what the walk
-/// costs, and their lines are the walk's line, cut. It answers an error only where memory runs out.
+/// The steps of a permitted walk, of at most 2^30 units, from one place to another. The first one begins with the
+/// departure, a further one at each turn of which the driver is told, and the last is the arrival, which costs
+/// nothing and has the walk's last point twice. A turn's cost belongs to the step that begins at it, or else
+/// to the one in which it lies. Together the steps cost what the walk costs, and the lines of those before the
+/// arrival are the walk's line, cut. It answers an error only where memory runs out.
 pub fn steps(
     alloc: Global,
     base: &BaseMetric,

@@ -1,4 +1,4 @@
-use Rattle.std.proofs.Common.{◌+◌, ◌-◌, ◌∙◌, [], ap, arith, get_or, length, map, sym}
+use Rattle.std.proofs.Common.{◌+◌, ◌∙◌, [], ap, arith, get_or, map}
 use Rattle.std.proofs.lemmas.List.{take_all}
 use Rattle.list_lemmas.proofs.Fronts.{all_zip-second}
 use Rattle.road_places.specs.Paid.{IsTurnCosting, steps_of}

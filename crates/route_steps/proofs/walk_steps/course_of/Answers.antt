@@ -1,4 +1,4 @@
-use Rattle.std.proofs.Common.{◌*◌, ◌<◌, length, subst, ◌∙◌}
+use Rattle.std.proofs.Common.{◌*◌, length, subst, ◌∙◌}
 use Rattle.search_graph.specs.Digraph.{Digraph}
 use Rattle.search_graph.specs.Faults.{AllInRange}
 use Rattle.road_places.specs.PaidLaws.{permitted_adds_up}

@@ -1,4 +1,4 @@
-use Rattle.std.proofs.Common.{ℕ, ◌++◌, ◌∙◌, List, ap, arith, length, map, take}
+use Rattle.std.proofs.Common.{ℕ, ◌++◌, ◌∙◌, List, ap, arith, length, map}
 use Rattle.std.proofs.lemmas.List.{take_all}
 use Rattle.route_steps.specs.Steps.{pieces, step_between}
 use Rattle.route_steps.specs.declared.begins.Begin.{Begin}

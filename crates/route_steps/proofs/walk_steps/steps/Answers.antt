@@ -1,4 +1,4 @@
-use Rattle.std.proofs.Common.{◌-◌, ◌*◌, ◌<◌, List, ap, ap₂, arith, get_or, length, subst, sym, ◌∙◌}
+use Rattle.std.proofs.Common.{◌-◌, ◌*◌, ◌<◌, List, ap, arith, length, subst, sym, ◌∙◌}
 use Rattle.std.specs.Prelude.{slice_index}
 use Rattle.search_graph.specs.Digraph.{Digraph}
 use Rattle.search_graph.specs.Faults.{AllInRange}
