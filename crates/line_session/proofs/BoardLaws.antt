@@ -1,5 +1,6 @@
 -- What comes of traffic files, by the last publication of a board.
-use Rattle.std.proofs.Common.{◌≡◌, ℕ, ◌+◌, ◌<◌, List, [], ◌∷◌, ◌++◌, Some, None, refl, sym, ap, ◌∙◌, subst}
+use Rattle.std.proofs.Common.{◌≡◌, ℕ, ◌+◌, ◌<◌, List, [], ◌∷◌, ◌++◌, length, take, drop, Some, None, refl, sym, ap, ap₂, ◌∙◌, subst}
+use Rattle.std.proofs.Math.Seq.{drop-append_seam, take-append_seam}
 use Rattle.std.proofs.lemmas.Option.{same_Some}
 use Rattle.edge_graph.specs.NetworkView.{NetworkView}
 use Rattle.road_places.specs.RoadMetric.{road_of}
@@ -11,6 +12,14 @@ use Rattle.control_port.specs.Controlling.{Board, FilesGive, IsBaseOf, IsOn, IsP
 use Rattle.control_port.specs.declared.controlled.Controlled.{Controlled}
 use Rattle.control_port.specs.declared.controlled.Controlled.TheVariants as controlled
 use Rattle.line_session.specs.Publication.{Comes, IsNext, Publication, publication_of}
+
+-- the bytes of both files, one behind the other, cut where the first ends
+pub gives_files : (roads : RoadsView) (before after : Board) (answer : Controlled) (body speeds turns : List ℕ) (n : ℕ) → body ≡ speeds ++ turns → n ≡ length speeds → FilesGive roads before (take n body) (drop n body) answer after
+    → FilesGive roads before speeds turns answer after
+gives_files roads before after answer body speeds turns n joined cut given =
+    let front : take n body ≡ speeds = ap₂ take cut joined ∙ take-append_seam speeds turns in
+    let back : drop n body ≡ turns = ap₂ drop cut joined ∙ drop-append_seam speeds turns in
+    subst (λ (xs : List ℕ). FilesGive roads before xs turns answer after) front (subst (λ (ys : List ℕ). FilesGive roads before (take n body) ys answer after) back given)
 
 last_from_push : {A : Type 0} (x : A) (xs : List A) (y : A) → last_from x (xs ++ y ∷ []) ≡ y
 last_from_push x [] y = refl
@@ -32,7 +41,7 @@ module _ (roads : RoadsView) (before after : Board) (last next : Entry Customize
   put : (number unmatched : ℕ) (given : IsPublished roads before speeds turns number unmatched after) → next ≡ entry number (customized_on roads given.base)
   put number unmatched given =
       let e : Entry Customized = entry number (customized_on roads given.base) in
-      same_Some next e (sym is_next ∙ ap last_of given.longer ∙ last_push before e)
+      same_Some next e (sym is_next ∙ ap last_of given.published.longer ∙ last_push before e)
 
   is_published : (number unmatched : ℕ) → IsPublished roads before speeds turns number unmatched after → IsNext (publication_of last) speeds turns number unmatched (publication_of next)
   is_published number unmatched given =
@@ -41,9 +50,9 @@ module _ (roads : RoadsView) (before after : Board) (last next : Entry Customize
       record {
         base = given.base;
         made = subst (λ (n : NetworkView). IsBaseOf n speeds turns given.base) network given.made;
-        below = subst (λ (n : ℕ). n < 4294967295) same given.below;
-        number_is = given.next ∙ ap (λ (n : ℕ). n + 1) same;
-        missed = given.missed;
+        below = subst (λ (n : ℕ). n < 4294967295) same given.published.below;
+        number_is = given.published.next ∙ ap (λ (n : ℕ). n + 1) same;
+        missed = given.published.missed;
         published = ap publication_of (put number unmatched given) ∙ ap (λ (n : NetworkView). entry number (road_of n given.base)) network;
       }
 

@@ -87,9 +87,12 @@ left_second (unanswered.File left) names before middle after read is =
     let one : files_named names.1 ≡ left ∷ [] = is.1 ∙ ap (λ (n : List ℕ). n ∷ []) (sym is.0) in
     let second : ReadsUpTo middle after (left ∷ []) left = subst (λ (n : List ℕ). ReadsUpTo middle after (n ∷ []) n) (sym is.0) is.2 in
     (files_named names.0 ++ left ∷ [], inr (one, refl), reads_then_up_to (files_named names.0) (left ∷ []) left before middle after read second)
-left_second unanswered.Memory names before middle after read is =
-    (files_named names.0 ++ is.0, is.1, ap (λ (all : List (List ℕ)). files_named names.0 ++ all) is.2 ∙ sym (append_assoc (files_named names.0) is.0 is.1),
-    reads_then (files_named names.0) is.0 before middle after read is.3)
+left_second unanswered.Memory names before middle after read is = (
+  files_named names.0 ++ is.0,
+  is.1,
+  ap (λ (all : List (List ℕ)). files_named names.0 ++ all) is.2 ∙ sym (append_assoc (files_named names.0) is.0 is.1),
+  reads_then (files_named names.0) is.0 before middle after read is.3,
+)
 
 -- both were read
 pub both_read : (names : List ℕ × List ℕ) (speeds turns : List ℕ) (before middle after : FilesView) → StandsFor before.content names.0 speeds → ReadsAll before middle (files_named names.0)

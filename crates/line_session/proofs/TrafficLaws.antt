@@ -61,4 +61,3 @@ pub traffic_text : (line : List ℕ) → length line ≤ 8192 → IsUtf8 line �
 traffic_text line short text =
     let is : (nat_le (length line) 8192 && is_utf8 line) ≡ true = ap₂ (λ a b. a && b) (le-leb (length line) 8192 short) (is_utf8-from_IsUtf8 line text) in
     sym (ap (λ (b : Bool). if b then names_in (slice_split (λ b. b == 32) line) else None) is)
-

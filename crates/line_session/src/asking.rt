@@ -126,7 +126,14 @@ fn take_byte<R: Threads + Sync, F: Files, O: Sink>(
     ensures stopped { IfErr result (λ why. StopsWith why published.old published.new buffer.old.held.items byte (sides (F.view files.old) (O.view output.old)) (sides (F.view files.new) (O.view output.new))) }
 {
     if byte == b'\n' {
-        answer_line(rt, alloc, published, files, without_return(&buffer.held), output)?;
+        answer_line(
+            rt,
+            alloc,
+            published,
+            files,
+            without_return(&buffer.held),
+            output,
+        )?;
         buffer.held.clear();
         return Ok(());
     }
@@ -190,7 +197,15 @@ pub fn answer_lines<R: Threads + Sync, F: Files, I: Source, O: Sink>(
         if count == 0 {
             return answer_line(rt, alloc, published, files, &buffer.held, output);
         }
-        match take_piece(rt, alloc, published, files, &piece[..count], &mut buffer, output) {
+        match take_piece(
+            rt,
+            alloc,
+            published,
+            files,
+            &piece[..count],
+            &mut buffer,
+            output,
+        ) {
             Ok(()) => {}
             Err(why) => return Err(why),
         }

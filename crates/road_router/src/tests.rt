@@ -93,7 +93,11 @@ impl<'a> Case<'a> {
     }
 }
 
-pub(crate) fn named(alloc: Global, name: &str, bytes: &[u8]) -> Result<(Text, Vec<u8>), AllocError> {
+pub(crate) fn named(
+    alloc: Global,
+    name: &str,
+    bytes: &[u8],
+) -> Result<(Text, Vec<u8>), AllocError> {
     Ok((Text::copy_of(alloc, name)?, Vec::from_slice(alloc, bytes)?))
 }
 

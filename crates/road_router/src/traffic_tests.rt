@@ -69,15 +69,60 @@ fn tells(
 #[test]
 fn routes_follow_the_traffic(rt: HostRuntime) -> Result<(), AllocError> {
     let cases: [(&str, &[u8], &str, &str); 9] = [
-        ("TRAFFIC - -\n", LINE, PUBLISHED, "{\"code\":\"Ok\",\"data_version\":\"1\",\"routes\":[{\"distance\":222.2,\"duration\":19.8,"),
-        ("TRAFFIC slow.csv -\n", LINE, PUBLISHED, "{\"code\":\"Ok\",\"data_version\":\"1\",\"routes\":[{\"distance\":222.2,\"duration\":29.8,"),
-        ("TRAFFIC slow.csv -\r\n", b"GET /route/v1/car/0.001,0.001;0,0?overview=false", PUBLISHED, "{\"code\":\"Ok\",\"data_version\":\"1\",\"routes\":[{\"distance\":222.2,\"duration\":19.8,"),
-        ("TRAFFIC closed.csv -\n", LINE, PUBLISHED, "{\"code\":\"NoRoute\",\"data_version\":\"1\",\"message\":\"leg 0\"}"),
-        ("TRAFFIC nowhere.csv -\n", LINE, "{\"code\":\"Ok\",\"data_version\":\"1\",\"unmatched\":1}", "{\"code\":\"Ok\",\"data_version\":\"1\","),
-        ("TRAFFIC crawl.csv -\n", LINE, PUBLISHED, "{\"code\":\"Ok\",\"data_version\":\"1\",\"routes\":[{\"distance\":222.2,\"duration\":409.8,"),
-        ("TRAFFIC fast.csv -\n", LINE, "{\"code\":\"Refused\",\"file\":\"speeds\",\"row\":1,\"kind\":\"OutOfRange\"}", AS_BEFORE),
-        ("TRAFFIC faulty.csv -\n", LINE, "{\"code\":\"Refused\",\"file\":\"speeds\",\"row\":3,\"kind\":\"BadNumber\"}", AS_BEFORE),
-        ("TRAFFIC slow.csv closed.csv\n", LINE, "{\"code\":\"Refused\",\"file\":\"turns\",\"row\":1,\"kind\":\"BadCount\"}", AS_BEFORE),
+        (
+            "TRAFFIC - -\n",
+            LINE,
+            PUBLISHED,
+            "{\"code\":\"Ok\",\"data_version\":\"1\",\"routes\":[{\"distance\":222.2,\"duration\":19.8,",
+        ),
+        (
+            "TRAFFIC slow.csv -\n",
+            LINE,
+            PUBLISHED,
+            "{\"code\":\"Ok\",\"data_version\":\"1\",\"routes\":[{\"distance\":222.2,\"duration\":29.8,",
+        ),
+        (
+            "TRAFFIC slow.csv -\r\n",
+            b"GET /route/v1/car/0.001,0.001;0,0?overview=false",
+            PUBLISHED,
+            "{\"code\":\"Ok\",\"data_version\":\"1\",\"routes\":[{\"distance\":222.2,\"duration\":19.8,",
+        ),
+        (
+            "TRAFFIC closed.csv -\n",
+            LINE,
+            PUBLISHED,
+            "{\"code\":\"NoRoute\",\"data_version\":\"1\",\"message\":\"leg 0\"}",
+        ),
+        (
+            "TRAFFIC nowhere.csv -\n",
+            LINE,
+            "{\"code\":\"Ok\",\"data_version\":\"1\",\"unmatched\":1}",
+            "{\"code\":\"Ok\",\"data_version\":\"1\",",
+        ),
+        (
+            "TRAFFIC crawl.csv -\n",
+            LINE,
+            PUBLISHED,
+            "{\"code\":\"Ok\",\"data_version\":\"1\",\"routes\":[{\"distance\":222.2,\"duration\":409.8,",
+        ),
+        (
+            "TRAFFIC fast.csv -\n",
+            LINE,
+            "{\"code\":\"Refused\",\"file\":\"speeds\",\"row\":1,\"kind\":\"OutOfRange\"}",
+            AS_BEFORE,
+        ),
+        (
+            "TRAFFIC faulty.csv -\n",
+            LINE,
+            "{\"code\":\"Refused\",\"file\":\"speeds\",\"row\":3,\"kind\":\"BadNumber\"}",
+            AS_BEFORE,
+        ),
+        (
+            "TRAFFIC slow.csv closed.csv\n",
+            LINE,
+            "{\"code\":\"Refused\",\"file\":\"turns\",\"row\":1,\"kind\":\"BadCount\"}",
+            AS_BEFORE,
+        ),
     ];
     for (traffic, line, reply, route) in cases {
         let mut input = Vec::from_slice(rt.alloc(), traffic.as_bytes())?;
@@ -98,13 +143,21 @@ fn traffic_replaces_traffic(rt: HostRuntime) -> Result<(), AllocError> {
         "{\"code\":\"Ok\",\"data_version\":\"2\",\"unmatched\":0}",
         "{\"code\":\"Ok\",\"data_version\":\"2\",\"routes\":[{\"distance\":222.2,\"duration\":19.8,",
     ];
-    assert!(rt; tells(&rt, rt.alloc(), Case::over_town(input.as_slice()), &expected)?);
+    assert!(rt;
+        tells(
+            &rt,
+            rt.alloc(),
+            Case::over_town(input.as_slice()),
+            &expected
+        )?
+    );
     Ok(())
 }
 
 #[test]
 fn penalties_of_turns_are_replaced(rt: HostRuntime) -> Result<(), AllocError> {
-    let route = "{\"code\":\"Ok\",\"data_version\":\"1\",\"routes\":[{\"distance\":222.2,\"duration\":29.8,";
+    let route =
+        "{\"code\":\"Ok\",\"data_version\":\"1\",\"routes\":[{\"distance\":222.2,\"duration\":29.8,";
     let cases: [(&str, &str); 2] = [
         ("TRAFFIC - left.csv\n", PUBLISHED),
         (

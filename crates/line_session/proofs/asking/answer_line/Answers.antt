@@ -17,7 +17,7 @@ pub returns-in-Err-Memory-clause-all : goal.returns-in-Err-Memory-clause-all
 returns-in-Err-Memory-clause-all g c =
     let some : 0 < length c.args.line.now = grind (arith, nat_tests) in
     let busy = busy_replied c.args.published.now c.reply.new.published c.args.line.now (traffic_names c.args.line.now) (g.F.Files.view c.args.files.now) (g.F.Files.view c.reply.new.files)
-        (rw c.in-Err-Memory.field-0-is at c.in-Err-Memory.ensures.left) c.in-Err-Memory.ensures.stays in
+    (rw c.in-Err-Memory.field-0-is at c.in-Err-Memory.ensures.left) c.in-Err-Memory.ensures.stays in
     puts_reply_on c.args.published.now c.reply.new.published c.args.line.now (busy_text ++ newline) (g.F.Files.view c.args.files.now) (g.F.Files.view c.reply.new.files) (g.O.Sink.view c.args.output.now) (g.O.Sink.view c.put-in-Err-Memory.new.output) c.put-in-Err-Memory.result
     some busy c.put-in-Err-Memory.ensures.all c.put-in-Err-Memory.ensures.kept
 
@@ -25,6 +25,6 @@ pub returns-in-Err-Memory-clause-stopped : goal.returns-in-Err-Memory-clause-sto
 returns-in-Err-Memory-clause-stopped g c =
     let some : 0 < length c.args.line.now = grind (arith, nat_tests) in
     let busy = busy_replied c.args.published.now c.reply.new.published c.args.line.now (traffic_names c.args.line.now) (g.F.Files.view c.args.files.now) (g.F.Files.view c.reply.new.files)
-        (rw c.in-Err-Memory.field-0-is at c.in-Err-Memory.ensures.left) c.in-Err-Memory.ensures.stays in
+    (rw c.in-Err-Memory.field-0-is at c.in-Err-Memory.ensures.left) c.in-Err-Memory.ensures.stays in
     stops_reply c.args.published.now c.reply.new.published c.args.line.now (busy_text ++ newline) (g.F.Files.view c.args.files.now) (g.F.Files.view c.reply.new.files) (g.O.Sink.view c.args.output.now) (g.O.Sink.view c.put-in-Err-Memory.new.output) c.put-in-Err-Memory.result
     some busy c.put-in-Err-Memory.ensures.part c.put-in-Err-Memory.ensures.rose c.put-in-Err-Memory.ensures.why

@@ -56,7 +56,7 @@ returns-in-Err-take_piece-clause-stopped g c =
 pub loop-taken-preserved : goal.loop-taken-preserved
 loop-taken-preserved g c = record {
   so_far = taken_piece c.args.published.now c.loop-taken.published c.take_piece.new.published (g.I.Source.view c.args.input.now) (g.I.Source.view c.loop-taken.input) (g.I.Source.view c.take.new.self) c.loop-taken.buffer.held.items c.take.new.into (sides (g.F.Files.view c.args.files.now) (g.O.Sink.view c.args.output.now)) (sides (g.F.Files.view c.loop-taken.files) (g.O.Sink.view c.loop-taken.output)) (sides (g.F.Files.view c.take_piece.new.files) (g.O.Sink.view c.take_piece.new.output)) c.in-Ok-take.count c.loop-taken.taken
-    c.loop-taken.invariant.so_far c.take_piece.new.buffer.held.items (c.in-Ok-take.ensures.bytes.0, c.in-Ok-take.ensures.bound, c.in-Ok-take.ensures.count) c.in-Ok-take_piece.ensures.all;
+      c.loop-taken.invariant.so_far c.take_piece.new.buffer.held.items (c.in-Ok-take.ensures.bytes.0, c.in-Ok-take.ensures.bound, c.in-Ok-take.ensures.count) c.in-Ok-take_piece.ensures.all;
   below = omega (arith, c.in-Ok-take.ensures.bound);
   steady = c.in-Ok-take.ensures.cause.kept ∙ c.loop-taken.invariant.steady;
 }

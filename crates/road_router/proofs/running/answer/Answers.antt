@@ -1,10 +1,10 @@
 -- The line on which answering ends stands behind what was told.
-use Rattle.std.proofs.Common.{inl, inr, refl, subst, sym}
+use Rattle.std.proofs.Common.{ap, inl, inr, refl, subst, sym}
 use Rattle.map_loading.specs.Loading.{memory_line}
 use Rattle.road_base.specs.declared.program_status.Status.{Status}
-use Rattle.road_io.specs.Outside.{outside}
+use Rattle.road_io.specs.Outside.{Outside, outside}
 use Rattle.road_io.specs.Putting.{Closes}
-use Rattle.road_io.specs.Views.{FilesView, InputView, OutputView}
+use Rattle.road_io.specs.Views.{OutputView}
 use Rattle.road_router.specs.InnerEnds.{EndsFrom}
 use Rattle.road_router.proofs.running.answer.Goals as goal
 
@@ -43,4 +43,11 @@ returns-in-Err-TooLong g c = record {
 -- nothing was begun
 pub returns-in-Err-Memory : goal.returns-in-Err-Memory
 returns-in-Err-Memory g c =
-    let stopped = rw c.in-Err-Memory.field-0-is at c.in-Err-Memory.ensures.stopped in ?
+    let stopped = rw c.in-Err-Memory.field-0-is at c.in-Err-Memory.ensures.stopped in
+    let before = outside (g.F.Files.view c.args.files.now) (g.I.Source.view c.args.input.now) (g.O.Sink.view c.args.output.now) in
+    let after = outside (g.F.Files.view c.answer_lines.new.files) (g.I.Source.view c.answer_lines.new.input) (g.O.Sink.view c.end_exhausted.new.output) in
+    subst (λ (code : Status). EndsFrom code c.args.published.now before after) (sym c.end_exhausted.ensures.status) (
+      ap (λ (o : Outside). o.files) stopped.1,
+      ap (λ (o : Outside). o.input) stopped.1,
+      subst (λ (v : OutputView). Closes v (g.O.Sink.view c.end_exhausted.new.output) memory_line) (ap (λ (o : Outside). o.output) stopped.1) c.end_exhausted.ensures.put,
+    )
