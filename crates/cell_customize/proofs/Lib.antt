@@ -1,5 +1,8 @@
+pub mod Bundled
 pub mod Costing
 pub mod Cuts
+pub mod Joined
+pub mod Leapt
 pub mod Locals
 pub mod Numbered
 pub mod Piling

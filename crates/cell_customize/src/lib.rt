@@ -9,6 +9,8 @@
 #![tactic(auto)]
 
 mod customizing;
+mod leaping;
+mod leaps;
 mod local;
 mod numbering;
 mod pieces;
