@@ -1,18 +1,27 @@
 -- How leaps are gathered, and that all together they are those of the space.
-use Rattle.std.proofs.Common.{◌≡◌, ◌≢◌, ℕ, ◌+◌, ◌<◌, ◌≤◌, ◌⊎◌, inl, inr, List, [], ◌∷◌, ◌++◌, length, Some, refl, sym, ◌∙◌, ap, subst, arith, length-append}
-use Rattle.std.specs.List.{slice_get}
+use Rattle.std.proofs.Common.{◌≡◌, ◌≢◌, ℕ, ◌+◌, ◌-◌, ◌<◌, ◌≤◌, ◌⊎◌, inl, inr, List, [], ◌∷◌, ◌++◌, length, Some, true, false, refl, sym, ◌∙◌, ap, subst, arith, length-append}
+use Rattle.std.specs.declared.cmp.Ordering.{Ordering}
+use Rattle.std.specs.declared.cmp.Ordering.TheVariants.{Less, Equal, Greater}
+use Rattle.std.specs.List.{Contains, slice_get, range_with_len}
+use Rattle.std.specs.Ordering.{is_gt, is_lt}
 use Rattle.std.proofs.Math.ListN.{set, length-set}
-use Rattle.std.proofs.lemmas.Bool.{cases_lt}
+use Rattle.std.proofs.lemmas.Bool.{cases_lt, true≢false}
 use Rattle.std.proofs.lemmas.Option.{same_Some, slice_get_within}
 use Rattle.list_lemmas.proofs.Gets.{get_some, get_append, get_push, get_pushed, get_set}
 use Rattle.search_graph.specs.Costs.{CostOps, CostLaws, NoDearer}
-use Rattle.search_graph.specs.OrderLaws.{le_refl, le_trans}
+use Rattle.search_graph.specs.OrderLaws.{le_refl, le_trans, le_from_not_less}
 use Rattle.step_search.specs.Spaces.{Space, HasHop}
 use Rattle.step_search.specs.declared.hops.Hop.{Hop}
 use Rattle.cell_customize.specs.declared.leaps.Bundle.{Bundle}
-use Rattle.cell_customize.specs.Leaping.{Leap, Gathers, IsBundle, AreBundles, leap_space}
+use Rattle.cell_customize.specs.Leaping.{Leap, Gathers, IsBundle, AreBundles, IsLeapOf, leap_space}
 use Rattle.cell_customize.proofs.Leapt.{IsLeaping}
 use Rattle.cell_customize.proofs.Numbered.{set_here, set_other}
+use Rattle.cell_customize.proofs.Ranges.{range_within, within_range}
+
+le_from_lt : (r : Ordering) → is_lt r ≡ true → is_gt r ≡ false
+le_from_lt Less h = refl
+le_from_lt Equal h = absurd (true≢false (sym h))
+le_from_lt Greater h = absurd (true≢false (sym h))
 
 module _ {C : Type 0} {ops : CostOps C} (laws : CostLaws ops) (from : ℕ) where
   -- nothing is given
@@ -113,6 +122,19 @@ module _ {C : Type 0} {ops : CostOps C} (laws : CostLaws ops) (from : ℕ) where
         found = λ v c given. (at, within, cost, subst (λ (x : ℕ). slice_get (set hops at (record { head = head; cost = cost })) at ≡ Some (record { head = x; cost = cost })) (sym given.0) now, subst (λ x. NoDearer ops cost x) (sym given.1) (le_refl laws cost));
       }
 
+  module _ (cmp : C → C → Ordering) (same : ops.cmp ≡ cmp) (hops : List (Hop C)) (at head : ℕ) (cost : C) (hop : Hop C) (within : from ≤ at) (here : (c : C) × (slice_get hops at ≡ Some (record { head = head; cost = c }))) (is : slice_get hops at ≡ Some hop) where
+    paid : here.0 ≡ hop.cost
+    paid = ap (λ (h : Hop C). h.cost) (same_Some (record { head = head; cost = here.0 }) hop (sym here.1 ∙ is))
+
+    asked : is_lt (ops.cmp cost here.0) ≡ is_lt (cmp cost hop.cost)
+    asked = ap (λ (f : C → C → Ordering). is_lt (f cost here.0)) same ∙ ap (λ (x : C). is_lt (cmp cost x)) paid
+
+    pub Gathers-cheaper : is_lt (cmp cost hop.cost) ≡ true → Gathers ops hops (set hops at (record { head = head; cost = cost })) from (λ v c. (v ≡ head) × (c ≡ cost))
+    Gathers-cheaper yes = Gathers-lower hops at head cost here.0 within here.1 (le_from_lt (ops.cmp cost here.0) (asked ∙ yes))
+
+    pub Gathers-dearer : is_lt (cmp cost hop.cost) ≡ false → Gathers ops hops hops from (λ v c. (v ≡ head) × (c ≡ cost))
+    Gathers-dearer no = Gathers-stays hops at head cost here.0 within here.1 (le_from_not_less laws cost here.0 (asked ∙ no))
+
 module _ {C : Type 0} (ops : CostOps C) (S : Space C) (Goal : ℕ → Type 0) where
   -- what is gathered behind a bundle leaves it as it was
   pub IsBundle-kept : (u : ℕ) (old new : List (Hop C)) (from : ℕ) (Given : ℕ → C → Type 0) (bundle : Bundle) → bundle.end ≤ from → Gathers ops old new from Given → IsBundle ops S Goal u old bundle → IsBundle ops S Goal u new bundle
@@ -183,3 +205,13 @@ module _ {C : Type 0} (ops : CostOps C) (S : Space C) (Goal : ℕ → Type 0) wh
         let r = (h.each u b.0 b.1).back v c leap in
         (r.3, inl (r.0, ((b.0, b.1, r.1, r.2), r.4)), r.5);
   }
+
+  module _ (bundles : List Bundle) (hops : List (Hop C)) (n u : ℕ) (h : AreBundles ops S Goal bundles hops n) (bundle : Bundle) (at : slice_get bundles u ≡ Some bundle) where
+    -- the places of a bundle are those of its vertex's leaps
+    pub bundle_places : (i : ℕ) → Contains (range_with_len bundle.from (bundle.end - bundle.from)) i → IsLeapOf bundles u i
+    bundle_places i c = let r = range_within bundle.from bundle.end i (h.each u bundle at).rises c in (bundle, at, r.0, r.1)
+
+    pub places_bundle : (i : ℕ) → IsLeapOf bundles u i → Contains (range_with_len bundle.from (bundle.end - bundle.from)) i
+    places_bundle i p =
+        let same : p.0 ≡ bundle = same_Some p.0 bundle (sym p.1 ∙ at) in
+        within_range bundle.from bundle.end i (subst (λ (b : Bundle). b.from ≤ i) same p.2) (subst (λ (b : Bundle). i < b.end) same p.3)

@@ -75,7 +75,7 @@ module _ {C : Type 0} {ops : CostOps C} (laws : CostLaws ops) (f : Framed) (w : 
       let on : Chain (Paying ops (RunHop K)) x s two.0 v (ops.plus s t) = Chain-to_more laws (run_valid laws K cut) x v s t two.0 vs two.1 in
       let run : Runs ops K u (one.0 ++ two.0) v (ops.plus s t) = Chain-append (Paying ops (RunHop K)) u x v ops.zero s (ops.plus s t) one.0 two.0 one.1 on in
       let joined : K.Joined u v = cut.along u x v (cut.joins u x s a).0 (cut.joins x v t b).0 in
-      let short = cut.covers u v (ops.plus s t) (one.0 ++ two.0) (a.0, a.4.leads.opens) a.2 (cut.joins x v t b).1 joined run in
+      let short = cut.covers u v (ops.plus s t) (one.0 ++ two.0) (a.0, a.4.leads.opens.0, a.4.leads.opens.1) a.2 (cut.joins x v t b).1 joined run in
       (short.0, row_of u v short.0 short.1, cut.least u v short.0 (ops.plus s t) (one.0 ++ two.0) short.1 run)
 
   beyond_here : (u x v : ℕ) (s t : C) → RowHop S u x s → ArcHop S x v t → ops.units (ops.plus s t) (2 ^ 29)

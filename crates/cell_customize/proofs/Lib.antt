@@ -10,4 +10,5 @@ pub mod Ranges
 pub mod Renumbered
 pub mod Searched
 pub mod Slices
+pub mod Taking
 pub mod Zipping

@@ -22,6 +22,14 @@ Beyond {C} ops S u v c = (x : ℕ) × (s : C) × (t : C) × RowHop S u x s × Ar
 abbrev pub Leap : {C : Type 0} → CostOps C → Space C → (ℕ → Type 0) → ℕ → ℕ → C → Type 0
 Leap ops S Goal u v c = ArcHop S u v c ⊎ (Beyond ops S u v c ⊎ (Goal v × RowHop S u v c))
 
+-- behind a place that leads to x at this cost: an arc of x, or x itself if it is a goal
+abbrev pub Placed : {C : Type 0} → CostOps C → Space C → (ℕ → Type 0) → ℕ → C → ℕ → C → Type 0
+Placed {C} ops S Goal x s v c = ((t : C) × ArcHop S x v t × (c ≡ ops.plus s t)) ⊎ (Goal x × (v ≡ x) × (c ≡ s))
+
+-- the same, where the place is open
+abbrev pub IfPlaced : {C : Type 0} → CostOps C → Space C → (ℕ → Type 0) → ℕ → Option C → ℕ → C → Type 0
+IfPlaced {C} ops S Goal x cost v c = (s : C) × (cost ≡ Some s) × Placed ops S Goal x s v c
+
 -- What makes leaps lawful: two places of rows one behind another are matched by one; and sums fit, that of a place and an arc,
 -- and that of a least path and an arc.
 pub record IsJoinable {C : Type 0} (ops : CostOps C) (S : Space C) : Type 0 where

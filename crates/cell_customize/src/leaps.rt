@@ -4,7 +4,7 @@ ghost use Rattle.std.specs.Prelude.{◌≡◌, ℕ, ◌+◌, ◌<◌, ◌≤◌,
 ghost use Rattle.std.specs.Bool.{OnTrue, OnFalse};
 ghost use Rattle.std.specs.List.{Contains, slice_get};
 ghost use Rattle.step_search.specs.Spaces.{IsSpace};
-ghost use Rattle.cell_customize.specs.Leaping.{ArcHop, RowHop, Beyond, Gathers, AreBundles, IsGoal};
+ghost use Rattle.cell_customize.specs.Leaping.{ArcHop, RowHop, Beyond, Placed, IfPlaced, Gathers, AreBundles, IsGoal};
 
 use crate::numbering::Numbering;
 use cost_lists::CostRow;
@@ -93,9 +93,7 @@ impl<C: Cost> Gathering<C> {
         if at > u32::MAX as usize {
             return Err(AllocError);
         }
-        if (hop.head as usize) < self.places.len() {
-            self.places[hop.head as usize] = at as u32;
-        }
+        note(&mut self.places, hop.head, at as u32);
         self.hops.push(hop)?;
         Ok(())
     }
@@ -161,6 +159,23 @@ impl<C: Cost> Gathering<C> {
         Ok(())
     }
 
+    // Takes x itself if it is a goal.
+    fn take_goal(
+        &mut self,
+        goals: &[bool],
+        x: u32,
+        cost: C,
+        from: usize,
+    ) -> Result<(), AllocError>
+        requires { from ≤ length self.old.hops.items }
+        ensures { OnOk result (Gathers C.ops self.old.hops.items self.new.hops.items from (λ v c. IsGoal goals.now x × (v ≡ x) × (c ≡ cost))) }
+    {
+        if !is_goal(goals, x) {
+            return Ok(());
+        }
+        self.offer(from, Hop { head: x, cost })
+    }
+
     // Takes what lies behind a place of a row, which leads to x at this cost: each arc of x, and x itself if it is a goal.
     fn take_place<T: Steps<C>>(
         &mut self,
@@ -174,13 +189,31 @@ impl<C: Cost> Gathering<C> {
         requires vertex { x < (T.space steps.now).vertices }
         requires fits { (v : ℕ) (t : C) → ArcHop (T.space steps.now) x v t → C.ops.units (C.ops.plus cost t) (2 ^ 31) }
         requires from { from ≤ length self.old.hops.items }
-        ensures { OnOk result (Gathers C.ops self.old.hops.items self.new.hops.items from (λ v c. ((t : C) × ArcHop (T.space steps.now) x v t × (c ≡ C.ops.plus cost t)) ⊎ (IsGoal goals.now x × (v ≡ x) × (c ≡ cost)))) }
+        ensures { OnOk result (Gathers C.ops self.old.hops.items self.new.hops.items from (Placed C.ops (T.space steps.now) (IsGoal goals.now) x cost)) }
     {
         self.take_arcs(steps, x, cost, from)?;
-        if is_goal(goals, x) {
-            self.offer(from, Hop { head: x, cost })?;
+        self.take_goal(goals, x, cost, from)
+    }
+
+    // The same, where the place is open.
+    fn take_open<T: Steps<C>>(
+        &mut self,
+        steps: &T,
+        goals: &[bool],
+        x: u32,
+        cost: Option<C>,
+        from: usize,
+    ) -> Result<(), AllocError>
+        requires ready { T.ready steps.now }
+        requires vertex { IfSome cost (λ s. x < (T.space steps.now).vertices) }
+        requires fits { IfSome cost (λ s. (v : ℕ) (t : C) → ArcHop (T.space steps.now) x v t → C.ops.units (C.ops.plus s t) (2 ^ 31)) }
+        requires from { from ≤ length self.old.hops.items }
+        ensures { OnOk result (Gathers C.ops self.old.hops.items self.new.hops.items from (IfPlaced C.ops (T.space steps.now) (IsGoal goals.now) x cost)) }
+    {
+        match cost {
+            None => Ok(()),
+            Some(cost) => self.take_place(steps, goals, x, cost, from),
         }
-        Ok(())
     }
 
     // Takes what lies behind each place of u's row that has a cost.
@@ -200,11 +233,16 @@ impl<C: Cost> Gathering<C> {
         let heads = steps.heads(u);
         let costs = steps.costs(u);
         for place in 0..heads.len() {
-            if let Some(cost) = cost_at(&costs, place) {
-                self.take_place(steps, goals, heads[place], cost, from)?;
-            }
+            self.take_open(steps, goals, heads[place], cost_at(&costs, place), from)?;
         }
         Ok(())
+    }
+}
+
+// Notes where a hop to a head may stand, if there is room for the head.
+fn note(places: &mut [u32], head: u32, at: u32) {
+    if (head as usize) < places.len() {
+        places[head as usize] = at;
     }
 }
 

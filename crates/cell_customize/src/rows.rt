@@ -160,11 +160,9 @@ fn all_rows<C: Cost>(
 {
     scratch.local.fill(over, entries)?;
     scratch.local.numbers.known();
-    let small = Renamed {
-        steps: over,
-        local: &scratch.local,
-    };
-    scratch.leaps.fill(&small, &scratch.local.numbers, exits)?;
+    let local = &scratch.local;
+    let small = Renamed { steps: over, local };
+    scratch.leaps.fill(&small, &local.numbers, exits)?;
     let leaping = Leaping {
         steps: &small,
         leaps: &scratch.leaps,
