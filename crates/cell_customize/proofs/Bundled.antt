@@ -130,10 +130,10 @@ module _ {C : Type 0} {ops : CostOps C} (laws : CostLaws ops) (from : ℕ) where
     asked = ap (λ (f : C → C → Ordering). is_lt (f cost here.0)) same ∙ ap (λ (x : C). is_lt (cmp cost x)) paid
 
     pub Gathers-cheaper : is_lt (cmp cost hop.cost) ≡ true → Gathers ops hops (set hops at (record { head = head; cost = cost })) from (λ v c. (v ≡ head) × (c ≡ cost))
-    Gathers-cheaper yes = Gathers-lower hops at head cost here.0 within here.1 (le_from_lt (ops.cmp cost here.0) (asked ∙ yes))
+    Gathers-cheaper e = Gathers-lower hops at head cost here.0 within here.1 (le_from_lt (ops.cmp cost here.0) (asked ∙ e))
 
     pub Gathers-dearer : is_lt (cmp cost hop.cost) ≡ false → Gathers ops hops hops from (λ v c. (v ≡ head) × (c ≡ cost))
-    Gathers-dearer no = Gathers-stays hops at head cost here.0 within here.1 (le_from_not_less laws cost here.0 (asked ∙ no))
+    Gathers-dearer e = Gathers-stays hops at head cost here.0 within here.1 (le_from_not_less laws cost here.0 (asked ∙ e))
 
 module _ {C : Type 0} (ops : CostOps C) (S : Space C) (Goal : ℕ → Type 0) where
   -- what is gathered behind a bundle leaves it as it was

@@ -1,14 +1,15 @@
 -- What is taken from the arcs and the places of a row, as far as a loop has come.
-use Rattle.std.proofs.Common.{◌≡◌, ℕ, ◌+◌, ◌^◌, ◌<◌, ◌≤◌, ◌⊎◌, inl, inr, Option, None, IfSome, List, length, Some, refl, sym, ◌∙◌, ap, subst, arith}
+use Rattle.std.proofs.Common.{◌≡◌, ℕ, ◌+◌, ◌^◌, ◌<◌, ◌≤◌, ◌⊎◌, inl, inr, Option, Bool, true, List, length, Some, refl, sym, ◌∙◌, ap, subst, arith}
 use Rattle.std.specs.List.{Contains, slice_get}
 use Rattle.std.proofs.lemmas.Bool.{cases_lt}
 use Rattle.std.proofs.lemmas.Option.{same_Some, slice_get_within}
-use Rattle.list_lemmas.proofs.Gets.{get_Contains}
+use Rattle.std.proofs.Math.ListN.{set, length-set}
+use Rattle.list_lemmas.proofs.Gets.{get_Contains, get_some, get_set}
 use Rattle.search_graph.specs.Costs.{CostOps, CostLaws}
 use Rattle.search_graph.specs.OrderLaws.{zero_plus}
 use Rattle.step_search.specs.Spaces.{Space, IsSpace}
 use Rattle.step_search.specs.declared.hops.Hop.{Hop}
-use Rattle.cell_customize.specs.Leaping.{ArcHop, RowHop, Beyond, Leap, Placed, IfPlaced, Gathers}
+use Rattle.cell_customize.specs.Leaping.{ArcHop, RowHop, Beyond, Leap, Placed, IfPlaced, Gathers, IsGoal}
 use Rattle.cell_customize.proofs.Bundled.{Gathers-both, Gathers-as}
 
 -- behind what is paid, an arc of x
@@ -106,7 +107,13 @@ module _ {C : Type 0} {ops : CostOps C} (laws : CostLaws ops) (S : Space C) (fro
   pub one_fits : IsSpace ops S → (u v : ℕ) (z t : C) → z ≡ ops.zero → ArcHop S u v t → ops.units (ops.plus z t) (2 ^ 31)
   one_fits space u v z t none arc = subst (λ (x : C). ops.units (ops.plus x t) (2 ^ 31)) (sym none) (laws.units_more (ops.plus ops.zero t) (0 + 2 ^ 29) (2 ^ 31) (laws.plus_units ops.zero t 0 (2 ^ 29) laws.zero_units (space.hop_units u v t (inl arc))) (omega arith))
 
--- what follows of a value, if there is one
-pub if_some : {V : Type 0} (P : V → Type 0) (o : Option V) → ((v : V) → o ≡ Some v → P v) → IfSome o P
-if_some P None f = tt
-if_some P (Some v) f = f v refl
+-- a mark more takes none away
+pub marks_stay : (goals : List Bool) (b : ℕ) → (x : ℕ) → IsGoal goals x → IsGoal (set goals b true) x
+marks_stay goals b x h =
+    let lt : x < length goals = slice_get_within goals x true h in
+    let long : x < length (set goals b true) = omega (arith, lt, length-set goals b true) in
+    let g = get_some (set goals b true) x long in
+    elim (get_set goals b x true g.0 g.1) [
+      | inl here ↦ subst (λ (o : Bool). slice_get (set goals b true) x ≡ Some o) here.1 g.1
+      | inr other ↦ subst (λ (o : Bool). slice_get (set goals b true) x ≡ Some o) (same_Some g.0 true (sym other.1 ∙ h)) g.1
+    ]

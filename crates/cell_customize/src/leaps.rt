@@ -205,8 +205,8 @@ impl<C: Cost> Gathering<C> {
         from: usize,
     ) -> Result<(), AllocError>
         requires ready { T.ready steps.now }
-        requires vertex { IfSome cost (λ s. x < (T.space steps.now).vertices) }
-        requires fits { IfSome cost (λ s. (v : ℕ) (t : C) → ArcHop (T.space steps.now) x v t → C.ops.units (C.ops.plus s t) (2 ^ 31)) }
+        requires vertex { (s : C) → cost ≡ Some s → x < (T.space steps.now).vertices }
+        requires fits { (s : C) → cost ≡ Some s → (v : ℕ) (t : C) → ArcHop (T.space steps.now) x v t → C.ops.units (C.ops.plus s t) (2 ^ 31) }
         requires from { from ≤ length self.old.hops.items }
         ensures { OnOk result (Gathers C.ops self.old.hops.items self.new.hops.items from (IfPlaced C.ops (T.space steps.now) (IsGoal goals.now) x cost)) }
     {
@@ -278,15 +278,26 @@ fn short(place: usize) -> Result<u32, AllocError>
     Ok(place as u32)
 }
 
+// Marks the number of a vertex, if it has one.
+fn mark(goals: &mut [bool], numbers: &Numbering, v: u32)
+    requires { length goals.old ≡ length numbers.now }
+    ensures marked { (b : ℕ) → slice_get numbers.now b ≡ Some v → IsGoal goals.new b }
+    ensures stays { (b : ℕ) → IsGoal goals.old b → IsGoal goals.new b }
+{
+    numbers.known();
+    match numbers.number(v) {
+        None => (),
+        Some(b) => goals[b as usize] = true,
+    }
+}
+
 // Marks the numbers of the vertices that have some.
-fn mark_all(goals: &mut Vec<bool>, numbers: &Numbering, vertices: &[u32])
-    requires { length goals.old.items ≡ length numbers.now }
-    ensures { (v b : ℕ) → Contains vertices.now v → slice_get numbers.now b ≡ Some v → IsGoal goals.new.items b }
+fn mark_all(goals: &mut [bool], numbers: &Numbering, vertices: &[u32])
+    requires { length goals.old ≡ length numbers.now }
+    ensures { (v b : ℕ) → Contains vertices.now v → slice_get numbers.now b ≡ Some v → IsGoal goals.new b }
 {
     for v in vertices {
-        if let Some(b) = numbers.number(*v) {
-            goals[b as usize] = true;
-        }
+        mark(goals, numbers, *v);
     }
 }
 

@@ -5,7 +5,4 @@ use Rattle.cell_customize.proofs.leaps.mark_all.Given as goal
 
 -- the numbers of the vertices so far are marked
 abbrev pub invariant-loop-v : goal.invariant-loop-v
-invariant-loop-v g l = record {
-  size : length l.goals.items ≡ length l.numbers;
-  marked : (j v b : ℕ) → j < l.v-index → slice_get l.vertices j ≡ Some v → slice_get l.numbers b ≡ Some v → IsGoal l.goals.items b;
-}
+invariant-loop-v l = (j v b : ℕ) → j < l.v-index → slice_get l.vertices j ≡ Some v → slice_get l.numbers b ≡ Some v → IsGoal l.goals b
