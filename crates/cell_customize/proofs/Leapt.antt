@@ -120,9 +120,12 @@ module _ {C : Type 0} {ops : CostOps C} (laws : CostLaws ops) (S : Space C) (spa
           let vd : ops.valid b.0 = small_valid e v b.0 b.1 in
           let one : NoDearer ops (ops.plus q b.0) (ops.plus q (ops.plus r t)) = plus_le_left laws b.0 (ops.plus r t) q vd (laws.plus_valid r t vr vt) vq b.2 in
           let two : NoDearer ops (ops.plus q (ops.plus r t)) (ops.plus (ops.plus q r) t) = le_from_same laws (ops.plus q (ops.plus r t)) (ops.plus (ops.plus q r) t) (sym (laws.assoc q r t vq vr vt)) in
-          let three : NoDearer ops (ops.plus (ops.plus q r) t) (ops.plus c t) = plus_le laws (ops.plus q r) c t (laws.plus_valid q r vq vr) vc vt le in
-          (b.0, b.1, subst (λ x. NoDearer ops (ops.plus q b.0) x) (sym sum)
-          (le_trans laws (ops.plus q b.0) (ops.plus q (ops.plus r t)) (ops.plus c t) one (le_trans laws (ops.plus q (ops.plus r t)) (ops.plus (ops.plus q r) t) (ops.plus c t) two three)))
+          let three : NoDearer ops (ops.plus (ops.plus q r) t) (ops.plus c t) = plus_le laws (ops.plus q r) c t (laws.plus_valid q r vq vr) vc vt le in (
+            b.0,
+            b.1,
+            subst (λ x. NoDearer ops (ops.plus q b.0) x) (sym sum)
+                (le_trans laws (ops.plus q b.0) (ops.plus q (ops.plus r t)) (ops.plus c t) one (le_trans laws (ops.plus q (ops.plus r t)) (ops.plus (ops.plus q r) t) (ops.plus c t) two three)),
+          )
 
       -- Each path that ends so is matched by one of leaps that is no dearer: q is paid at e, and r from there on.
       matched : (vs : List ℕ) (e x y z : ℕ) (q r c o d : C) → e < S.vertices → ops.valid q → ops.valid c → Stands e x r → NoDearer ops (ops.plus q r) c → Path ops S x c vs y o → Ends y o z d →

@@ -5,10 +5,8 @@ pub mod Joined
 pub mod Leapt
 pub mod Locals
 pub mod Numbered
-pub mod Piling
 pub mod Ranges
 pub mod Renumbered
 pub mod Searched
-pub mod Slices
 pub mod Taking
 pub mod Zipping

@@ -19,7 +19,7 @@ use Rattle.cell_customize.specs.declared.local.Local.{Local}
 use Rattle.cell_customize.specs.Inner.{inner_space, IsInner}
 use Rattle.cell_customize.specs.Numbers.{AreBelow}
 use Rattle.cell_customize.specs.Local.{IsSearched}
-use Rattle.cell_customize.specs.Filled.{IsFilled, IsLeapt, small_space, leapt_space}
+use Rattle.cell_customize.specs.Filled.{IsFilled, IsLeapt, IsWhole, small_space, leapt_space}
 use Rattle.cell_customize.specs.Leaping.{IsJoinable, IsGoal}
 use Rattle.cell_customize.specs.declared.leaps.Leaps.{Leaps}
 use Rattle.cell_customize.specs.Renaming.{IsRenaming}
@@ -66,12 +66,16 @@ module _ {C : Type 0} (ops : CostOps C) (f : Framed) (w : Weighting C) (cliques 
       let below : v < f.cells.vertices = entry.0.0 in
       omega (arith, below, n)
 
+  -- it can be searched also under numbers of one's own
+  pub IsSpace-numbered : (local : Local C) → IsWhole (inner_space ops f w k) local → ((a b v : ℕ) → slice_get local.numbers a ≡ Some v → slice_get local.numbers b ≡ Some v → a ≡ b) → IsSpace ops (small_space ops f w k local)
+  IsSpace-numbered local whole distinct = IsSpace-renamed ops (inner_space ops f w k) (small_space ops f w k local) local.numbers (IsRenaming-local (inner_space ops f w k) local.numbers local.spans.items local.hops.items local.heads.items whole distinct) inner.lawful.space
+
   module _ (local : Local C) (filled : IsFilled ops f w k local) where
     pub renames : IsRenaming (inner_space ops f w k) (small_space ops f w k local) local.numbers
     renames = IsRenaming-local (inner_space ops f w k) local.numbers local.spans.items local.hops.items local.heads.items filled.whole filled.distinct
 
     pub IsSpace-small : IsSpace ops (small_space ops f w k local)
-    IsSpace-small = IsSpace-renamed ops (inner_space ops f w k) (small_space ops f w k local) local.numbers renames inner.lawful.space
+    IsSpace-small = IsSpace-numbered local filled.whole filled.distinct
 
 module _ {C : Type 0} {ops : CostOps C} (laws : CostLaws ops) (f : Framed) (w : Weighting C) (cliques : List (Rows C)) (k : Cell) (inner : IsInner ops f w cliques k) (local : Local C) (filled : IsFilled ops f w k local) (leaps : Leaps C) (leapt : IsLeapt ops f w k local leaps) where
   joinable : IsJoinable ops (small_space ops f w k local)

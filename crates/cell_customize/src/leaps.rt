@@ -63,13 +63,7 @@ impl<C: Cost> Gathering<C> {
         }
         match self.hops.get(at) {
             None => None,
-            Some(hop) => {
-                if hop.head == head {
-                    Some(at)
-                } else {
-                    None
-                }
-            }
+            Some(hop) => { if hop.head == head { Some(at) } else { None } }
         }
     }
 
@@ -160,13 +154,7 @@ impl<C: Cost> Gathering<C> {
     }
 
     // Takes x itself if it is a goal.
-    fn take_goal(
-        &mut self,
-        goals: &[bool],
-        x: u32,
-        cost: C,
-        from: usize,
-    ) -> Result<(), AllocError>
+    fn take_goal(&mut self, goals: &[bool], x: u32, cost: C, from: usize) -> Result<(), AllocError>
         requires { from ≤ length self.old.hops.items }
         ensures { OnOk result (Gathers C.ops self.old.hops.items self.new.hops.items from (λ v c. IsGoal goals.now x × (v ≡ x) × (c ≡ cost))) }
     {

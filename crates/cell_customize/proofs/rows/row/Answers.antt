@@ -6,7 +6,7 @@ use Rattle.std.proofs.lemmas.List.{append_assoc, append-nil}
 use Rattle.cell_frame.specs.Borders.{Holds}
 use Rattle.cell_frame.specs.Inside.{IsInsideValue}
 use Rattle.cell_customize.proofs.Numbered.{named_some}
-use Rattle.cell_customize.proofs.Piling.{get_nothing, one_more, row_from}
+use Rattle.cell_customize.specs.Piling.{get_nothing, one_more, row_from}
 use Rattle.cell_customize.proofs.rows.row.Goals as goal
 
 pub unwrap-start-requires : goal.unwrap-start-requires

@@ -4,7 +4,7 @@ use Rattle.std.specs.List.{slice_get}
 use Rattle.std.proofs.lemmas.Option.{slice_get-get_or}
 use Rattle.std.proofs.lemmas.List.{append_assoc, append-nil}
 use Rattle.cell_customize.specs.Levels.{AreRows}
-use Rattle.cell_customize.proofs.Piling.{AreRows-none, AreRows-push}
+use Rattle.cell_customize.specs.Piling.{AreRows-none, AreRows-push}
 use Rattle.cell_customize.proofs.rows.rows.Goals as goal
 
 pub loop-entry-init : goal.loop-entry-init
