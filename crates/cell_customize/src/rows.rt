@@ -158,6 +158,8 @@ fn all_rows<C: Cost>(
     requires exits { exits.now ≡ at_cell over.now.frame.now.exits over.now.parts.now.cell }
     ensures { OnOk result ((clique : _) × (values.new ≡ values.old ++ clique) × IsClique C.ops over.now.frame.now over.now.weights.now over.now.parts.now.cell clique) }
 {
+    let count = over.frame.graph().vertices();
+    scratch.local.numbers.room(count)?;
     scratch.local.fill(over, entries)?;
     scratch.local.numbers.known();
     let local = &scratch.local;
