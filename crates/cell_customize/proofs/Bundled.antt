@@ -5,12 +5,12 @@ use Rattle.std.specs.declared.cmp.Ordering.TheVariants.{Less, Equal, Greater}
 use Rattle.std.specs.List.{Contains, slice_get, range_with_len}
 use Rattle.std.specs.Ordering.{is_gt, is_lt}
 use Rattle.std.proofs.Math.ListN.{set, length-set}
-use Rattle.std.proofs.lemmas.Bool.{cases_lt, true≢false}
+use Rattle.std.proofs.lemmas.Bool.{true≢false}
 use Rattle.std.proofs.lemmas.Option.{same_Some, slice_get_within}
 use Rattle.list_lemmas.proofs.Gets.{get_some, get_append, get_push, get_pushed, get_set}
 use Rattle.search_graph.specs.Costs.{CostOps, CostLaws, NoDearer}
 use Rattle.search_graph.specs.OrderLaws.{le_refl, le_trans, le_from_not_less}
-use Rattle.step_search.specs.Spaces.{Space, HasHop}
+use Rattle.step_search.specs.Spaces.{Space}
 use Rattle.step_search.specs.declared.hops.Hop.{Hop}
 use Rattle.cell_customize.specs.declared.leaps.Bundle.{Bundle}
 use Rattle.cell_customize.specs.Leaping.{Leap, Gathers, IsBundle, AreBundles, IsLeapOf, leap_space}

@@ -1,6 +1,5 @@
 -- Inside a cell the leaps are lawful: shortcuts keep the triangle inequality, and sums of two of its hops fit.
-use Rattle.std.proofs.Common.{◌≡◌, ℕ, ◌+◌, ◌*◌, ◌-◌, ◌^◌, ◌<◌, ◌≤◌, inl, inr, Some, List, ◌++◌, length, sym, ◌∙◌, subst, arith}
-use Rattle.std.specs.List.{slice_get}
+use Rattle.std.proofs.Common.{◌≡◌, ℕ, ◌+◌, ◌*◌, ◌-◌, ◌^◌, ◌<◌, ◌≤◌, inl, inr, List, ◌++◌, length, sym, ◌∙◌, subst, arith}
 use Rattle.std.proofs.Math.Nat.{mul-le-mul_right}
 use Rattle.std.proofs.lemmas.Option.{same_Some}
 use Rattle.search_graph.specs.Costs.{CostOps, CostLaws, NoDearer}
@@ -8,14 +7,14 @@ use Rattle.search_graph.specs.Digraph.{Weighting}
 use Rattle.search_graph.specs.Walks.{Chain, Paying}
 use Rattle.search_graph.specs.OrderLaws.{le_trans, same_from_le}
 use Rattle.search_graph.specs.ChainLaws.{Chain-append, Chain-to_more, Chain-valid}
-use Rattle.step_search.specs.Spaces.{Space, HasHop, Path, IsLeastCost}
+use Rattle.step_search.specs.Spaces.{Space, Path, IsLeastCost}
 use Rattle.cut_walks.specs.Cut.{Cut, IsSmall, RunHop, Passes, Runs, MayEnd}
 use Rattle.cut_walks.specs.Cutting.{run_valid, over_valid, goes_from_pass, pass_from_goes}
 use Rattle.cut_walks.specs.Bounds.{Chain-few, pass_from_path, path_from_pass}
 use Rattle.cell_frame.specs.declared.cells.Cell.{Cell}
 use Rattle.cell_frame.specs.Borders.{Framed, Holds}
 use Rattle.cell_frame.specs.Cliqued.{Rows}
-use Rattle.cell_frame.specs.Parts.{ShareCell, part_cut}
+use Rattle.cell_frame.specs.Parts.{part_cut}
 use Rattle.cell_customize.specs.Inner.{inner_space, IsInner}
 use Rattle.cell_customize.specs.Leaping.{ArcHop, RowHop, IsJoinable}
 

@@ -1,14 +1,12 @@
 -- The law of leaps: to a goal a least path of leaps costs what a least path of the whole space does.
-use Rattle.std.proofs.Common.{◌≡◌, ◌≢◌, ℕ, ◌+◌, ◌<◌, ◌≤◌, ◌^◌, ◌⊎◌, inl, inr, Option, Some, None, List, [], ◌∷◌, ◌++◌, refl, sym, ◌∙◌, ap, subst, arith}
-use Rattle.std.specs.List.{Contains, slice_get}
+use Rattle.std.proofs.Common.{◌≡◌, ◌≢◌, ℕ, ◌<◌, ◌^◌, ◌⊎◌, inl, inr, Option, Some, None, List, [], ◌∷◌, ◌++◌, refl, sym, ◌∙◌, ap, subst, arith}
 use Rattle.list_lemmas.proofs.Gets.{Contains_get}
 use Rattle.search_graph.specs.Costs.{CostOps, CostLaws, NoDearer}
 use Rattle.search_graph.specs.declared.ends.Start.{Start}
-use Rattle.search_graph.specs.Walks.{Chain, Paying}
-use Rattle.search_graph.specs.OrderLaws.{le_refl, le_trans, le_from_same, plus_le, plus_le_left, plus_le_back, zero_plus}
+use Rattle.search_graph.specs.OrderLaws.{le_trans, le_from_same, plus_le, plus_le_left, plus_le_back, zero_plus}
 use Rattle.search_graph.specs.ChainLaws.{Chain-valid, Chain-push, Chain-append}
 use Rattle.step_search.specs.Spaces.{Space, HasHop, StepBy, Path, IsLeastCost, IsSpace}
-use Rattle.step_search.specs.Paths.{IsPathTo, NoPathTo, IsLeastPathCost}
+use Rattle.step_search.specs.Paths.{IsPathTo, IsLeastPathCost}
 use Rattle.cut_walks.specs.Answering.{only_one}
 use Rattle.cut_walks.specs.Bounds.{Chain-ends}
 use Rattle.cell_customize.specs.Leaping.{ArcHop, RowHop, Leap, IsJoinable}

@@ -8,7 +8,7 @@ use Rattle.search_graph.specs.declared.ends.Start.{Start}
 use Rattle.step_search.specs.Spaces.{Space, HasHop, Path, IsLeastCost, IsSpace}
 use Rattle.step_search.specs.Paths.{IsPathTo, NoPathTo, IsLeastPathCost}
 use Rattle.cut_walks.specs.Answering.{only_one}
-use Rattle.cell_customize.specs.Leaping.{ArcHop, RowHop, IsJoinable}
+use Rattle.cell_customize.specs.Leaping.{RowHop, IsJoinable}
 use Rattle.cell_customize.specs.Renaming.{IsRenaming}
 
 module _ {C : Type 0} (ops : CostOps C) (whole small : Space C) (names : List ℕ) (h : IsRenaming whole small names) where

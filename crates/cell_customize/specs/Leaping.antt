@@ -1,6 +1,6 @@
 -- For the functions of this crate alone: a place of a row and an arc behind it as one hop, so that a search comes to no exit but
 -- those that it looks for.
-use Rattle.std.specs.Prelude.{◌≡◌, ℕ, ◌+◌, ◌<◌, ◌≤◌, ◌^◌, ◌⊎◌, List, [], length, Option, Some, true, Bool}
+use Rattle.std.specs.Prelude.{◌≡◌, ℕ, ◌<◌, ◌≤◌, ◌^◌, ◌⊎◌, List, [], length, Option, Some, true, Bool}
 use Rattle.std.specs.List.{slice_get}
 use Rattle.search_graph.specs.Costs.{CostOps, NoDearer}
 use Rattle.step_search.specs.Spaces.{Space, Path, IsLeastCost}

@@ -1,4 +1,4 @@
-use Rattle.std.proofs.Common.{◌≡◌, ℕ, ◌<◌, Some, length}
+use Rattle.std.proofs.Common.{◌≡◌, ℕ, ◌<◌, Some}
 use Rattle.std.specs.List.{slice_get}
 use Rattle.cell_customize.specs.Leaping.{IsGoal}
 use Rattle.cell_customize.proofs.leaps.mark_all.Given as goal

@@ -1,5 +1,5 @@
 -- What is gathered from the end on are the leaps of the vertex.
-use Rattle.std.proofs.Common.{◌≡◌, ℕ, ◌≤◌, length, rules, sym, ◌∙◌, subst, arith}
+use Rattle.std.proofs.Common.{◌≡◌, ℕ, length, rules, ◌∙◌, subst}
 use Rattle.cell_customize.specs.Leaping.{ArcHop, Gathers, Leap, IsGoal}
 use Rattle.cell_customize.proofs.Bundled.{AreBundles-push}
 use Rattle.cell_customize.proofs.Taking.{Gathers-leaps, one_fits}
