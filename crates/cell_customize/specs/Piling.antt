@@ -15,7 +15,7 @@ use Rattle.cell_frame.specs.Borders.{Framed, Holds, at_cell}
 use Rattle.cell_frame.specs.Cliqued.{Rows, HasRow, IsRow, AreExact}
 use Rattle.cell_frame.specs.Inside.{IsInsideValue}
 use Rattle.cell_customize.specs.Levels.{AreRows, IsClique, IsRowOf, AreMade, IsExactLevel, behind}
-use Rattle.cell_customize.proofs.Slices.{range_in_front, range_behind, range_of_range}
+use Rattle.cell_customize.specs.Slices.{range_in_front, range_behind, range_of_range}
 
 pub more_times : (m n : ℕ) → m * n + n ≡ (m + 1) * n
 more_times m n = grind arith
