@@ -1,21 +1,21 @@
 -- Where the pieces of a level begin.
 use Rattle.std.proofs.Common.{◌≡◌, ℕ, ◌+◌, ◌*◌, ◌<◌, ◌≤◌, arith}
 use Rattle.cell_customize.specs.Levels.{cut_at}
-use Rattle.cell_customize.proofs.Piling.{more_times, times_within}
+use Rattle.cell_customize.specs.Piling.{more_times, times_within}
 
 -- each piece begins where the one before it does, or behind it
 pub cut_rises : (count p : ℕ) → cut_at count p ≤ cut_at count (p + 1)
 cut_rises count p = let e : p * count + count ≡ (p + 1) * count = more_times p count in omega (arith, e)
 
 -- none ends behind the last cell
-pub cut_within : (count p : ℕ) → p < 64 → cut_at count (p + 1) ≤ count
+pub cut_within : (count p : ℕ) → p < 16 → cut_at count (p + 1) ≤ count
 cut_within count p lt =
     let e : p * count + count ≡ (p + 1) * count = more_times p count in
-    let le : p * count + count ≤ 64 * count = times_within p 64 count lt in
+    let le : p * count + count ≤ 16 * count = times_within p 16 count lt in
     omega (arith, e, le)
 
 pub cut_none : (count : ℕ) → 0 ≡ cut_at count 0
 cut_none count = omega arith
 
-pub cut_all : (count : ℕ) → cut_at count 64 ≡ count
+pub cut_all : (count : ℕ) → cut_at count 16 ≡ count
 cut_all count = omega arith

@@ -1,10 +1,12 @@
+pub mod Bundled
 pub mod Costing
 pub mod Cuts
+pub mod Joined
+pub mod Leapt
 pub mod Locals
 pub mod Numbered
-pub mod Piling
 pub mod Ranges
 pub mod Renumbered
 pub mod Searched
-pub mod Slices
+pub mod Taking
 pub mod Zipping

@@ -274,31 +274,28 @@ module _ {C : Type 0} (S : Space C) where
         | inl p ↦ name_of a p.1.0.0 p.1.0.1
         | inr p ↦ (p.2.0, p.2.1)
       ];
-      there = λ a b u s n hop. elim hop [
-        | inl p ↦
-            let is = h.each a u p.1.0.0 p.1.0.1 n in
-            let r = is.there p.0 b s p.1.0.2 p.1.0.3 p.1.1 in
-            (r.0, r.1, inl (r.2, r.3))
-        | inr p ↦
-            let same : p.2.0 ≡ u = same_Some p.2.0 u (sym p.2.1 ∙ n) in
-            let span = p.2.2.0 in
-            let is = h.each a u span p.2.2.1 n in
-            let here : slice_get (slice_range heads span.row span.row_end) p.0 ≡ Some b = subst (λ (xs : List ℕ). slice_get xs p.0 ≡ Some b) (heads_of a span p.2.2.1) p.1 in
-            let part = get_part heads span.row span.row_end p.0 b is.row.within here in
-            let r = is.row.there p.0 b part.0 part.1 in
-            (r.0, r.2, inr (p.0, r.1, subst (λ (x : ℕ). S.Costs x p.0 s) same p.2.3))
-      ];
-      back = λ a u v s n hop.
+      arc_there = λ a b u s n p.
+          let is = h.each a u p.1.0.0 p.1.0.1 n in
+          let r = is.there p.0 b s p.1.0.2 p.1.0.3 p.1.1 in
+          (r.0, r.1, (r.2, r.3));
+      arc_back = λ a u v s n p.
           let g = span_of a u n in
           let is = h.each a u g.0 g.1 n in
-          elim hop [
-            | inl p ↦
-                let r = is.back p.0 v s p.1 in
-                (r.3, r.5, inl (r.0, ((g.0, g.1, r.1, r.2), r.4)))
-            | inr p ↦
-                let r = is.row.back p.0 v s p.1 p.2 in
-                let here = part_get heads g.0.row g.0.row_end p.0 r.1 is.row.within r.0 r.2 in
-                let places : g.0.row < g.0.row_end = omega (arith, r.0) in
-                (r.1, r.3, inr (p.0, subst (λ (xs : List ℕ). slice_get xs p.0 ≡ Some r.1) (sym (heads_of a g.0 g.1)) here, (u, n, (g.0, g.1, places), p.2)))
-          ];
+          let r = is.back p.0 v s p.1 in
+          (r.3, r.5, (r.0, ((g.0, g.1, r.1, r.2), r.4)));
+      row_there = λ a b u s n p.
+          let same : p.2.0 ≡ u = same_Some p.2.0 u (sym p.2.1 ∙ n) in
+          let span = p.2.2.0 in
+          let is = h.each a u span p.2.2.1 n in
+          let here : slice_get (slice_range heads span.row span.row_end) p.0 ≡ Some b = subst (λ (xs : List ℕ). slice_get xs p.0 ≡ Some b) (heads_of a span p.2.2.1) p.1 in
+          let part = get_part heads span.row span.row_end p.0 b is.row.within here in
+          let r = is.row.there p.0 b part.0 part.1 in
+          (r.0, r.2, (p.0, r.1, subst (λ (x : ℕ). S.Costs x p.0 s) same p.2.3));
+      row_back = λ a u v s n p.
+          let g = span_of a u n in
+          let is = h.each a u g.0 g.1 n in
+          let r = is.row.back p.0 v s p.1 p.2 in
+          let here = part_get heads g.0.row g.0.row_end p.0 r.1 is.row.within r.0 r.2 in
+          let places : g.0.row < g.0.row_end = omega (arith, r.0) in
+          (r.1, r.3, (p.0, subst (λ (xs : List ℕ). slice_get xs p.0 ≡ Some r.1) (sym (heads_of a g.0 g.1)) here, (u, n, (g.0, g.1, places), p.2)));
     }

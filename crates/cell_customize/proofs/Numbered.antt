@@ -34,10 +34,10 @@ module _ {X : Type 0} where
       let lt : n < length ys = slice_get_within ys n g.0 (keeps n g.0 g.1) in
       omega arith
 
-  set_here : (xs : List X) (i : ℕ) (y : X) → i < length xs → slice_get (set xs i y) i ≡ Some y
+  pub set_here : (xs : List X) (i : ℕ) (y : X) → i < length xs → slice_get (set xs i y) i ≡ Some y
   set_here xs i y lt = let lt2 : i < length (set xs i y) = omega (arith, length-set xs i y) in get_is (set xs i y) i y lt2 (get_or-set_same xs i y y lt)
 
-  set_other : (xs : List X) (i k : ℕ) (y x : X) → k ≢ i → slice_get xs k ≡ Some x → slice_get (set xs i y) k ≡ Some x
+  pub set_other : (xs : List X) (i k : ℕ) (y x : X) → k ≢ i → slice_get xs k ≡ Some x → slice_get (set xs i y) k ≡ Some x
   set_other xs i k y x other e =
       let lt : k < length xs = slice_get_within xs k x e in
       let lt2 : k < length (set xs i y) = omega (arith, length-set xs i y) in

@@ -1,7 +1,7 @@
 -- The inside of a cell can be gone over under numbers of one's own, and what a search finds there is the least cost inside.
-use Rattle.std.proofs.Common.{◌≡◌, ◌≢◌, ℕ, ◌-◌, ◌<◌, ◌≤◌, inl, inr, cond, Option, Some, None, Result, Ok, Err, IfOk, List, [], ◌∷◌, length, refl, sym, ap, subst, arith}
+use Rattle.std.proofs.Common.{◌≡◌, ◌≢◌, ℕ, ◌-◌, ◌<◌, ◌≤◌, inl, inr, cond, Option, Some, None, Result, Ok, Err, IfOk, List, [], ◌∷◌, length, refl, sym, ◌∙◌, ap, subst, arith}
 use Rattle.std.specs.List.{Contains, slice_get}
-use Rattle.std.proofs.lemmas.Option.{slice_get_within}
+use Rattle.std.proofs.lemmas.Option.{same_Some, slice_get_within}
 use Rattle.std.proofs.lemmas.Bool.Decides.{eqb_tells}
 use Rattle.list_lemmas.proofs.Gets.{Contains_get}
 use Rattle.search_graph.specs.Costs.{CostOps, CostLaws}
@@ -19,11 +19,16 @@ use Rattle.cell_customize.specs.declared.local.Local.{Local}
 use Rattle.cell_customize.specs.Inner.{inner_space, IsInner}
 use Rattle.cell_customize.specs.Numbers.{AreBelow}
 use Rattle.cell_customize.specs.Local.{IsSearched}
-use Rattle.cell_customize.specs.Filled.{IsFilled, small_space}
+use Rattle.cell_customize.specs.Filled.{IsFilled, IsLeapt, IsWhole, small_space, leapt_space}
+use Rattle.cell_customize.specs.Leaping.{IsJoinable, IsGoal}
+use Rattle.cell_customize.specs.declared.leaps.Leaps.{Leaps}
 use Rattle.cell_customize.specs.Renaming.{IsRenaming}
 use Rattle.cell_customize.proofs.Locals.{IsRenaming-local}
+use Rattle.cell_customize.proofs.Bundled.{IsLeaping-made}
 use Rattle.cell_customize.proofs.Costing.{inside_value}
-use Rattle.cell_customize.proofs.Renumbered.{IsSpace-renamed, cost_renamed, none_renamed}
+use Rattle.cell_customize.proofs.Joined.{IsJoinable-inner}
+use Rattle.cell_customize.proofs.Leapt.{IsLeaping, IsSpace-leaps, cost_leapt}
+use Rattle.cell_customize.proofs.Renumbered.{IsSpace-renamed, IsJoinable-renamed, cost_renamed, none_renamed}
 
 -- what follows of each value
 pub if_ok : {V E : Type 0} (P Q : V → Type 0) (r : Result V E) → IfOk r P → ((v : V) → P v → Q v) → IfOk r Q
@@ -61,12 +66,34 @@ module _ {C : Type 0} (ops : CostOps C) (f : Framed) (w : Weighting C) (cliques 
       let below : v < f.cells.vertices = entry.0.0 in
       omega (arith, below, n)
 
+  -- it can be searched also under numbers of one's own
+  pub IsSpace-numbered : (local : Local C) → IsWhole (inner_space ops f w k) local → ((a b v : ℕ) → slice_get local.numbers a ≡ Some v → slice_get local.numbers b ≡ Some v → a ≡ b) → IsSpace ops (small_space ops f w k local)
+  IsSpace-numbered local whole distinct = IsSpace-renamed ops (inner_space ops f w k) (small_space ops f w k local) local.numbers (IsRenaming-local (inner_space ops f w k) local.numbers local.spans.items local.hops.items local.heads.items whole distinct) inner.lawful.space
+
   module _ (local : Local C) (filled : IsFilled ops f w k local) where
     pub renames : IsRenaming (inner_space ops f w k) (small_space ops f w k local) local.numbers
     renames = IsRenaming-local (inner_space ops f w k) local.numbers local.spans.items local.hops.items local.heads.items filled.whole filled.distinct
 
     pub IsSpace-small : IsSpace ops (small_space ops f w k local)
-    IsSpace-small = IsSpace-renamed ops (inner_space ops f w k) (small_space ops f w k local) local.numbers renames inner.lawful.space
+    IsSpace-small = IsSpace-numbered local filled.whole filled.distinct
+
+module _ {C : Type 0} {ops : CostOps C} (laws : CostLaws ops) (f : Framed) (w : Weighting C) (cliques : List (Rows C)) (k : Cell) (inner : IsInner ops f w cliques k) (local : Local C) (filled : IsFilled ops f w k local) (leaps : Leaps C) (leapt : IsLeapt ops f w k local leaps) where
+  joinable : IsJoinable ops (small_space ops f w k local)
+  joinable = IsJoinable-renamed ops (inner_space ops f w k) (small_space ops f w k local) local.numbers (renames ops f w cliques k inner local filled) (IsJoinable-inner laws f w cliques k inner)
+
+  leaping : IsLeaping ops (small_space ops f w k local) (leapt_space ops f w k local leaps) (IsGoal leaps.goals.items)
+  leaping = IsLeaping-made ops (small_space ops f w k local) (IsGoal leaps.goals.items) leaps.bundles.items leaps.gathering.hops.items leapt.bundles
+
+  -- the leaps can be searched
+  pub IsSpace-leapt : IsSpace ops (leapt_space ops f w k local leaps)
+  IsSpace-leapt = IsSpace-leaps laws (small_space ops f w k local) (IsSpace-small ops f w cliques k inner local filled) joinable (IsGoal leaps.goals.items) (leapt_space ops f w k local leaps) leaping (λ u m. slice_get_within local.numbers u m.0 m.1)
+
+  -- what a search over the leaps finds is what one over all hops does
+  pub found_leapt : (entry exit : ℕ) → Contains (at_cell f.exits k) exit → entry ≢ exit → (start until : ℕ) → slice_get local.numbers start ≡ Some entry → slice_get local.numbers until ≡ Some exit →
+      (cost : Option C) → IsLeastPathCost ops (leapt_space ops f w k local leaps) (record { vertex = start; cost = ops.zero } ∷ []) until cost → IsLeastPathCost ops (small_space ops f w k local) (record { vertex = start; cost = ops.zero } ∷ []) until cost
+  found_leapt entry exit is other start until named aim cost h =
+      cost_leapt laws (small_space ops f w k local) (IsSpace-small ops f w cliques k inner local filled) joinable (IsGoal leaps.goals.items) (leapt_space ops f w k local leaps) leaping start until
+      (slice_get_within local.numbers start entry named) (leapt.goals exit until is aim) (λ same. other (same_Some entry exit (sym named ∙ ap (slice_get local.numbers) same ∙ aim))) cost h
 
 -- one start at a vertex, where nothing is paid
 pub AreStarts-small : {C : Type 0} {ops : CostOps C} (laws : CostLaws ops) (S : Space C) (start : ℕ) → start < S.vertices → (starts : List (Start C)) → starts ≡ record { vertex = start; cost = ops.zero } ∷ [] → AreStarts ops S starts

@@ -41,9 +41,9 @@ pub record IsReady {C : Type 0} (ops : CostOps C) (f : Framed) (w : Weighting C)
   pub small : AreSmall ops f.graph w
   pub exact : AreExact ops f w cliques (level - 1)
 
--- where piece p of 64 begins, of a level with so many cells
+-- where piece p of 16 begins, of a level with so many cells
 abbrev pub cut_at : ℕ → ℕ → ℕ
-cut_at count p = p * count / 64
+cut_at count p = p * count / 16
 
 -- the cliques of the cells of piece p of a level
 abbrev pub IsPiece : {C : Type 0} → CostOps C → Framed → Weighting C → ℕ → ℕ → Rows C → Type 0
@@ -51,7 +51,7 @@ IsPiece ops f w level p rows = AreMade ops f w level (cut_at (length (level_at f
 
 -- the pieces of a level, in their order
 pub record ArePieces {C : Type 0} (ops : CostOps C) (f : Framed) (w : Weighting C) (level : ℕ) (made : List (Rows C)) : Type 0 where
-  pub size : length made ≡ 64
+  pub size : length made ≡ 16
   pub each : (p : ℕ) (rows : Rows C) → slice_get made p ≡ Some rows → IsPiece ops f w level p rows
 
 -- each row of the level has the least costs inside its cell

@@ -9,7 +9,7 @@ use std::marker::Model;
 
 /// Vertices, of which each has its place as its number. None stands twice.
 ///
-/// It costs four bytes for each vertex, and four to eight for each of all vertices up to the highest.
+/// It costs four bytes for each vertex, and four for each of all vertices once there is room for them.
 #[derive(Drop)]
 pub struct Numbering {
     names: Vec<u32>,
@@ -44,6 +44,13 @@ impl Numbering {
         ensures { self.new ≡ [] }
     {
         self.names.clear();
+    }
+
+    /// Makes room for the vertices below `count` at once.
+    pub fn room(&mut self, count: u32) -> Result<(), AllocError>
+        ensures { self.new ≡ self.old }
+    {
+        lengthen(&mut self.table, count as usize / 2)
     }
 
     /// How many vertices have numbers.
@@ -120,7 +127,7 @@ impl Numbering {
     }
 }
 
-// Makes the table as long as this place wants.
+// Makes the table as long as this place wants, and as long again.
 fn lengthen(table: &mut Vec<u32>, place: usize) -> Result<(), AllocError>
     requires { place < 2 ^ 32 }
     ensures longer { (more : List ℕ) × (table.new.items ≡ table.old.items ++ more) }

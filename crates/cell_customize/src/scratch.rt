@@ -2,6 +2,7 @@
 
 ghost use Rattle.std.specs.Prelude.{◌≡◌, []};
 
+use crate::leaps::Leaps;
 use crate::local::Local;
 use cost_lists::CostRow;
 use search_graph::{ArcRow, Cost, Start};
@@ -62,6 +63,7 @@ pub struct Turn<C: Cost> {
 #[derive(Drop)]
 pub struct Scratch<C: Cost> {
     pub local: Local<C>,
+    pub leaps: Leaps<C>,
     pub turn: Turn<C>,
 }
 
@@ -73,6 +75,7 @@ impl<C: Cost> Scratch<C> {
         let search = Search::begin(alloc, &nowhere, starts.as_slice())?;
         let turn = Turn { search, starts };
         let local = Local::new(alloc);
-        Ok(Scratch { local, turn })
+        let leaps = Leaps::new(alloc);
+        Ok(Scratch { local, leaps, turn })
     }
 }

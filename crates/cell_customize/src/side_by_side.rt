@@ -14,13 +14,13 @@ use search_graph::{Cost, Weights};
 use std::alloc::{AllocError, Global};
 use std::thread::Threads;
 
-// How many pieces the cells of a level are cut into: as many as `rayon` has threads at most. Each piece has a search
-// of its own.
-const PIECES: u32 = 64;
+// How many pieces the cells of a level are cut into. Each has a search of its own and a table by vertex, so more of them
+// cost more memory and time than they bring on a machine of few processors.
+const PIECES: u32 = 16;
 
 // At which cell a piece of a level begins, of as many cells.
 fn cut(count: u32, place: u32) -> u32
-    requires { place ≤ 64 }
+    requires { place ≤ 16 }
     ensures { result ≡ cut_at count place }
 {
     (u64::from(place) * u64::from(count) / u64::from(PIECES)) as u32
@@ -36,7 +36,7 @@ fn piece<C: Cost>(
     place: u32,
 ) -> Result<Piece<C>, AllocError>
     requires ready { IsReady C.ops frame.now weights.now cliques.now level }
-    requires place { place < 64 }
+    requires place { place < 16 }
     ensures { IfOk result (IsPiece C.ops frame.now weights.now level place) }
 {
     let count = frame.count(level);
@@ -72,7 +72,7 @@ fn pieces<C: Cost + Send + Sync>(
         .with_min_len(1)
         .map(
             |place: u32| -> Result<Piece<C>, AllocError>
-                requires { IsReady C.ops frame.now weights.now cliques.now level × (place < 64) }
+                requires { IsReady C.ops frame.now weights.now cliques.now level × (place < 16) }
                 ensures { IfOk result (IsPiece C.ops frame.entry.now weights.entry.now level place) }
             { piece(alloc, frame, weights, cliques, level, place) },
         )

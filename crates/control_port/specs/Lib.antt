@@ -1,4 +1,5 @@
 pub mod Asking
 pub mod Controlling
 pub mod Judging
+pub mod OneControl
 pub mod Telling

@@ -6,7 +6,7 @@ ghost use Rattle.httparse.specs.Grammar.{RequestHead};
 ghost use Rattle.httparse.specs.Spans.{IsHeaderWithin, header_bytes};
 ghost use Rattle.http_head.specs.Fields.{fields_of, is_named};
 ghost use Rattle.http_head.specs.Heads.{IsHeadOf};
-ghost use Rattle.control_port.specs.Asking.{announced_by, asked_of, body_length, by_lengths, metric_by, metric_target, stop_by, target_asks, with_field, with_length};
+ghost use Rattle.control_port.specs.Asking.{HasSpeeds, announced_by, asked_of, body_length, by_lengths, metric_by, metric_target, stop_by, target_asks, with_field, with_length};
 
 use crate::numbers::number_in;
 use http_head::FIELD_LIMIT;
@@ -49,7 +49,9 @@ impl ControlHead {
     /// memory.
     pub fn of(bytes: &[u8], head: &Head) -> ControlHead
         requires { (size : ℕ) × (h : RequestHead) × IsHeadOf bytes.now head.now size h }
-        ensures { (size : ℕ) (h : RequestHead) → IsHeadOf bytes.now head.now size h → result ≡ asked_of h }
+        ensures asked { (size : ℕ) (h : RequestHead) → IsHeadOf bytes.now head.now size h → result ≡ asked_of h }
+        ensures speeds { HasSpeeds result }
+        ensures bound { body_length result ≤ 67108864 }
     {
         if head.method.of(bytes) != b"POST".as_slice() {
             return ControlHead::Bad;
@@ -71,7 +73,9 @@ impl ControlHead {
 
 // What a target asks for, of such a body.
 fn target_asks(target: &[u8], body: Announced) -> ControlHead
-    ensures { result ≡ target_asks target.now body }
+    ensures asked { result ≡ target_asks target.now body }
+    ensures speeds { HasSpeeds result }
+    ensures bound { body_length result ≤ 67108864 }
 {
     if target == STOP_TARGET {
         return stop_by(body);
@@ -92,7 +96,9 @@ fn past_question(target: &[u8]) -> &[u8]
 }
 
 fn stop_by(body: Announced) -> ControlHead
-    ensures { result ≡ stop_by body }
+    ensures asked { result ≡ stop_by body }
+    ensures speeds { HasSpeeds result }
+    ensures bound { body_length result ≤ 67108864 }
 {
     match body {
         Announced::Nothing | Announced::Length(0) => ControlHead::Stop,
@@ -101,7 +107,9 @@ fn stop_by(body: Announced) -> ControlHead
 }
 
 fn metric_by(speeds: Option<usize>, body: Announced) -> ControlHead
-    ensures { result ≡ metric_by speeds body }
+    ensures asked { result ≡ metric_by speeds body }
+    ensures speeds { HasSpeeds result }
+    ensures bound { body_length result ≤ 67108864 }
 {
     match (speeds, body) {
         (Some(speeds), Announced::Length(length)) => {

@@ -16,3 +16,6 @@ pub use asking::{Announced, ControlHead, MOST_BYTES};
 pub use controlled::Controlled;
 pub use controls::control;
 pub use replies::{BodyRoom, ReplyRoom};
+
+#[cfg(test)]
+mod tests;

@@ -61,14 +61,14 @@ impl ReplyRoom {
     }
 
     /// The reply: a status line, three fields, an empty line and the body. It takes no memory.
-    pub fn reply(self, answer: &Controlled, close: bool) -> String
-        ensures { string_bytes result ≡ reply_text (status_of answer.now) (body_of answer.now) close }
+    pub fn reply(self, answer: &Controlled, close: bool) -> Vec<u8>
+        ensures { result.items ≡ reply_text (status_of answer.now) (body_of answer.now) close }
     {
         let ReplyRoom { body, mut reply } = self;
         let body = body.body(answer);
         write_head(&mut reply, answer, body.len(), close);
         append(&mut reply, body.as_str());
-        reply
+        reply.into_bytes()
     }
 }
 

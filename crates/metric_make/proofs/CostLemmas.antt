@@ -149,7 +149,7 @@ module _ (network : NetworkView) (from to : ℕ) (d e : Vertex) (at : slice_get 
   -- the penalty of a turn is the row's, or the two parts of the profile's
   pub penalty-parts : (rows : List TurnRow) → penalty_at network rows from to (slice_get (vertices_of network) from) (slice_get (vertices_of network) to)
       ≡ penalty_under (row_at rows (slice_get (vertices_of network) from) (slice_get (vertices_of network) to))
-        (turning_at network from to (slice_get (vertices_of network) from) (slice_get (vertices_of network) to) + waiting_at network (slice_get (vertices_of network) from))
+      (turning_at network from to (slice_get (vertices_of network) from) (slice_get (vertices_of network) to) + waiting_at network (slice_get (vertices_of network) from))
   penalty-parts rows =
       ap (λ (o : Option Vertex). penalty_at network rows from to o (slice_get (vertices_of network) to)) at
       ∙ ap (λ (o : Option Vertex). penalty_at network rows from to (Some d) o) next

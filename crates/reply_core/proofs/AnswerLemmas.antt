@@ -1,10 +1,11 @@
 -- How an answer comes from its parts.
 use Rattle.std.proofs.Common.{◌≡◌, inl, inr, ℕ, zero, suc, Bool, true, false, eqb, ap₂, map, ◌<◌, ◌≤◌, ◌^◌, List, [], ◌∷◌, length, sym, ap, subst, refl, ◌∙◌, arith}
-use Rattle.std.specs.Prelude.{Option, Some, Result, Ok, Err, IfErr, option_map}
+use Rattle.std.specs.Prelude.{All, Option, Some, Result, Ok, Err, IfErr, option_map}
 use Rattle.std.specs.Result.{IsErrAnd}
 use Rattle.std.specs.List.{AllByRecursion, AllZip, slice_get, zip}
 use Rattle.std.proofs.lemmas.Bool.{eqb-true}
 use Rattle.std.proofs.lemmas.List.{length-map}
+use Rattle.std.proofs.lemmas.List.Elements.{All-weaker}
 use Rattle.std.proofs.lemmas.Option.{same_Some, slice_get-map}
 use Rattle.std.proofs.lemmas.Slice.Zip.{length-zip}
 use Rattle.list_lemmas.proofs.Fronts.{all_zip-each, all_zip-first, slice_get-zip}
@@ -15,13 +16,19 @@ use Rattle.road_places.specs.Places.{IsPlaceOn}
 use Rattle.road_places.specs.RoadMetric.{RoadMetric, road_of}
 use Rattle.road_places.specs.declared.walks.Route.{Route}
 use Rattle.search_graph.specs.declared.costs.DurLen.{DurLen}
-use Rattle.search_graph.specs.Digraph.{Weighting}
-use Rattle.edge_graph.specs.NetworkView.{NetworkView}
+use Rattle.search_graph.specs.Digraph.{Digraph, Weighting}
+use Rattle.search_graph.specs.Durations.{durlen_laws, durlen_ops}
+use Rattle.search_graph.specs.Faults.{AllInRange}
+use Rattle.edge_graph.specs.NetworkView.{NetworkView, graph_of}
+use Rattle.edge_graph.specs.Turn.{IsSimple}
 use Rattle.metric_make.specs.MetricOf.{MetricView}
 use Rattle.reply_texts.specs.Replies.{route_reply}
-use Rattle.reply_texts.specs.RouteLegs.{ArePermitted, legs_told}
+use Rattle.reply_texts.specs.LegLaws.{IsToldInSteps, legs_told-steps}
+use Rattle.reply_texts.specs.RouteLegs.{ArePermitted, AreSmall, legs_told}
+use Rattle.reply_texts.specs.Steps.{driving_side}
 use Rattle.reply_texts.specs.Waypoints.{waypoints_of}
-use Rattle.road_walks.specs.Legs.{AreAlong, IsLegFault}
+use Rattle.road_walks.specs.Least.{most_units}
+use Rattle.road_walks.specs.Legs.{AreAlong, AreWithinUnits, IsLegFault}
 use Rattle.road_walks.specs.declared.leg_faults.LegFault.{LegFault}
 use Rattle.road_walks.specs.declared.leg_faults.LegFault.TheVariants as leg
 use Rattle.snap_index.specs.Firsts.{AreFirsts}
@@ -124,6 +131,12 @@ pub leg-fault : (road : RoadMetric) (number : ℕ) (request : Request) (own : Ro
 leg-fault road number request own places (leg.NoWalk n) is recent snapped first = (subst HasLegs (sym is) tt, recent, record { places = places; snapped = snapped; first = first })
 leg-fault road number request own places leg.Memory is recent snapped first = tt
 
+-- the routes of a network of so many segments at most cost so little that their steps can be added up
+pub few-units : (network : NetworkView) (routes : List Route) → length network.segments ≤ 2 ^ 22 → AreWithinUnits (most_units network) routes → AreSmall routes
+few-units network routes few within =
+    All-weaker (λ (route : Route). durlen_ops.units route.cost (most_units network)) (λ (route : Route). durlen_ops.units route.cost (2 ^ 30))
+    (λ route h. durlen_laws.units_more route.cost (most_units network) (2 ^ 30) h (omega (arith, few))) routes within
+
 -- a network and costs that are a road's
 road-same : (road : RoadMetric) (network : NetworkView) (base : MetricView) → network ≡ road.network → base.weights ≡ road.weights → road_of network base ≡ road
 road-same road network base n w = ap₂ {C = RoadMetric} (λ (x : NetworkView) (y : Weighting DurLen). record { network = x; weights = y }) n w
@@ -138,11 +151,19 @@ permitted-on road network base places given routes walked n w p r along =
 -- and the reply is the same
 pub route-told : (number : ℕ) (skip : Bool) (own : RouteOptions) (points : List Point) (road : RoadMetric) (network : NetworkView) (base : MetricView) (places given : List Place) (routes walked : List Route)
     → network ≡ road.network → base.weights ≡ road.weights → given ≡ places → walked ≡ routes
-    → route_reply number skip own (legs_told (road_of network base) given walked) (waypoints_of network.segments points given) ≡ route_reply number skip own (legs_told road places routes) (waypoints_of road.network.segments points places)
+    → route_reply number skip own (driving_side network.profile) (legs_told (road_of network base) given walked) (waypoints_of network.segments points given) ≡ route_reply number skip own (driving_side road.network.profile) (legs_told road places routes) (waypoints_of road.network.segments points places)
 route-told number skip own points road network base places given routes walked n w p r =
-    ap (λ (x : RoadMetric). route_reply number skip own (legs_told x given walked) (waypoints_of x.network.segments points given)) (road-same road network base n w)
-    ∙ ap (λ (x : List Place). route_reply number skip own (legs_told road x walked) (waypoints_of road.network.segments points x)) p
-    ∙ ap (λ (x : List Route). route_reply number skip own (legs_told road places x) (waypoints_of road.network.segments points places)) r
+    ap (λ (x : RoadMetric). route_reply number skip own (driving_side x.network.profile) (legs_told x given walked) (waypoints_of x.network.segments points given)) (road-same road network base n w)
+    ∙ ap (λ (x : List Place). route_reply number skip own (driving_side road.network.profile) (legs_told road x walked) (waypoints_of road.network.segments points x)) p
+    ∙ ap (λ (x : List Route). route_reply number skip own (driving_side road.network.profile) (legs_told road places x) (waypoints_of road.network.segments points places)) r
+
+-- and its legs are told in steps that add up
+pub told-in-steps : (road : RoadMetric) (network : NetworkView) (graph : Digraph) (places given : List Place) (routes : List Route) → network ≡ road.network → graph ≡ graph_of network → given ≡ places
+    → IsSimple network.turns → AllInRange graph.vertices graph.arcs → ((k : ℕ) (place : Place) → slice_get places k ≡ Some place → IsPlaceOn road.network place) → AreAlong road places routes → All IsToldInSteps (legs_told road given routes)
+told-in-steps road network graph places given routes n g p simple range on along =
+    subst (λ (x : List Place). All IsToldInSteps (legs_told road x routes)) (sym p)
+    (legs_told-steps road places routes (subst (λ (x : NetworkView). IsSimple x.turns) n simple)
+    (subst (λ (x : NetworkView). AllInRange (graph_of x).vertices (graph_of x).arcs) n (subst (λ (x : Digraph). AllInRange x.vertices x.arcs) g range)) on along)
 
 -- the first places on one road are those on the same one
 pub firsts-on : (road : RoadMetric) (network : NetworkView) (base : MetricView) (asked : Point × Filter) (number : ℕ) (found : List Snapped) → network ≡ road.network → base.weights ≡ road.weights

@@ -2,7 +2,7 @@
 -- a number. The cases exclude each other and leave nothing out: the line is of no form; the target is refused;
 -- the request asks for a higher number; a coordinate has no place; a leg of a route has no permitted walk; there
 -- is what the request asks for.
-use Rattle.std.specs.Prelude.{◌≡◌, ℕ, ◌<◌, ◌⊎◌, List, [], ◌∷◌, map, Option, Some, None, Result, Ok, Err, length}
+use Rattle.std.specs.Prelude.{◌≡◌, ℕ, ◌<◌, ◌⊎◌, List, [], ◌∷◌, All, map, Option, Some, None, Result, Ok, Err, length}
 use Rattle.std.proofs.Common.{inl, inr, refl}
 use Rattle.std.specs.List.{AllZip}
 use Rattle.road_base.specs.declared.coordinates.Point.{Point}
@@ -31,7 +31,9 @@ use Rattle.snap_index.specs.declared.snapping.Snapped.{Snapped}
 use Rattle.reply_texts.specs.Codes.{lack_code}
 use Rattle.reply_texts.specs.Refusals.{bad_request_value, lack_value, refusal_value}
 use Rattle.reply_texts.specs.Replies.{nearest_reply, route_reply, table_reply}
+use Rattle.reply_texts.specs.LegLaws.{IsToldInSteps}
 use Rattle.reply_texts.specs.RouteLegs.{legs_told}
+use Rattle.reply_texts.specs.Steps.{driving_side}
 use Rattle.reply_texts.specs.Waypoints.{waypoints_of}
 use Rattle.reply_texts.specs.declared.reply_codes.Code.{Code}
 use Rattle.reply_texts.specs.declared.reply_codes.Code.TheVariants as code
@@ -70,7 +72,8 @@ pub record SaysLack (road : RoadMetric) (number : ℕ) (request : Request) (answ
   pub refuses : Refuses answer (lack_code what) (lack_value number what)
 
 -- the metric is recent enough; the places of the coordinates, a permitted walk along each leg, of which none
--- could cost less, and the text of exactly these
+-- could cost less, and the text of exactly these: a leg's line, its annotation and its steps are of its one walk, on
+-- the side of the road that the vehicle drives on, and the steps cost together what the leg costs
 pub record SaysRoute (road : RoadMetric) (number : ℕ) (request : Request) (own : RouteOptions) (answer : Answer) : Type 0 where
   pub recent : IsRecent number request
   pub snapped : AllZip (StandsFor road) (asked_in request) answer.places
@@ -78,7 +81,8 @@ pub record SaysRoute (road : RoadMetric) (number : ℕ) (request : Request) (own
   pub along : AreAlong road answer.places routes
   pub least : AreLeastRoutes road answer.places routes
   pub walks : answer.walks ≡ map (λ route. route.walk) routes
-  pub tells : Tells answer code.Ok (route_reply number request.skip_waypoints own (legs_told road answer.places routes) (waypoints_of road.network.segments request.points answer.places))
+  pub in_steps : All IsToldInSteps (legs_told road answer.places routes)
+  pub tells : Tells answer code.Ok (route_reply number request.skip_waypoints own (driving_side road.network.profile) (legs_told road answer.places routes) (waypoints_of road.network.segments request.points answer.places))
 
 -- the waypoints of the chosen ones of a request's coordinates, which have these places
 abbrev pub ends_told : RoadMetric → Request → Chosen → List Place → List JsonValue

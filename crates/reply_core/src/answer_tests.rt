@@ -1,159 +1,9 @@
 //! Whole answers over small towns.
 
-ghost use Rattle.std.specs.Prelude.{◌≤◌, All};
-ghost use Rattle.std.specs.List.Sorted.{IsStrictlyIncreasing};
-
-use crate::answering::{answer, line_answer};
-use crate::answers::{Answer, ReplyFault};
-use customized::{Metric, Roads, SERVER_LIMITS};
-use edge_graph::Network;
-use metric_make::base;
-use metric_publish::local_board::LocalBoard;
+use crate::answers::ReplyFault;
+use crate::test_towns::{Asked, BLOCK, CORNER, DESERT, LANE, SQUARE, ask, ask_at, ask_over};
 use reply_texts::Code;
-use road_base::{Ids, Node, Object, Point, Tags, Way};
-use snap_index::Grid;
 use std::alloc::{AllocError, Global};
-use std::sync::Arc;
-use std::thread::Threads;
-use way_profile::Profile;
-
-const SETTINGS: &[u8] =
-    b"name = \"car\"\nvehicle = \"motorcar\"\nu_turn_penalty = 200\n[speeds]\nresidential = 40\n";
-
-/// Two streets that meet at a right angle.
-const CORNER: Town = Town {
-    nodes: &[(0, 0), (0, 1), (1, 1)],
-    way: &[1, 2, 3],
-    oneway: "no",
-};
-
-/// A block that is driven round one way.
-const BLOCK: Town = Town {
-    nodes: &[(0, 0), (1, 0), (1, 1), (0, 1)],
-    way: &[1, 2, 3, 4, 1],
-    oneway: "yes",
-};
-
-/// The same block, driven both ways.
-const SQUARE: Town = Town {
-    nodes: &[(0, 0), (1, 0), (1, 1), (0, 1)],
-    way: &[1, 2, 3, 4, 1],
-    oneway: "no",
-};
-
-/// A lane that is driven one way.
-const LANE: Town = Town {
-    nodes: &[(0, 0), (1, 0)],
-    way: &[1, 2],
-    oneway: "yes",
-};
-
-/// No streets.
-const DESERT: Town = Town {
-    nodes: &[],
-    way: &[],
-    oneway: "no",
-};
-
-// Nodes at these thousandths of a degree, numbered from 1, and a residential way through some of them.
-#[derive(Clone, Copy)]
-struct Town {
-    nodes: &'static [(i32, i32)],
-    way: &'static [i64],
-    oneway: &'static str,
-}
-
-fn node(alloc: Global, id: i64, x: i32, y: i32) -> Object {
-    Object::Node(Node {
-        id,
-        point: Point::of(i64::from(x) * 1000, i64::from(y) * 1000),
-        tags: Tags::new(alloc),
-    })
-}
-
-fn way(alloc: Global, nodes: &[i64], oneway: &str) -> Result<Object, ReplyFault> {
-    let tags = Tags::new(alloc)
-        .with("highway", "residential")?
-        .with("oneway", oneway)?;
-    Ok(Object::Way(Way {
-        id: 10,
-        tags,
-        nodes: Ids::of(Vec::from_slice(alloc, nodes)?),
-    }))
-}
-
-fn objects_of(alloc: Global, town: Town) -> Result<Vec<Object>, ReplyFault> {
-    let mut objects = Vec::new(alloc);
-    let mut id = 0i64;
-    for (x, y) in town.nodes {
-        id = id.saturating_add(1);
-        objects.push(node(alloc, id, *x, *y))?;
-    }
-    objects.push(way(alloc, town.way, town.oneway)?)?;
-    Ok(objects)
-}
-
-fn network_of(alloc: Global, town: Town) -> Result<Network, ReplyFault> {
-    let objects = objects_of(alloc, town)?;
-    let Ok(profile) = Profile::read(alloc, SETTINGS) else {
-        return Err(ReplyFault::Memory);
-    };
-    match Network::build(alloc, &objects, &profile) {
-        Ok(network) => Ok(network),
-        Err(_) => Err(ReplyFault::Memory),
-    }
-}
-
-// The answer to a target or to a line, under a metric of number 7.
-fn ask(
-    rt: &(impl Threads + Sync),
-    alloc: Global,
-    town: Town,
-    asked: Asked<'_>,
-) -> Result<Answer, ReplyFault> {
-    ask_at(rt, alloc, town, 7, asked)
-}
-
-// The answer under the metric that a board is opened with, at this number.
-fn ask_at(
-    rt: &(impl Threads + Sync),
-    alloc: Global,
-    town: Town,
-    number: u32,
-    asked: Asked<'_>,
-) -> Result<Answer, ReplyFault> {
-    ask_over(rt, alloc, town, &SERVER_LIMITS, number, asked)
-}
-
-// The answer over a network that is cut into cells by these limits.
-fn ask_over(
-    rt: &(impl Threads + Sync),
-    alloc: Global,
-    town: Town,
-    limits: &[u32],
-    number: u32,
-    asked: Asked<'_>,
-) -> Result<Answer, ReplyFault>
-    requires ascending { IsStrictlyIncreasing limits.now }
-    requires some { All (λ limit. 1 ≤ limit) limits.now }
-{
-    let roads = Roads::of(alloc, network_of(alloc, town)?, limits)?;
-    let grid = Grid::of(alloc, roads.network())?;
-    let base = base(alloc, roads.network())?;
-    let metric = Metric::make(rt, alloc, &roads, base)?;
-    let board = LocalBoard::of(alloc, Arc::new(alloc, metric)?, number)?;
-    let held = board.enter()?;
-    match asked {
-        Asked::Target(target) => answer(alloc, &held, &grid, target.as_bytes()),
-        Asked::Line(line) => line_answer(alloc, &held, &grid, line),
-    }
-}
-
-#[derive(Clone, Copy)]
-enum Asked<'a> {
-    Target(&'a str),
-    Line(&'a [u8]),
-}
 
 const FIRST_ROUTE: &str =
     "{\"code\":\"Ok\",\"data_version\":\"7\",\"routes\":[{\"distance\":222.2,\"duration\":19.8,\"weight\":19.8,\"weight_name\":\"duration\",\"legs\":[{\"distance\":222.2,\"duration\":19.8,\"weight\":19.8,\"summary\":\"\",\"steps\":[]}]}],\"waypoints\":[{\"distance\":0.0,\"name\":\"\",\"location\":[0.000000,0.000000]},{\"distance\":0.0,\"name\":\"\",\"location\":[0.001000,0.001000]}]}";
@@ -383,7 +233,7 @@ fn a_refused_target_gets_its_code_and_message(rt: HostRuntime) -> Result<(), Rep
             "{\"code\":\"InvalidVersion\",\"message\":\"version v2\"}",
         ),
         (
-            "/route/v1/car/0,0;0,0?steps=true",
+            "/route/v1/car/0,0;0,0?steps=on",
             "{\"code\":\"InvalidOptions\",\"message\":\"option steps\"}",
         ),
         (

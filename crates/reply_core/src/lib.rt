@@ -28,3 +28,7 @@ pub use reply_texts::Code;
 
 #[cfg(test)]
 mod answer_tests;
+#[cfg(test)]
+mod step_tests;
+#[cfg(test)]
+mod test_towns;

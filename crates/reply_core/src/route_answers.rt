@@ -1,6 +1,6 @@
 //! Answers to requests for a route.
 
-ghost use Rattle.std.specs.Prelude.{◌≡◌, ℕ, ◌^◌, ◌<◌, Some, IfOk, IfErr, length, map};
+ghost use Rattle.std.specs.Prelude.{◌≡◌, ℕ, ◌^◌, ◌<◌, Some, All, IfOk, IfErr, length, map};
 ghost use Rattle.std.specs.List.{slice_get};
 ghost use Rattle.road_places.specs.Places.{IsPlaceOn};
 ghost use Rattle.road_walks.specs.Legs.{AreAlong};
@@ -8,7 +8,9 @@ ghost use Rattle.snap_index.specs.Ends.{all_ends};
 ghost use Rattle.url_read.specs.Request.{IsFitting};
 ghost use Rattle.url_read.specs.declared.requests.Service.TheVariants as service;
 ghost use Rattle.reply_texts.specs.Replies.{route_reply};
-ghost use Rattle.reply_texts.specs.RouteLegs.{legs_told};
+ghost use Rattle.reply_texts.specs.LegLaws.{IsToldInSteps};
+ghost use Rattle.reply_texts.specs.RouteLegs.{AreSmall, legs_told};
+ghost use Rattle.reply_texts.specs.Steps.{driving_side};
 ghost use Rattle.reply_texts.specs.Waypoints.{waypoints_of};
 ghost use Rattle.reply_texts.specs.declared.reply_codes.Code.TheVariants as code;
 ghost use Rattle.reply_core.specs.Answers.{SaysRoute, Tells, status_of};
@@ -68,11 +70,16 @@ fn told(
     requires placed { (k : ℕ) (place : _) → slice_get places.items k ≡ Some place → IsPlaceOn under.now.road.network place }
     requires along { AreAlong under.now.road places.items routes.items }
     requires legs { length routes.items < 2 ^ 32 }
+    requires small { AreSmall routes.items }
     ensures places { IfOk result (λ answer. answer.places ≡ places.items) }
     ensures walks { IfOk result (λ answer. answer.walks ≡ map (λ route. route.walk) routes.items) }
-    ensures tells { IfOk result (λ answer. Tells answer code.Ok (route_reply number request.now.skip_waypoints own.now (legs_told under.now.road places.items routes.items) (waypoints_of under.now.road.network.segments request.now.points places.items))) }
+    ensures in_steps { IfOk result (λ answer. All IsToldInSteps (legs_told under.now.road answer.places routes.items)) }
+    ensures tells { IfOk result (λ answer. Tells answer code.Ok (route_reply number request.now.skip_waypoints own.now (driving_side under.now.road.network.profile) (legs_told under.now.road places.items routes.items) (waypoints_of under.now.road.network.segments request.now.points places.items))) }
 {
     let (network, base) = (under.network(), under.base());
+    // by these the steps are proved to add up
+    let turns = network.graph();
+    turns.known();
     let text = route_text(alloc, network, base, number, request, own, &places, &routes)?;
     let walks = walks_of(alloc, routes)?;
     Ok(Answer {

@@ -5,20 +5,25 @@ use Rattle.search_graph.specs.declared.costs.DurLen.{DurLen}
 use Rattle.json_text.specs.Values.{JsonValue, text, whole}
 use Rattle.json_text.specs.Wholes.{array_of, object_of, optional_member}
 use Rattle.option_values.specs.declared.option_types.RouteAnnotations.{RouteAnnotations}
+use Rattle.route_steps.specs.Steps.{joined}
+use Rattle.route_steps.specs.declared.step_lists.Step.{Step}
 use Rattle.url_read.specs.declared.requests.RouteOptions.{RouteOptions}
 use Rattle.reply_texts.specs.Costs.{costs_value}
-use Rattle.reply_texts.specs.Lines.{joined, overview_line}
+use Rattle.reply_texts.specs.Lines.{overview_line}
 use Rattle.reply_texts.specs.Optional.{member_if}
+use Rattle.reply_texts.specs.Steps.{steps_value}
 use Rattle.reply_texts.specs.Totals.{leg_totals, route_totals, totals_members}
 use Rattle.reply_texts.specs.declared.cost_parts.CostPart.TheVariants as part
+use Rattle.reply_texts.specs.declared.driving_sides.DrivingSide.{DrivingSide}
 
--- a leg of a route: what it costs; what is paid of each of its vertices, and the nodes that these join; and the
--- points of its line
+-- a leg of a route: what it costs; what is paid of each of its vertices, and the nodes that these join; the points
+-- of its line; and its steps
 pub record Leg : Type 0 where
   pub cost : DurLen
   pub paid : List DurLen
   pub nodes : List ℤ
   pub points : List Point
+  pub steps : List Step
 
 -- some annotation is asked for
 abbrev pub is_annotated : RouteAnnotations → Bool
@@ -37,19 +42,19 @@ annotation_value asked paid nodes = object_of (
     ++ member_if asked.speed (codes "speed") (costs_value part.Speed paid)
     )
 
--- a leg, without its steps
-unfoldable pub leg_value : RouteAnnotations → Leg → JsonValue
-leg_value asked leg = object_of (
+-- a leg, driven on this side of the road
+unfoldable pub leg_value : RouteOptions → DrivingSide → Leg → JsonValue
+leg_value options side leg = object_of (
     totals_members (leg_totals leg.cost)
-    ++ (codes "summary", text []) ∷ (codes "steps", array_of [])
-    ∷ member_if (is_annotated asked) (codes "annotation") (annotation_value asked leg.paid leg.nodes)
+    ++ (codes "summary", text []) ∷ (codes "steps", steps_value options.steps options.geometries side leg.steps)
+    ∷ member_if (is_annotated options.annotations) (codes "annotation") (annotation_value options.annotations leg.paid leg.nodes)
     )
 
 -- a route of these legs, with the line through all of them
-unfoldable pub route_value : RouteOptions → List Leg → JsonValue
-route_value options legs = object_of (
+unfoldable pub route_value : RouteOptions → DrivingSide → List Leg → JsonValue
+route_value options side legs = object_of (
     totals_members (route_totals (map (λ leg. leg.cost) legs))
     ++ (codes "weight_name", text (codes "duration"))
     ∷ (optional_member (codes "geometry") (overview_line options.overview options.geometries (joined (map (λ leg. leg.points) legs)))
-    ++ (codes "legs", array_of (map (leg_value options.annotations) legs)) ∷ [])
+    ++ (codes "legs", array_of (map (leg_value options side) legs)) ∷ [])
     )

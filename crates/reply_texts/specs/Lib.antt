@@ -5,6 +5,8 @@ pub mod Waypoints
 pub mod Costs
 pub mod Totals
 pub mod Lines
+pub mod Steps
 pub mod Legs
 pub mod RouteLegs
+pub mod LegLaws
 pub mod Replies

@@ -1,6 +1,5 @@
 -- The line of a route (OSRM's HTTP API, version 1; GeoJSON of RFC 7946).
-use Rattle.std.specs.Prelude.{ℕ, zero, suc, List, [], ◌∷◌, ◌++◌, codes, drop, map, Option, Some, None, option_map}
-use Rattle.std.specs.List.{flat_map}
+use Rattle.std.specs.Prelude.{ℕ, zero, suc, List, [], ◌∷◌, codes, drop, map, Option, Some, None, option_map}
 use Rattle.road_base.specs.declared.coordinates.Point.{Point}
 use Rattle.polyline_text.specs.Encoding.{encoded}
 use Rattle.json_text.specs.Values.{JsonValue, text, location}
@@ -28,11 +27,6 @@ line_value geometries.Geojson points = geojson_value points
 abbrev pub points_behind : ℕ → List Point → List Point
 points_behind zero points = points
 points_behind (suc legs) points = drop 1 points
-
--- the points of legs, one behind the other; where one ends the next begins, so that point is told once
-abbrev pub joined : List (List Point) → List Point
-joined [] = []
-joined (first ∷ later) = first ++ flat_map (λ points. drop 1 points) later
 
 -- as much of a line as is asked for
 abbrev pub overview_points : Overview → List Point → Option (List Point)

@@ -15,6 +15,7 @@ use Rattle.reply_texts.specs.Optional.{member_if}
 use Rattle.reply_texts.specs.Refusals.{code_member, version_member}
 use Rattle.reply_texts.specs.Waypoints.{neighbour_of}
 use Rattle.reply_texts.specs.declared.cost_parts.CostPart.TheVariants as part
+use Rattle.reply_texts.specs.declared.driving_sides.DrivingSide.{DrivingSide}
 use Rattle.reply_texts.specs.declared.reply_codes.Code.TheVariants as code
 
 -- a result, under a metric of this number
@@ -25,10 +26,10 @@ found_value number members = object_of (code_member code.Ok ∷ version_member n
 abbrev pub waypoints_member : Bool → List ℕ → List JsonValue → List (List ℕ × JsonValue)
 waypoints_member skip name waypoints = member_if (not skip) name (array_of waypoints)
 
--- a route of these legs
-unfoldable pub route_reply : ℕ → Bool → RouteOptions → List Leg → List JsonValue → JsonValue
-route_reply number skip options legs waypoints =
-    found_value number ((codes "routes", array_of (route_value options legs ∷ [])) ∷ waypoints_member skip (codes "waypoints") waypoints)
+-- a route of these legs, driven on this side of the road
+unfoldable pub route_reply : ℕ → Bool → RouteOptions → DrivingSide → List Leg → List JsonValue → JsonValue
+route_reply number skip options side legs waypoints =
+    found_value number ((codes "routes", array_of (route_value options side legs ∷ [])) ∷ waypoints_member skip (codes "waypoints") waypoints)
 
 -- the places next to a coordinate
 unfoldable pub nearest_reply : ℕ → List Segment → Point → List Place → JsonValue

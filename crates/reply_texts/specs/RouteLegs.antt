@@ -1,14 +1,16 @@
 -- The legs of a route on roads, from each place to the next: all that a reply tells of a leg comes from one
 -- permitted walk.
-use Rattle.std.specs.Prelude.{List, drop, map}
+use Rattle.std.specs.Prelude.{◌^◌, List, All, drop, map}
 use Rattle.std.specs.List.{AllZip, zip}
 use Rattle.road_base.specs.declared.segments.Place.{Place}
+use Rattle.search_graph.specs.Durations.{durlen_ops}
 use Rattle.road_places.specs.Paid.{paid_along}
 use Rattle.road_places.specs.Permitted.{IsPermitted}
 use Rattle.road_places.specs.RoadMetric.{RoadMetric}
 use Rattle.road_places.specs.declared.walks.Route.{Route}
 use Rattle.route_steps.specs.Annotations.{nodes_along}
 use Rattle.route_steps.specs.Points.{points_along}
+use Rattle.route_steps.specs.Steps.{steps_along}
 use Rattle.reply_texts.specs.Legs.{Leg}
 
 -- a leg from the first place to the second, along this route
@@ -18,6 +20,7 @@ leg_told road (ends, route) = record {
   paid = paid_along road.weights ends.0 ends.1 route.walk;
   nodes = nodes_along road.network.segments route.walk;
   points = points_along road.network.segments ends.0 ends.1 route.walk;
+  steps = steps_along road ends.0 ends.1 route.walk;
 }
 
 -- each place and the next, with the route between the two
@@ -33,3 +36,7 @@ IsPermittedLeg road ends route = IsPermitted road ends.0 ends.1 route.walk route
 
 abbrev pub ArePermitted : RoadMetric → List Place → List Route → Type 0
 ArePermitted road places routes = AllZip (IsPermittedLeg road) (zip places (drop 1 places)) routes
+
+-- no route costs so much that what its steps cost can't be added up
+abbrev pub AreSmall : List Route → Type 0
+AreSmall routes = All (λ route. durlen_ops.units route.cost (2 ^ 30)) routes

@@ -1,10 +1,10 @@
--- What legs cost together (OSRM's HTTP API, version 1; that a weight is a duration is this project's rule).
+-- What legs and steps cost (OSRM's HTTP API, version 1; that a weight is a duration is this project's rule).
 use Rattle.std.specs.Prelude.{ℕ, List, [], ◌∷◌, codes, sum_by}
 use Rattle.search_graph.specs.declared.costs.DurLen.{DurLen}
 use Rattle.json_text.specs.Values.{JsonValue, tenths}
 use Rattle.reply_texts.specs.declared.totals.Totals.{Totals}
 
--- a leg's
+-- a leg's or a step's
 abbrev pub leg_totals : DurLen → Totals
 leg_totals cost = record { length = cost.length; duration = cost.duration; weight = cost.duration }
 

@@ -1,53 +1,68 @@
 //! The legs of routes.
 
-ghost use Rattle.std.specs.Prelude.{◌≡◌, ℕ, [], Some, OnOk, codes, map};
+ghost use Rattle.std.specs.Prelude.{◌≡◌, ℕ, ◌^◌, [], Some, OnOk, codes, map};
 ghost use Rattle.std.specs.List.{slice_get};
 ghost use Rattle.json_text.specs.Drafts.{TakesKey, TakesValue, with_value};
-ghost use Rattle.json_text.specs.Wholes.{array_of, with_member, with_members};
+ghost use Rattle.json_text.specs.Wholes.{array_of, with_members};
+ghost use Rattle.search_graph.specs.Durations.{durlen_ops};
 ghost use Rattle.road_places.specs.Paid.{paid_along};
 ghost use Rattle.road_places.specs.Permitted.{IsPermitted};
 ghost use Rattle.road_places.specs.Places.{IsPlaceOn};
 ghost use Rattle.road_places.specs.RoadMetric.{road_of};
 ghost use Rattle.route_steps.specs.Annotations.{nodes_along};
+ghost use Rattle.route_steps.specs.Steps.{steps_along};
 ghost use Rattle.reply_texts.specs.Legs.{annotation_value, is_annotated, leg_value};
 ghost use Rattle.reply_texts.specs.Optional.{member_if};
-ghost use Rattle.reply_texts.specs.RouteLegs.{ArePermitted, leg_told, legs_told};
-ghost use Rattle.reply_texts.specs.Totals.{leg_totals};
+ghost use Rattle.reply_texts.specs.RouteLegs.{ArePermitted, AreSmall, leg_told, legs_told};
+ghost use Rattle.reply_texts.specs.Steps.{driving_side, steps_value};
 
 use crate::annotations::{is_annotated, push_annotation};
+use crate::driving_sides::DrivingSide;
 use crate::members::{push_text_member, push_totals};
-use crate::totals::Totals;
+use crate::step_texts::push_steps;
+use crate::totals::leg_totals;
 use edge_graph::Network;
 use json_text::Json;
 use metric_make::BaseMetric;
 use road_base::Place;
 use road_places::Route;
-use route_steps::annotate;
-use search_graph::DurLen;
+use route_steps::{annotate, steps};
 use std::alloc::{AllocError, Global};
-use url_read::RouteAnnotations;
-
-// What a leg costs.
-fn leg_totals(cost: DurLen) -> Totals
-    ensures { result ≡ leg_totals cost }
-{
-    Totals {
-        length: u128::from(cost.length),
-        duration: u128::from(cost.duration),
-        weight: u128::from(cost.duration),
-    }
-}
+use url_read::{RouteAnnotations, RouteOptions};
 
 // No steps.
 fn push_no_steps(json: &mut Json) -> Result<(), AllocError>
-    requires { TakesKey json.old }
-    ensures ok { OnOk result (json.new ≡ with_member (codes "steps") (array_of []) json.old) }
-    ensures more { OnOk result (TakesKey json.new) }
+    requires { TakesValue json.old }
+    ensures { OnOk result (json.new ≡ with_value (array_of []) json.old) }
 {
-    json.key("steps")?;
     json.begin_list()?;
     json.end_list()?;
     Ok(())
+}
+
+// The steps of a leg from one place to another, where they are asked for.
+fn push_leg_steps(
+    alloc: Global,
+    json: &mut Json,
+    network: &Network,
+    base: &BaseMetric,
+    options: &RouteOptions,
+    ends: (Place, Place),
+    route: &Route,
+) -> Result<(), AllocError>
+    requires takes { TakesValue json.old }
+    requires from { IsPlaceOn network.now ends.0 }
+    requires to { IsPlaceOn network.now ends.1 }
+    requires permitted { IsPermitted (road_of network.now base.now) ends.0 ends.1 route.now.walk route.now.cost }
+    requires small { durlen_ops.units route.now.cost (2 ^ 30) }
+    ensures { OnOk result (json.new ≡ with_value (steps_value options.now.steps options.now.geometries (driving_side network.now.profile) (steps_along (road_of network.now base.now) ends.0 ends.1 route.now.walk)) json.old) }
+{
+    if !options.steps {
+        return push_no_steps(json);
+    }
+    let side = DrivingSide::of(network.profile());
+    let told = steps(alloc, base, network, route.walk.as_slice(), ends.0, ends.1)?;
+    push_steps(alloc, json, options.geometries, side, told.as_slice())
 }
 
 // The annotation of a leg from one place to another, where some is asked for.
@@ -76,13 +91,13 @@ fn push_leg_annotation(
     Ok(())
 }
 
-// A leg from one place to another, without its steps.
+// A leg from one place to another.
 fn push_leg(
     alloc: Global,
     json: &mut Json,
     network: &Network,
     base: &BaseMetric,
-    asked: RouteAnnotations,
+    options: &RouteOptions,
     ends: (Place, Place),
     route: &Route,
 ) -> Result<(), AllocError>
@@ -90,13 +105,15 @@ fn push_leg(
     requires from { IsPlaceOn network.now ends.0 }
     requires to { IsPlaceOn network.now ends.1 }
     requires permitted { IsPermitted (road_of network.now base.now) ends.0 ends.1 route.now.walk route.now.cost }
-    ensures { OnOk result (json.new ≡ with_value (leg_value asked (leg_told (road_of network.now base.now) (ends, route.now))) json.old) }
+    requires small { durlen_ops.units route.now.cost (2 ^ 30) }
+    ensures { OnOk result (json.new ≡ with_value (leg_value options.now (driving_side network.now.profile) (leg_told (road_of network.now base.now) (ends, route.now))) json.old) }
 {
     json.begin_object()?;
     push_totals(json, leg_totals(route.cost))?;
     push_text_member(json, "summary", "")?;
-    push_no_steps(json)?;
-    push_leg_annotation(alloc, json, network, base, asked, ends, route)?;
+    json.key("steps")?;
+    push_leg_steps(alloc, json, network, base, options, ends, route)?;
+    push_leg_annotation(alloc, json, network, base, options.annotations, ends, route)?;
     json.end_object()?;
     Ok(())
 }
@@ -107,19 +124,20 @@ pub(crate) fn push_legs(
     json: &mut Json,
     network: &Network,
     base: &BaseMetric,
-    asked: RouteAnnotations,
+    options: &RouteOptions,
     places: &[Place],
     routes: &[Route],
 ) -> Result<(), AllocError>
     requires takes { TakesValue json.old }
     requires placed { (k : ℕ) (place : Place) → slice_get places.now k ≡ Some place → IsPlaceOn network.now place }
     requires permitted { ArePermitted (road_of network.now base.now) places.now routes.now }
-    ensures { OnOk result (json.new ≡ with_value (array_of (map (leg_value asked) (legs_told (road_of network.now base.now) places.now routes.now))) json.old) }
+    requires small { AreSmall routes.now }
+    ensures { OnOk result (json.new ≡ with_value (array_of (map (leg_value options.now (driving_side network.now.profile)) (legs_told (road_of network.now base.now) places.now routes.now))) json.old) }
 {
     json.begin_list()?;
     for leg in 0..routes.len() {
         let ends = (places[leg], places[leg + 1]);
-        push_leg(alloc, json, network, base, asked, ends, &routes[leg])?;
+        push_leg(alloc, json, network, base, options, ends, &routes[leg])?;
     }
     json.end_list()?;
     Ok(())

@@ -76,7 +76,7 @@ fn push_line(
 }
 
 // A line that is told, as a member.
-fn push_geometry(
+pub(crate) fn push_geometry(
     alloc: Global,
     json: &mut Json,
     form: Geometries,

@@ -1,7 +1,7 @@
 //! Members of objects, behind what stands in a text.
 
-ghost use Rattle.std.specs.Prelude.{◌≡◌, OnOk};
-ghost use Rattle.json_text.specs.Values.{tenths, text};
+ghost use Rattle.std.specs.Prelude.{◌≡◌, pos, OnOk};
+ghost use Rattle.json_text.specs.Values.{tenths, text, whole};
 ghost use Rattle.json_text.specs.Drafts.{TakesKey};
 ghost use Rattle.json_text.specs.Wholes.{with_member, with_members};
 ghost use Rattle.reply_texts.specs.Totals.{totals_members};
@@ -18,6 +18,17 @@ pub(crate) fn push_tenths_member(json: &mut Json, name: &str, n: u128) -> Result
 {
     json.key(name)?;
     json.tenths(n)?;
+    Ok(())
+}
+
+// A member that is a whole number.
+pub(crate) fn push_count_member(json: &mut Json, name: &str, n: u32) -> Result<(), AllocError>
+    requires { TakesKey json.old }
+    ensures ok { OnOk result (json.new ≡ with_member name.now (whole (pos n)) json.old) }
+    ensures more { OnOk result (TakesKey json.new) }
+{
+    json.key(name)?;
+    json.count(u128::from(n))?;
     Ok(())
 }
 

@@ -6,7 +6,8 @@ ghost use Rattle.json_text.specs.Drafts.{TakesKey};
 ghost use Rattle.json_text.specs.Wholes.{optional_member, with_members};
 ghost use Rattle.road_places.specs.Places.{IsPlaceOn};
 ghost use Rattle.road_places.specs.RoadMetric.{road_of};
-ghost use Rattle.reply_texts.specs.Lines.{joined, overview_line, points_behind};
+ghost use Rattle.route_steps.specs.Steps.{joined};
+ghost use Rattle.reply_texts.specs.Lines.{overview_line, points_behind};
 ghost use Rattle.reply_texts.specs.RouteLegs.{ArePermitted, legs_told};
 
 use crate::lines::push_overview;

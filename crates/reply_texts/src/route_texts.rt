@@ -9,7 +9,8 @@ ghost use Rattle.road_places.specs.Places.{IsPlaceOn};
 ghost use Rattle.road_places.specs.RoadMetric.{road_of};
 ghost use Rattle.reply_texts.specs.Legs.{route_value};
 ghost use Rattle.reply_texts.specs.Replies.{route_reply};
-ghost use Rattle.reply_texts.specs.RouteLegs.{ArePermitted, legs_told};
+ghost use Rattle.reply_texts.specs.RouteLegs.{ArePermitted, AreSmall, legs_told};
+ghost use Rattle.reply_texts.specs.Steps.{driving_side};
 ghost use Rattle.reply_texts.specs.Totals.{route_totals};
 ghost use Rattle.reply_texts.specs.Waypoints.{waypoints_of};
 
@@ -77,22 +78,15 @@ fn push_route(
     requires legs { length routes.now < 2 ^ 32 }
     requires placed { (k : ℕ) (place : Place) → slice_get places.now k ≡ Some place → IsPlaceOn network.now place }
     requires permitted { ArePermitted (road_of network.now base.now) places.now routes.now }
-    ensures { OnOk result (json.new ≡ with_value (route_value options.now (legs_told (road_of network.now base.now) places.now routes.now)) json.old) }
+    requires small { AreSmall routes.now }
+    ensures { OnOk result (json.new ≡ with_value (route_value options.now (driving_side network.now.profile) (legs_told (road_of network.now base.now) places.now routes.now)) json.old) }
 {
     json.begin_object()?;
     push_totals(json, route_totals(routes))?;
     push_text_member(json, "weight_name", "duration")?;
     push_route_line(alloc, json, network, base, options, places, routes)?;
     json.key("legs")?;
-    push_legs(
-        alloc,
-        json,
-        network,
-        base,
-        options.annotations,
-        places,
-        routes,
-    )?;
+    push_legs(alloc, json, network, base, options, places, routes)?;
     json.end_object()?;
     Ok(())
 }
@@ -111,7 +105,8 @@ fn push_routes_member(
     requires legs { length routes.now < 2 ^ 32 }
     requires placed { (k : ℕ) (place : Place) → slice_get places.now k ≡ Some place → IsPlaceOn network.now place }
     requires permitted { ArePermitted (road_of network.now base.now) places.now routes.now }
-    ensures ok { OnOk result (json.new ≡ with_member (codes "routes") (array_of (route_value options.now (legs_told (road_of network.now base.now) places.now routes.now) ∷ [])) json.old) }
+    requires small { AreSmall routes.now }
+    ensures ok { OnOk result (json.new ≡ with_member (codes "routes") (array_of (route_value options.now (driving_side network.now.profile) (legs_told (road_of network.now base.now) places.now routes.now) ∷ [])) json.old) }
     ensures more { OnOk result (TakesKey json.new) }
 {
     json.key("routes")?;
@@ -122,8 +117,8 @@ fn push_routes_member(
 }
 
 /// The reply to a request with a route through its coordinates, for which these places stand, under a metric of
-/// this number: its legs are these routes. What is told of a leg's cost, line and annotation is all of the one
-/// walk. An `Err` is want of memory.
+/// this number: its legs are these routes. What is told of a leg's cost, line, steps and annotation is all of the one
+/// walk; so its steps cost together what it costs, and their lines are its line, cut. An `Err` is want of memory.
 pub fn route_text(
     alloc: Global,
     network: &Network,
@@ -139,7 +134,8 @@ pub fn route_text(
     requires as_many { length places.now ≡ length request.now.points }
     requires placed { (k : ℕ) (place : Place) → slice_get places.now k ≡ Some place → IsPlaceOn network.now place }
     requires permitted { ArePermitted (road_of network.now base.now) places.now routes.now }
-    ensures { IfOk result (λ text. string_bytes text ≡ compact_text (route_reply number request.now.skip_waypoints options.now (legs_told (road_of network.now base.now) places.now routes.now) (waypoints_of network.now.segments request.now.points places.now))) }
+    requires small { AreSmall routes.now }
+    ensures { IfOk result (λ text. string_bytes text ≡ compact_text (route_reply number request.now.skip_waypoints options.now (driving_side network.now.profile) (legs_told (road_of network.now base.now) places.now routes.now) (waypoints_of network.now.segments request.now.points places.now))) }
 {
     let mut json = Json::new(alloc);
     let stops = Stops {

@@ -1,5 +1,5 @@
 -- The legs of a route through a list of places, and the routes along them.
-use Rattle.std.specs.Prelude.{ℕ, List, drop}
+use Rattle.std.specs.Prelude.{ℕ, List, All, drop}
 use Rattle.std.specs.List.{AllZip, zip}
 use Rattle.road_base.specs.declared.segments.Place.{Place}
 use Rattle.search_graph.specs.declared.costs.DurLen.{DurLen}
@@ -44,6 +44,10 @@ HasWalk road leg = (walk : List ℕ) × (cost : DurLen) × IsPermitted road leg.
 -- none does
 abbrev pub HasNoWalk : RoadMetric → Place × Place → Type 0
 HasNoWalk road leg = HasNoRoute road leg.0 leg.1
+
+-- each of them costs so many units at most
+abbrev pub AreWithinUnits : ℕ → List Route → Type 0
+AreWithinUnits n routes = All (λ route. durlen_ops.units route.cost n) routes
 
 -- the leg of this number is the first without a walk
 abbrev pub IsBrokenLeg : RoadMetric → List Place → ℕ → Type 0

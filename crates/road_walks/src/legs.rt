@@ -3,7 +3,8 @@
 ghost use Rattle.std.specs.Prelude.{◌≡◌, ℕ, ◌+◌, ◌^◌, ◌<◌, Some, IfOk, IfErr, length};
 ghost use Rattle.std.specs.List.{AllZip, slice_get};
 ghost use Rattle.road_places.specs.Places.{IsPlaceOn};
-ghost use Rattle.road_walks.specs.Legs.{AreAlong, AreLeastRoutes, IsLegFault};
+ghost use Rattle.road_walks.specs.Least.{most_units};
+ghost use Rattle.road_walks.specs.Legs.{AreAlong, AreLeastRoutes, AreWithinUnits, IsLegFault};
 
 use crate::leg_faults::LegFault;
 use crate::routes::least_route;
@@ -12,7 +13,8 @@ use road_base::Place;
 use road_places::Route;
 use std::alloc::Global;
 
-/// A least route from each place to the next, or the first of these legs that has none.
+/// A least route from each place to the next, or the first of these legs that has none. What each costs grows with the
+/// number of the network's vertices at most.
 ///
 /// It answers `Memory` only where memory runs out.
 pub fn least_routes(
@@ -26,6 +28,7 @@ pub fn least_routes(
     ensures one_each { IfOk result (λ routes. length routes.items + 1 ≡ length places.now) }
     ensures along { IfOk result (λ routes. AreAlong under.now.road places.now routes.items) }
     ensures least { IfOk result (λ routes. AreLeastRoutes under.now.road places.now routes.items) }
+    ensures bound { IfOk result (λ routes. AreWithinUnits (most_units under.now.road.network) routes.items) }
     ensures err { IfErr result (IsLegFault under.now.road places.now) }
 {
     let mut routes = Vec::with_capacity(alloc, places.len() - 1)?;

@@ -1,3 +1,4 @@
+pub mod ControlLaws
 pub mod NumberLaws
 pub mod QueryLaws
 pub mod ReplyLaws

@@ -1,7 +1,12 @@
+pub mod ControlReading
+pub mod ControlReplying
+pub mod ControlRule
+pub mod ControlSessions
 pub mod CutLaws
 pub mod EndLaws
 pub mod QueryRule
 pub mod Replying
+pub mod RoadControls
 pub mod RouteSessions
 pub mod Seats
 pub mod SeatLaws

@@ -33,7 +33,7 @@ fn is_served(unread: &[u8], head: &Head, size: usize) -> bool
 }
 
 // Whether the reply to a head closes the connection, where so many replies stand before it.
-fn closes_at(head: &Head, replied: u32) -> bool
+pub(crate) fn closes_at(head: &Head, replied: u32) -> bool
     ensures { result ≡ (head.now.close || replied == 99) }
 {
     head.close || replied == LAST_REQUEST

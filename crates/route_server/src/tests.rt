@@ -39,9 +39,9 @@ const NO_PATH_CLOSE: &[u8] =
     b"HTTP/1.1 400 Bad Request\r\nContent-Type: application/json; charset=utf-8\r\nContent-Length: 38\r\nConnection: close\r\n\r\n{\"code\":\"InvalidUrl\",\"message\":\"path\"}";
 
 /// How much output a test has room for, where it is not about that.
-const ROOM: usize = 100000;
+pub(crate) const ROOM: usize = 100000;
 
-fn network(alloc: Global) -> Result<Network, AllocError> {
+pub(crate) fn network(alloc: Global) -> Result<Network, AllocError> {
     let Ok(objects) = read(alloc, TOWN) else {
         return Err(AllocError);
     };
@@ -55,7 +55,12 @@ fn network(alloc: Global) -> Result<Network, AllocError> {
 }
 
 /// A connection with this input, which comes in pieces of this size at most, and room for so much output.
-fn conn(alloc: Global, input: &[u8], piece: usize, room: usize) -> Result<MemConn, AllocError> {
+pub(crate) fn conn(
+    alloc: Global,
+    input: &[u8],
+    piece: usize,
+    room: usize,
+) -> Result<MemConn, AllocError> {
     let input = Vec::from_slice(alloc, input)?;
     let pieces = Vec::from_slice(alloc, [piece].as_slice())?;
     let source = MemSource::of(input, pieces, Vec::new(alloc));

@@ -1,10 +1,11 @@
 -- Lists that are made element by element.
-use Rattle.std.proofs.Common.{◌≡◌, ℕ, suc, ◌+◌, ◌-◌, ◌<◌, ◌≤◌, List, [], ◌∷◌, ◌++◌, Option, Some, length, take, drop, get_or, append_assoc, arith, refl, ap, ap₂, sym, ◌∙◌}
+use Rattle.std.proofs.Common.{◌≡◌, ℕ, suc, ◌+◌, ◌-◌, ◌<◌, ◌≤◌, List, [], ◌∷◌, ◌++◌, Option, Some, length, map, take, drop, get_or, append_assoc, arith, refl, ap, ap₂, sym, ◌∙◌}
 use Rattle.std.specs.List.{cons_option, filter_map, slice_get}
-use Rattle.std.proofs.lemmas.List.{take_all}
+use Rattle.std.proofs.lemmas.List.{map-append, take_all}
 use Rattle.std.proofs.lemmas.List.Elements.{filter_map-append}
 use Rattle.std.proofs.lemmas.Option.{slice_get-get_or}
-use Rattle.list_lemmas.proofs.Fronts.{take-get}
+use Rattle.list_lemmas.proofs.Fronts.{slice_get-rest, slice_get-zip, take-get}
+use Rattle.road_places.specs.Paid.{steps_of}
 
 module _ {X Y : Type 0} (h : X → Option Y) where
   -- what h gives of a front, and of one element more
@@ -43,3 +44,16 @@ ends-apart (x ∷ xs) h =
     let count : length xs - 1 ≡ length (x ∷ xs) - 1 - 1 = omega arith in
     let place : suc (length xs - 1) ≡ length (x ∷ xs) - 1 = omega arith in
     ap (λ l. x ∷ l) (last-apart xs some ∙ ap₂ (λ n y. take n xs ++ y ∷ []) count (ap (λ k. get_or (x ∷ xs) k 0) place))
+
+-- one element more of a list that is mapped
+pub map-more : {X Y : Type 0} (f : X → Y) (xs : List X) (k : ℕ) (x : X) (front old new : List Y) (y : Y) → slice_get xs k ≡ Some x → y ≡ f x → old ≡ front ++ map f (take k xs) → new ≡ old ++ y ∷ []
+    → new ≡ front ++ map f (take (k + 1) xs)
+map-more f xs k x front old new y at is before pushed =
+    pushed ∙ ap₂ (λ l z. l ++ z ∷ []) before is ∙ append_assoc front (map f (take k xs)) (f x ∷ [])
+    ∙ ap (λ l. front ++ l) (sym (ap (map f) (take-get xs k x at) ∙ map-append f (take k xs) (x ∷ [])))
+
+-- the turn behind place k
+pub steps_of-at : (walk : List ℕ) (k : ℕ) → k + 1 < length walk → slice_get (steps_of walk) k ≡ Some (get_or walk k 0, get_or walk (k + 1) 0)
+steps_of-at walk k h =
+    slice_get-zip walk (drop 1 walk) k (get_or walk k 0) (get_or walk (k + 1) 0) (slice_get-get_or walk k 0 (omega arith))
+    (slice_get-rest walk k ∙ slice_get-get_or walk (k + 1) 0 h)

@@ -1,12 +1,9 @@
 -- The points that a network tells are those of the definitions.
-use Rattle.std.proofs.Common.{◌≡◌, ℕ, ℤ, pos, negsuc, ◌≤ℤ◌, ◌/◌, ◌%◌, ◌≢◌, Bool, true, false, List, [], ◌∷◌, ◌++◌, Option, Some, None, arith, refl, sym, ap, ap₂, ◌∙◌}
-use Rattle.std.specs.Prelude.{int_le, option_map}
+use Rattle.std.proofs.Common.{◌≡◌, ℕ, ◌/◌, ◌%◌, ◌≢◌, List, [], ◌∷◌, ◌++◌, Option, Some, None, arith, refl, sym, ap, ap₂, ◌∙◌}
+use Rattle.std.specs.Prelude.{option_map}
 use Rattle.std.specs.List.{slice_get}
 use Rattle.std.specs.Option.{option_and_then, option_to_list}
 use Rattle.std.proofs.lemmas.Option.{same_Some}
-use lib.Dec.{T}
-use Rattle.road_base.specs.Earth.{IsOnEarth}
-use Rattle.road_base.specs.Points.{test, at_most, join, on_earth, point_at}
 use Rattle.road_base.specs.declared.coordinates.Point.{Point}
 use Rattle.road_base.specs.declared.segments.Place.{Place}
 use Rattle.geo_integer.specs.Position.{Position, position_of}
@@ -14,24 +11,8 @@ use Rattle.geo_integer.specs.Project.{position_at}
 use Rattle.edge_graph.specs.Laws.{vertices-even, vertices-odd}
 use Rattle.edge_graph.specs.Segment.{Segment}
 use Rattle.edge_graph.specs.Vertex.{Vertex}
+use Rattle.route_steps.specs.LineLaws.{point_of-position}
 use Rattle.route_steps.specs.Points.{end_of, point_of, point_on}
-
-test-holds : (b : Bool) (holds : T b) → test b ≡ Some holds
-test-holds true holds = refl
-test-holds false holds = elim holds [ ]
-
-at_most-holds : (a b : ℤ) (holds : a ≤ℤ b) → at_most a b ≡ Some holds
-at_most-holds a b holds = ap (option_map (λ h. record { le = h })) (test-holds (int_le a b) holds.le)
-
-on_earth-holds : (lon lat : ℤ) (there : IsOnEarth lon lat) → on_earth lon lat ≡ Some there
-on_earth-holds lon lat there =
-    ap₂ (λ w e. join w e (at_most (negsuc 89999999) lat) (at_most lat (pos 90000000))) (at_most-holds (negsuc 179999999) lon there.west) (at_most-holds lon (pos 180000000) there.east)
-    ∙ ap₂ (λ s n. join (Some there.west) (Some there.east) s n) (at_most-holds (negsuc 89999999) lat there.south) (at_most-holds lat (pos 90000000) there.north)
-
--- the point where a point lies is that point
-point_of-position : (p : Point) → point_of (position_of p) ≡ Some p
-unfolding point_at
-point_of-position p = ap (option_map (λ there. record { lon = p.lon; lat = p.lat; in_range = there })) (on_earth-holds p.lon p.lat p.in_range)
 
 point-found : (f : Segment → Position) (o : Option Segment) (point : Point) → option_map f o ≡ Some (position_of point) → option_and_then (λ s. point_of (f s)) o ≡ Some point
 point-found f None point e = cc
@@ -43,13 +24,13 @@ pub point_on-told : (segments : List Segment) (place : Place) (point : Point)
 point_on-told segments place point e = point-found (λ s. position_at (position_of s.from) (position_of s.to) place.at) (slice_get segments place.segment) point e
 
 -- the segment whose ends were told
-record IsTold (o : Option Segment) (from to : Point) : Type 0 where
-  segment : Segment
-  is_segment : o ≡ Some segment
-  is_from : segment.from ≡ from
-  is_to : segment.to ≡ to
+pub record IsTold (o : Option Segment) (from to : Point) : Type 0 where
+  pub segment : Segment
+  pub is_segment : o ≡ Some segment
+  pub is_from : segment.from ≡ from
+  pub is_to : segment.to ≡ to
 
-told : (o : Option Segment) (from to : Point) → option_map {U = Point × Point} (λ (s : Segment). (s.from, s.to)) o ≡ Some (from, to) → IsTold o from to
+pub told : (o : Option Segment) (from to : Point) → option_map {U = Point × Point} (λ (s : Segment). (s.from, s.to)) o ≡ Some (from, to) → IsTold o from to
 told None from to e = cc
 told (Some s) from to e =
     let ends = same_Some {A = Point × Point} (s.from, s.to) (from, to) e in

@@ -1,2 +1,12 @@
 pub mod Annotations
+pub mod CutLaws
+pub mod LineLaws
+pub mod Maneuvers
 pub mod Points
+pub mod StepLaws
+pub mod StepParts
+pub mod StepSums
+pub mod Steps
+pub mod TurnLaws
+pub mod Turnings
+pub mod WalkLaws

@@ -1,19 +1,34 @@
-//! What a walk on roads between two places is told by: its points, and what it pays at each of its vertices,
-//! with the nodes that it passes. Durations are deciseconds, lengths decimetres, coordinates microdegrees.
+//! What a walk on roads between two places is told by: its points, what it pays at each of its vertices, with
+//! the nodes that it passes, and its steps, which tell a driver where to turn. Durations are deciseconds, lengths
+//! decimetres, coordinates microdegrees, bearings whole degrees.
 //!
 //! [`leg_points`] gives the points of a walk, [`annotate`] what it pays and where it passes, [`speed`] how fast
-//! a part of it is. `specs/` is to be read in this order: `Points` (where a walk leads) and `Annotations` (the
-//! nodes along it, and speeds). What it pays is told by `road_places`, in `Paid`.
+//! a part of it is, [`steps`] its steps. `specs/` is to be read in this order: `Points` (where a walk leads),
+//! `Annotations` (the nodes along it, and speeds), `Maneuvers` (the table of turns), `Turnings` (what a walk meets at
+//! its turns), `Steps` (the pieces into which it is cut) and `StepSums` (that these are the whole of it). What it pays
+//! at its vertices is told by `road_places`, in `Paid`. `CutLaws` has what holds however a walk is cut, `StepLaws`
+//! what holds of the steps of a permitted walk.
 //!
-//! Each is one pass over the walk.
+//! Each takes time in proportion to the walk.
 #![tactic(auto)]
 
 mod annotations;
+mod begins;
+mod maneuvers;
 mod paid;
 mod speeds;
+mod step_lists;
+mod turnings;
 mod walk_points;
+mod walk_steps;
 
 pub use annotations::{Annotation, annotate};
+pub use maneuvers::{Maneuver, ManeuverKind};
 pub use paid::Costs;
 pub use speeds::speed;
+pub use step_lists::{Step, Steps};
 pub use walk_points::leg_points;
+pub use walk_steps::steps;
+
+#[cfg(test)]
+mod tests;

@@ -6,10 +6,8 @@ use Rattle.std.specs.Str.{byte}
 use Rattle.option_values.specs.Values.{truth_of, radius_of, bearing_of, approach_of, hint_of, snapping_of, since_of, number_of, alternatives_of, route_annotations_of, every_annotation, geometries_of, overview_of, continue_straight_of, table_annotations_of}
 use Rattle.option_values.specs.Entries.{one_each, chosen_among}
 use Rattle.url_read.specs.Options.{name_of, value_of, is_of, last_value_of, read_or}
-use Rattle.url_read.specs.Scopes.{has_value}
 use Rattle.url_read.specs.Refusals.{bad_option, and_then, or_else}
 use Rattle.url_read.specs.declared.refusals.Refusal.{Refusal}
-use Rattle.url_read.specs.declared.scopes.Scope.{Scope}
 use Rattle.url_read.specs.declared.service_names.ServiceName.{ServiceName}
 use Rattle.url_read.specs.declared.service_names.ServiceName.TheVariants as name
 use Rattle.option_values.specs.declared.option_types.Bearing.{Bearing}
@@ -28,19 +26,16 @@ use Rattle.url_read.specs.declared.requests.OptionValues.{OptionValues}
 use Rattle.url_read.specs.declared.requests.Service.{Service}
 use Rattle.url_read.specs.declared.requests.Service.TheVariants.{Route, Table, Nearest}
 
--- the option has a value, which its service knows and which is read so far; a value that is lacking is not the
--- empty one
-abbrev pub is_legal : Scope → ServiceName → List ℕ → Bool
-is_legal scope service option =
-    list_any (λ b. b == byte "=") option
-    && (is_of service (name_of option) (value_of option) && has_value scope (name_of option) (value_of option))
+-- the option has a value, which its service knows; a value that is lacking is not the empty one
+abbrev pub is_legal : ServiceName → List ℕ → Bool
+is_legal service option = list_any (λ b. b == byte "=") option && is_of service (name_of option) (value_of option)
 
 abbrev pub refused_for : Option (List ℕ) → Option Refusal
 refused_for option = option_map (λ o. bad_option (name_of o)) option
 
 -- the refusal for the first option that is not legal
-abbrev pub options_refusal : Scope → ServiceName → List (List ℕ) → Option Refusal
-options_refusal scope service options = refused_for (find (λ option. not (is_legal scope service option)) options)
+abbrev pub options_refusal : ServiceName → List (List ℕ) → Option Refusal
+options_refusal service options = refused_for (find (λ option. not (is_legal service option)) options)
 
 abbrev pub hints_for : ℕ → List (List ℕ) → Result (List (List ℕ)) Refusal
 hints_for count options = or_else (one_each [] hint_of count (last_value_of (codes "hints") options)) (bad_option (codes "hints"))

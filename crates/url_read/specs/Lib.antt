@@ -3,5 +3,4 @@ pub mod Judging
 pub mod Options
 pub mod Refusals
 pub mod Request
-pub mod Scopes
 pub mod Target

@@ -11,8 +11,6 @@ use Rattle.url_read.specs.Options.{options_of}
 use Rattle.url_read.specs.Judging.{options_refusal, values_for}
 use Rattle.url_read.specs.Refusals.{bad_path, bad_service, bad_version, bad_option, bad_count, too_many, too_many_results, and_then, unless}
 use Rattle.url_read.specs.declared.refusals.Refusal.{Refusal}
-use Rattle.url_read.specs.declared.scopes.Scope.{Scope}
-use Rattle.url_read.specs.declared.scopes.Scope.TheVariants.{Whole, Answered}
 use Rattle.url_read.specs.declared.service_names.ServiceName.{ServiceName}
 use Rattle.url_read.specs.declared.service_names.ServiceName.TheVariants as name
 use Rattle.option_values.specs.Entries.{AreThere}
@@ -88,41 +86,33 @@ abbrev pub with_values : List (ℤ × ℤ) → OptionValues → Result Request R
 with_values degrees values = and_then (points_for values.service degrees) (λ points. Ok (request_at values points))
 
 -- sixth, there are enough coordinates; seventh, the options
-abbrev pub with_degrees : Scope → ServiceName → List (List ℕ) → List (ℤ × ℤ) → Result Request Refusal
-with_degrees scope service options degrees =
+abbrev pub with_degrees : ServiceName → List (List ℕ) → List (ℤ × ℤ) → Result Request Refusal
+with_degrees service options degrees =
     if not (is_count service (length degrees)) then Err (bad_count (length degrees))
-    else unless (options_refusal scope service options) (and_then (values_for service (length degrees) options) (with_values degrees))
+    else unless (options_refusal service options) (and_then (values_for service (length degrees) options) (with_values degrees))
 
 -- third, the version is `v1`; fourth, the reply is JSON and not of another format; fifth, behind which a `.json`
 -- is dropped, each coordinate is of its form
-abbrev pub of_service : Scope → Pieces → List ℕ → Option ServiceName → Result Request Refusal
-of_service scope pieces query None = Err (bad_service pieces.service)
-of_service scope pieces query (Some service) =
+abbrev pub of_service : Pieces → List ℕ → Option ServiceName → Result Request Refusal
+of_service pieces query None = Err (bad_service pieces.service)
+of_service pieces query (Some service) =
     if not (bytes_eq pieces.version (codes "v1")) then Err (bad_version pieces.version)
     else (if ends_with nat_eq pieces.coordinates (codes ".flatbuffers") then Err (bad_option (codes "format"))
-    else and_then (degrees_in (without_json pieces.coordinates)) (with_degrees scope service (options_of query)))
+    else and_then (degrees_in (without_json pieces.coordinates)) (with_degrees service (options_of query)))
 
 -- second, there is such a service
-abbrev pub of_pieces : Scope → Option Pieces → List ℕ → Result Request Refusal
-of_pieces scope None query = Err bad_path
-of_pieces scope (Some pieces) query = of_service scope pieces query (service_named pieces.service)
+abbrev pub of_pieces : Option Pieces → List ℕ → Result Request Refusal
+of_pieces None query = Err bad_path
+of_pieces (Some pieces) query = of_service pieces query (service_named pieces.service)
 
 -- first, the path and the query are text, and the path has its four pieces
-abbrev pub of_parts : Scope → List ℕ → List ℕ → Result Request Refusal
-of_parts scope path query = if is_utf8 path && is_utf8 query then of_pieces scope (pieces_of path) query else Err bad_path
+abbrev pub of_parts : List ℕ → List ℕ → Result Request Refusal
+of_parts path query = if is_utf8 path && is_utf8 query then of_pieces (pieces_of path) query else Err bad_path
 
 -- the request of a target, or its first refusal, in the order of these nine steps; path and query are parted
 -- before their percent escapes are read
-unfoldable pub request_in : Scope → List ℕ → Result Request Refusal
-request_in scope target = of_parts scope (percent_decode (path_at (mark_of target) target)) (percent_decode (query_at (mark_of target) target))
-
--- of the whole API
-abbrev pub whole_request_of : List ℕ → Result Request Refusal
-whole_request_of target = request_in Whole target
-
--- of what is answered so far
-abbrev pub request_of : List ℕ → Result Request Refusal
-request_of target = request_in Answered target
+unfoldable pub request_of : List ℕ → Result Request Refusal
+request_of target = of_parts (percent_decode (path_at (mark_of target) target)) (percent_decode (query_at (mark_of target) target))
 
 -- a table's sources and destinations are there; `nearest` is asked for one result or more
 abbrev pub AreOwn : ℕ → Service → Type 0

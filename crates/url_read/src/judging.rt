@@ -8,7 +8,6 @@ ghost use Rattle.url_read.specs.Refusals.{IsRefusalIn};
 use crate::messages::bad_option;
 use crate::options::{is_of, name_of};
 use crate::refusals::RequestFault;
-use crate::scopes::{Scope, has_value};
 use crate::service_names::ServiceName;
 use option_values::cut;
 use std::alloc::Global;
@@ -16,30 +15,29 @@ use std::alloc::Global;
 // Whether each option of a query is one of the service, of its grammar, or else the first that is not.
 pub(crate) fn check_options(
     alloc: Global,
-    scope: Scope,
     service: ServiceName,
     query: &str,
 ) -> Result<(), RequestFault>
-    ensures legal { OnOk result (options_refusal scope service (options_of query.now) ≡ None) }
-    ensures refusal { IfErr result (IsRefusalIn (options_refusal scope service (options_of query.now))) }
+    ensures legal { OnOk result (options_refusal service (options_of query.now) ≡ None) }
+    ensures refusal { IfErr result (IsRefusalIn (options_refusal service (options_of query.now))) }
 {
     if query.is_empty() {
         return Ok(());
     }
     for option in query.split('&') {
-        if !is_legal(scope, service, option) {
+        if !is_legal(service, option) {
             return Err(RequestFault::Refused(bad_option(alloc, name_of(option))?));
         }
     }
     Ok(())
 }
 
-// Whether an option has a value, which its service knows and which is read so far.
-fn is_legal(scope: Scope, service: ServiceName, option: &str) -> bool
-    ensures { result ≡ is_legal scope service option.now }
+// Whether an option has a value, which its service knows.
+fn is_legal(service: ServiceName, option: &str) -> bool
+    ensures { result ≡ is_legal service option.now }
 {
     match cut(option, '=') {
-        Some((name, value)) => is_of(service, name, value) && has_value(scope, name, value),
+        Some((name, value)) => is_of(service, name, value),
         None => false,
     }
 }

@@ -1,10 +1,9 @@
 //! Reads the target of a request: what it asks for, or its first refusal.
 //!
 //! Targets are those of OSRM's HTTP API, version 1, `/{service}/v1/{profile}/{coordinates}[.json]?{options}`, of
-//! the services `route`, `table` and `nearest`. `whole_request` reads all of them, `request` those that are
-//! answered so far. `specs/Request` says which target is which request, and which refusal comes first; `specs/Target`
-//! and `specs/Coordinates` have its path, `specs/Options` which options each service has, `specs/Judging` how they are
-//! judged, `specs/Scopes` what is not answered yet; what their values stand for is told by `option_values`. A target is
+//! the services `route`, `table` and `nearest`. `specs/Request` says which target is which request, and which refusal
+//! comes first; `specs/Target` and `specs/Coordinates` have its path, `specs/Options` which options each service has,
+//! `specs/Judging` how they are judged; what their values stand for is told by `option_values`. A target is
 //! parted in one pass over its bytes; its coordinates and its options are each read once, and then the last value of
 //! each option is looked up.
 #![tactic(auto)]
@@ -20,7 +19,6 @@ mod points;
 mod polylines;
 mod refusals;
 mod requests;
-mod scopes;
 mod service_names;
 mod sizes;
 mod targets;
@@ -32,7 +30,7 @@ pub use option_values::{
 };
 pub use refusals::{Refusal, RefusalCode, RequestFault};
 pub use requests::{NearestOptions, Request, RouteOptions, Service, TableOptions};
-pub use targets::{request, whole_request};
+pub use targets::request;
 
 #[cfg(test)]
 mod option_tests;

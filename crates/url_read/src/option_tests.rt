@@ -1,17 +1,16 @@
-//! Worked options, of what is answered so far and of the rest; expected values are from OSRM's API and this
-//! project's rules.
+//! Worked options; expected values are from OSRM's API and this project's rules.
 
 use crate::RefusalCode::{InvalidOptions, InvalidQuery, InvalidValue, TooBig};
 use crate::{
     Alternatives, Approach, Bearing, Chosen, ContinueStraight, Geometries, Overview, RefusalCode,
-    Request, RequestFault, RouteAnnotations, Service, TableAnnotations, request, whole_request,
+    Request, RequestFault, RouteAnnotations, Service, TableAnnotations, request,
 };
 use std::alloc::Global;
 use std::process::Abort;
 
-// Whether a target of the whole API is refused with this code and message.
+// Whether a target is refused with this code and message.
 fn is_refused(rt: &HostRuntime, target: &[u8], code: RefusalCode, message: &[u8]) -> bool {
-    match whole_request(rt.alloc(), target) {
+    match request(rt.alloc(), target) {
         Err(RequestFault::Refused(refusal)) => {
             refusal.code == code && refusal.message.as_bytes() == message
         }
@@ -136,7 +135,7 @@ fn a_target_of_any_service_has_its_first_refusal(rt: HostRuntime) {
 
 #[test]
 fn each_option_has_its_values(rt: HostRuntime) {
-    let cases: [&[u8]; 30] = [
+    let cases: [&[u8]; 32] = [
         b"/route/v1/car/0,0;0,1?radiuses=;",
         b"/route/v1/car/0,0;0,1?radiuses=unlimited;0",
         b"/route/v1/car/0,0;0,1?radiuses=007.25;99999999999999999999",
@@ -152,7 +151,9 @@ fn each_option_has_its_values(rt: HostRuntime) {
         b"/route/v1/car/0,0;0,1?since=00000000001",
         b"/route/v1/car/0,0;0,1?alternatives=true",
         b"/route/v1/car/0,0;0,1?alternatives=999999999",
-        b"/route/v1/car/0,0;0,1?steps=false",
+        b"/route/v1/car/0,0;0,1?steps=true",
+        b"/route/v1/car/0%2C0;0,1?o%76erview=f%61lse&radiuses=5;&bearings=45,10;&since=9",
+        b"/table/v1/car/polyline(????)",
         b"/route/v1/car/0,0;0,1?annotations=true",
         b"/route/v1/car/0,0;0,1?annotations=nodes,distance,duration,weight,nodes",
         b"/route/v1/car/0,0;0,1?geometries=polyline6",
@@ -169,7 +170,7 @@ fn each_option_has_its_values(rt: HostRuntime) {
         b"/nearest/v1/car/0,0?bearings=",
     ];
     for target in cases {
-        assert!(rt; whole_request(rt.alloc(), target).is_ok());
+        assert!(rt; request(rt.alloc(), target).is_ok());
     }
 }
 
@@ -273,9 +274,9 @@ fn a_value_of_another_form_is_refused(rt: HostRuntime) {
     }
 }
 
-// The request of a target of the whole API.
+// The request of a target.
 fn asked(rt: &impl Abort, alloc: Global, target: &[u8]) -> Request {
-    whole_request(alloc, target).ok().expect(rt, "a request")
+    request(alloc, target).ok().expect(rt, "a request")
 }
 
 #[test]
@@ -366,19 +367,4 @@ fn a_nearest_has_a_number(rt: HostRuntime) {
         panic!(rt; "places");
     };
     assert_eq!(rt; own.number, 99);
-}
-
-#[test]
-fn what_is_answered_so_far_is_asked_for(rt: HostRuntime) {
-    let cases: [&[u8]; 5] = [
-        b"/route/v1/car/0,0;0,1?hints=;",
-        b"/route/v1/car/0,0;0,1.json?overview=full&steps=false&annotations=true",
-        b"/route/v1/car/0%2C0;0,1?o%76erview=f%61lse&radiuses=5;&bearings=45,10;&since=9",
-        b"/table/v1/car/0,0;0,1?annotations=distance",
-        b"/table/v1/car/polyline(????)",
-    ];
-    for target in cases {
-        let asked = request(rt.alloc(), target).ok().expect(&rt, "a request");
-        assert_eq!(rt; asked.points.as_slice().len(), 2);
-    }
 }

@@ -3,7 +3,7 @@
 ghost use Rattle.std.specs.Prelude.{◌≡◌, ◌≤◌, true, Some, Ok, IfOk, IfErr, IfSome, length};
 ghost use Rattle.url_read.specs.Options.{options_of};
 ghost use Rattle.url_read.specs.Refusals.{IsFaultOf};
-ghost use Rattle.url_read.specs.Request.{is_count, most, of_pieces, points_for, request_in, request_of, service_named, whole_request_of, with_degrees, with_values, name_of_service, AreFew, HasEach, IsFitting};
+ghost use Rattle.url_read.specs.Request.{is_count, most, of_pieces, points_for, request_of, service_named, with_degrees, with_values, name_of_service, AreFew, HasEach, IsFitting};
 
 use crate::coordinates::degrees_in;
 use crate::judging::check_options;
@@ -13,24 +13,11 @@ use crate::pieces::{Pieces, pieces_of, without_json};
 use crate::points::points_at;
 use crate::refusals::RequestFault;
 use crate::requests::{OptionValues, Request, Service};
-use crate::scopes::Scope;
 use crate::service_names::{ServiceName, service_named};
 use crate::sizes::{check_size, is_count};
 use crate::values::values_for;
 use road_base::{Point, Points};
 use std::alloc::Global;
-
-/// The request of a target of what is answered so far, or its first refusal: as [`whole_request`], but
-/// `steps=true` is refused as an option that isn't of its grammar.
-pub fn request(alloc: Global, target: &[u8]) -> Result<Request, RequestFault>
-    ensures request { IfOk result (λ request. request_of target.now ≡ Ok request) }
-    ensures least { IfOk result (λ request. 1 ≤ length request.points) }
-    ensures most { IfOk result (λ request. length request.points ≤ 500) }
-    ensures fitting { IfOk result IsFitting }
-    ensures refusal { IfErr result (IsFaultOf (request_of target.now)) }
-{
-    request_in(alloc, Scope::Answered, target)
-}
 
 /// The request of a target, `/{service}/v1/{profile}/{coordinates}[.json]?{name}={value}&..`, or its first refusal.
 ///
@@ -52,20 +39,13 @@ pub fn request(alloc: Global, target: &[u8]) -> Result<Request, RequestFault>
 /// are coordinates, or a number of a coordinate that isn't there; `InvalidValue` with `coordinate I` for the first
 /// out of range; `TooBig` with `N coordinates, at most M`, then with `N results, at most 100`. Want of memory may
 /// come at any time.
-pub fn whole_request(alloc: Global, target: &[u8]) -> Result<Request, RequestFault>
-    ensures request { IfOk result (λ request. whole_request_of target.now ≡ Ok request) }
+#[tactic(auto, unfolding(crate::specs::Request::request_of))]
+pub fn request(alloc: Global, target: &[u8]) -> Result<Request, RequestFault>
+    ensures request { IfOk result (λ request. request_of target.now ≡ Ok request) }
+    ensures least { IfOk result (λ request. 1 ≤ length request.points) }
+    ensures most { IfOk result (λ request. length request.points ≤ 500) }
     ensures fitting { IfOk result IsFitting }
-    ensures refusal { IfErr result (IsFaultOf (whole_request_of target.now)) }
-{
-    request_in(alloc, Scope::Whole, target)
-}
-
-// The request of a target of a part of the API, or its first refusal.
-#[tactic(auto, unfolding(crate::specs::Request::request_in))]
-fn request_in(alloc: Global, scope: Scope, target: &[u8]) -> Result<Request, RequestFault>
-    ensures request { IfOk result (λ request. request_in scope target.now ≡ Ok request) }
-    ensures fitting { IfOk result IsFitting }
-    ensures refusal { IfErr result (IsFaultOf (request_in scope target.now)) }
+    ensures refusal { IfErr result (IsFaultOf (request_of target.now)) }
 {
     let (path, query) = parted(target);
     let Some(path) = decoded(alloc, path)? else {
@@ -77,19 +57,18 @@ fn request_in(alloc: Global, scope: Scope, target: &[u8]) -> Result<Request, Req
     let Some(pieces) = pieces_of(characters(&path)) else {
         return Err(RequestFault::Refused(bad_path(alloc)?));
     };
-    request_of_pieces(alloc, scope, pieces, characters(&query))
+    request_of_pieces(alloc, pieces, characters(&query))
 }
 
 // The request of the pieces of a path and of a query.
 fn request_of_pieces(
     alloc: Global,
-    scope: Scope,
     pieces: Pieces<'_>,
     query: &str,
 ) -> Result<Request, RequestFault>
-    ensures request { IfOk result (λ request. of_pieces scope (Some (record { service = pieces.entry.service.now; version = pieces.entry.version.now; coordinates = pieces.entry.coordinates.now })) query.now ≡ Ok request) }
+    ensures request { IfOk result (λ request. of_pieces (Some (record { service = pieces.entry.service.now; version = pieces.entry.version.now; coordinates = pieces.entry.coordinates.now })) query.now ≡ Ok request) }
     ensures fitting { IfOk result IsFitting }
-    ensures refusal { IfErr result (IsFaultOf (of_pieces scope (Some (record { service = pieces.entry.service.now; version = pieces.entry.version.now; coordinates = pieces.entry.coordinates.now })) query.now)) }
+    ensures refusal { IfErr result (IsFaultOf (of_pieces (Some (record { service = pieces.entry.service.now; version = pieces.entry.version.now; coordinates = pieces.entry.coordinates.now })) query.now)) }
 {
     let Some(service) = service_named(pieces.service) else {
         return Err(RequestFault::Refused(bad_service(alloc, pieces.service)?));
@@ -101,27 +80,26 @@ fn request_of_pieces(
         return Err(RequestFault::Refused(bad_option(alloc, "format")?));
     }
     let degrees = degrees_in(alloc, without_json(pieces.coordinates))?;
-    request_at(alloc, scope, service, &degrees, query)
+    request_at(alloc, service, &degrees, query)
 }
 
 // The request of a service at these longitudes and latitudes, with the options of a query.
 fn request_at(
     alloc: Global,
-    scope: Scope,
     service: ServiceName,
     degrees: &[(i64, i64)],
     query: &str,
 ) -> Result<Request, RequestFault>
-    ensures request { IfOk result (λ request. with_degrees scope service (options_of query.now) degrees.now ≡ Ok request) }
+    ensures request { IfOk result (λ request. with_degrees service (options_of query.now) degrees.now ≡ Ok request) }
     ensures fitting { IfOk result IsFitting }
     ensures name { IfOk result (λ request. name_of_service request.service ≡ service) }
-    ensures refusal { IfErr result (IsFaultOf (with_degrees scope service (options_of query.now) degrees.now)) }
+    ensures refusal { IfErr result (IsFaultOf (with_degrees service (options_of query.now) degrees.now)) }
 {
     let count = degrees.len();
     if !is_count(service, count) {
         return Err(RequestFault::Refused(bad_count(alloc, count)?));
     }
-    check_options(alloc, scope, service, query)?;
+    check_options(alloc, service, query)?;
     let values = values_for(alloc, service, count, query)?;
     request_with(alloc, values, degrees)
 }

@@ -157,7 +157,7 @@ fn the_first_refusal_of_a_target_is_told(rt: HostRuntime) {
             b"option hints",
         ),
         (
-            b"/route/v1/car/0,0;0,0?steps=true&steps=false&overview=false",
+            b"/route/v1/car/0,0;0,0?steps=on&steps=true&overview=false",
             InvalidOptions,
             b"option steps",
         ),

@@ -1,7 +1,7 @@
 -- Each turn has an exact level more.
 use Rattle.std.proofs.Common.{◌≡◌, ℕ, ◌+◌, ◌-◌, ◌∷◌, [], length, length-append, subst, arith}
 use Rattle.cell_frame.specs.Cliqued.{AreExact}
-use Rattle.cell_customize.proofs.Piling.{AreExact-push}
+use Rattle.cell_customize.specs.Piling.{AreExact-push}
 use Rattle.cell_customize.proofs.customizing.customize.Goals as goal
 
 pub level_cliques-requires-clause-cliques : goal.level_cliques-requires-clause-cliques

@@ -1,5 +1,5 @@
 -- The cliques of all cells, one behind another, are an exact level.
-use Rattle.cell_customize.proofs.Piling.{IsExactLevel-made}
+use Rattle.cell_customize.specs.Piling.{IsExactLevel-made}
 use Rattle.cell_customize.proofs.customizing.level_cliques.Goals as goal
 
 pub returns : goal.returns

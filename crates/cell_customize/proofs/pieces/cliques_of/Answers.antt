@@ -1,5 +1,5 @@
 -- Each turn has the clique of one cell more.
-use Rattle.cell_customize.proofs.Piling.{AreMade-push}
+use Rattle.cell_customize.specs.Piling.{AreMade-push}
 use Rattle.cell_customize.proofs.pieces.cliques_of.Goals as goal
 
 pub loop-number-preserved : goal.loop-number-preserved

@@ -9,6 +9,6 @@ returns-clause-begun g c = record { starts = c.requires.begun.starts; under_way 
 
 pub returns-clause-cost : goal.returns-clause-cost
 returns-clause-cost g c =
-    let o = c.args.small.now.steps.now in
+    let o = c.args.leaping.now.steps.now.steps.now in
     let cost = rw (c.as_slice-starts.ensures.value, c.requires.begun.starts) at c.cost.ensures in
     cost

@@ -6,16 +6,16 @@ use Rattle.std.proofs.lemmas.List.{append_assoc, append-nil}
 use Rattle.cell_frame.specs.Borders.{Holds}
 use Rattle.cell_frame.specs.Inside.{IsInsideValue}
 use Rattle.cell_customize.proofs.Numbered.{named_some}
-use Rattle.cell_customize.proofs.Piling.{get_nothing, one_more, row_from}
+use Rattle.cell_customize.specs.Piling.{get_nothing, one_more, row_from}
 use Rattle.cell_customize.proofs.rows.row.Goals as goal
 
 pub unwrap-start-requires : goal.unwrap-start-requires
-unwrap-start-requires g c = named_some c.args.small.now.local.now.numbers c.args.entry c.number.result c.number.ensures.none (c.requires.filled.named c.args.entry c.requires.entry)
+unwrap-start-requires g c = named_some c.args.leaping.now.steps.now.local.now.numbers c.args.entry c.number.result c.number.ensures.none (c.requires.filled.named c.args.entry c.requires.entry)
 
 pub begin_at-requires-clause-start : goal.begin_at-requires-clause-start
 begin_at-requires-clause-start g c =
-    let at : slice_get c.args.small.now.local.now.numbers c.unwrap-start.result ≡ Some c.args.entry = search rules in
-    slice_get_within c.args.small.now.local.now.numbers c.unwrap-start.result c.args.entry at
+    let at : slice_get c.args.leaping.now.steps.now.local.now.numbers c.unwrap-start.result ≡ Some c.args.entry = search rules in
+    slice_get_within c.args.leaping.now.steps.now.local.now.numbers c.unwrap-start.result c.args.entry at
 
 pub loop-exit-init : goal.loop-exit-init
 loop-exit-init g c = record {
@@ -29,14 +29,14 @@ loop-exit-init g c = record {
 pub loop-exit-preserved : goal.loop-exit-preserved
 loop-exit-preserved g c =
     let before = c.loop-exit.invariant in
-    let f = c.args.small.now.steps.now.frame.now in
+    let f = c.args.leaping.now.steps.now.steps.now.frame.now in
     let n : length before.row ≡ c.loop-exit.exit-index = before.count in
     record {
       begun = c.in_ok-value.ensures.begun;
       row = before.row ++ c.in_ok-value.value ∷ [];
       behind = c.in_ok-push.ensures.pushed ∙ ap (λ xs. xs ++ c.in_ok-value.value ∷ []) before.behind ∙ append_assoc c.args.values.now before.row (c.in_ok-value.value ∷ []);
       count = omega (arith, length-append before.row (c.in_ok-value.value ∷ []), n);
-      each = one_more (IsInsideValue g.C.Cost.ops f.graph c.args.small.now.steps.now.weights.now (Holds f.cells c.args.small.now.steps.now.parts.now.cell) c.args.entry) c.args.exits.now before.row c.loop-exit.exit-index (get_or c.args.exits.now c.loop-exit.exit-index 0) c.in_ok-value.value n
+      each = one_more (IsInsideValue g.C.Cost.ops f.graph c.args.leaping.now.steps.now.steps.now.weights.now (Holds f.cells c.args.leaping.now.steps.now.steps.now.parts.now.cell) c.args.entry) c.args.exits.now before.row c.loop-exit.exit-index (get_or c.args.exits.now c.loop-exit.exit-index 0) c.in_ok-value.value n
           (slice_get-get_or c.args.exits.now c.loop-exit.exit-index 0 c.loop-exit-test.true) c.in_ok-value.ensures.value before.each;
     }
 
@@ -45,4 +45,4 @@ returns g c =
     let whole = c.loop-exit.invariant in
     let n : length whole.row ≡ c.loop-exit.exit-index = whole.count in
     let all : length whole.row ≡ length c.args.exits.now = omega (arith, c.loop-exit-test.false) in
-    (whole.row, whole.behind, row_from g.C.Cost.ops c.args.small.now.steps.now.frame.now c.args.small.now.steps.now.weights.now c.args.small.now.steps.now.parts.now.cell c.args.entry _ _ c.requires.exits all whole.each)
+    (whole.row, whole.behind, row_from g.C.Cost.ops c.args.leaping.now.steps.now.steps.now.frame.now c.args.leaping.now.steps.now.steps.now.weights.now c.args.leaping.now.steps.now.steps.now.parts.now.cell c.args.entry _ _ c.requires.exits all whole.each)

@@ -4,11 +4,11 @@ use Rattle.std.specs.List.{slice_get}
 use Rattle.std.proofs.lemmas.Option.{slice_get-get_or}
 use Rattle.std.proofs.lemmas.List.{append_assoc, append-nil}
 use Rattle.cell_customize.specs.Levels.{AreRows}
-use Rattle.cell_customize.proofs.Piling.{AreRows-none, AreRows-push}
+use Rattle.cell_customize.specs.Piling.{AreRows-none, AreRows-push}
 use Rattle.cell_customize.proofs.rows.rows.Goals as goal
 
 pub loop-entry-init : goal.loop-entry-init
-loop-entry-init g c = record { clique = []; behind = sym (append-nil _); rows = AreRows-none g.C.Cost.ops c.args.small.now.steps.now.frame.now c.args.small.now.steps.now.weights.now c.args.small.now.steps.now.parts.now.cell }
+loop-entry-init g c = record { clique = []; behind = sym (append-nil _); rows = AreRows-none g.C.Cost.ops c.args.leaping.now.steps.now.steps.now.frame.now c.args.leaping.now.steps.now.steps.now.weights.now c.args.leaping.now.steps.now.steps.now.parts.now.cell }
 
 pub loop-entry-preserved : goal.loop-entry-preserved
 loop-entry-preserved g c =
@@ -19,11 +19,11 @@ loop-entry-preserved g c =
     record {
       clique = before.clique ++ made.0;
       behind = made.1 ∙ ap (λ xs. xs ++ made.0) before.behind ∙ append_assoc c.args.values.now before.clique made.0;
-      rows = AreRows-push g.C.Cost.ops c.args.small.now.steps.now.frame.now c.args.small.now.steps.now.weights.now c.args.small.now.steps.now.parts.now.cell before.clique made.0 i _ at made.2 before.rows;
+      rows = AreRows-push g.C.Cost.ops c.args.leaping.now.steps.now.steps.now.frame.now c.args.leaping.now.steps.now.steps.now.weights.now c.args.leaping.now.steps.now.steps.now.parts.now.cell before.clique made.0 i _ at made.2 before.rows;
     }
 
 pub returns : goal.returns
 returns g c =
     let whole = c.loop-entry.invariant in
     let all : c.loop-entry.entry-index ≡ length c.args.entries.now = omega (arith, c.loop-entry-test.false) in
-    (whole.clique, whole.behind, subst (AreRows g.C.Cost.ops c.args.small.now.steps.now.frame.now c.args.small.now.steps.now.weights.now c.args.small.now.steps.now.parts.now.cell whole.clique) (all ∙ ap length c.requires.entries) whole.rows)
+    (whole.clique, whole.behind, subst (AreRows g.C.Cost.ops c.args.leaping.now.steps.now.steps.now.frame.now c.args.leaping.now.steps.now.steps.now.weights.now c.args.leaping.now.steps.now.steps.now.parts.now.cell whole.clique) (all ∙ ap length c.requires.entries) whole.rows)

@@ -7,5 +7,5 @@ abbrev pub invariant-loop-entry : goal.invariant-loop-entry
 invariant-loop-entry g l = record {
   clique : List (Option g.row.C.Denot);
   behind : l.values ≡ l.initial.values ++ clique;
-  rows : AreRows g.C.Cost.ops l.small.steps.now.frame.now l.small.steps.now.weights.now l.small.steps.now.parts.now.cell clique l.entry-index;
+  rows : AreRows g.C.Cost.ops l.leaping.steps.now.steps.now.frame.now l.leaping.steps.now.steps.now.weights.now l.leaping.steps.now.steps.now.parts.now.cell clique l.entry-index;
 }

@@ -1,6 +1,6 @@
 -- Each turn has an exact level more.
 use Rattle.std.proofs.Common.{◌∷◌, [], length-append, arith}
-use Rattle.cell_customize.proofs.Piling.{AreExact-push}
+use Rattle.cell_customize.specs.Piling.{AreExact-push}
 use Rattle.cell_customize.proofs.side_by_side.customize_in_threads.Goals as goal
 
 pub loop-below-preserved : goal.loop-below-preserved

@@ -4,7 +4,7 @@ use Rattle.std.proofs.lemmas.Option.{slice_get-get_or}
 use Rattle.cell_partition.specs.Partition.{level_at}
 use Rattle.cell_customize.specs.Levels.{AreMade, IsReady, cut_at}
 use Rattle.cell_customize.proofs.Cuts.{cut_none, cut_all}
-use Rattle.cell_customize.proofs.Piling.{AreMade-none, AreMade-behind, IsExactLevel-made}
+use Rattle.cell_customize.specs.Piling.{AreMade-none, AreMade-behind, IsExactLevel-made}
 use Rattle.cell_customize.proofs.side_by_side.level_in_threads.Goals as goal
 
 pub pieces-requires-clause-ready : goal.pieces-requires-clause-ready
@@ -35,8 +35,8 @@ loop-piece-preserved g c =
 pub returns : goal.returns
 returns g c =
     let count = length (level_at c.args.frame.now.cells c.args.level) in
-    let size : length c.as_slice-piece-items.result.now ≡ 64 = ap length c.as_slice-piece-items.ensures.value ∙ c.in_ok-pieces.ensures.size in
-    let all : c.loop-piece.piece-index ≡ 64 = omega (arith, c.loop-piece-test.false, c.loop-piece.auto.piece-index-end, size) in
+    let size : length c.as_slice-piece-items.result.now ≡ 16 = ap length c.as_slice-piece-items.ensures.value ∙ c.in_ok-pieces.ensures.size in
+    let all : c.loop-piece.piece-index ≡ 16 = omega (arith, c.loop-piece-test.false, c.loop-piece.auto.piece-index-end, size) in
     let cut = subst (λ (p : ℕ). AreMade g.C.Cost.ops c.args.frame.now c.args.weights.now c.args.level 0 (cut_at count p) c.loop-piece.all) all c.loop-piece.invariant in
     let whole = subst (λ (n : ℕ). AreMade g.C.Cost.ops c.args.frame.now c.args.weights.now c.args.level 0 n c.loop-piece.all) (cut_all count) cut in
     rw c.into_level.ensures (IsExactLevel-made g.C.Cost.ops c.args.frame.now c.args.weights.now c.args.level c.loop-piece.all whole)

@@ -9,7 +9,7 @@ use Rattle.cell_customize.proofs.side_by_side.pieces.Goals as goal
 pub collect-requires-clause-ready : goal.collect-requires-clause-ready
 collect-requires-clause-ready g c κs within =
     let ends = c.into_par_iter.ensures in
-    let inside = nat_range-All (λ i. IsReady g.C.Cost.ops c.args.frame.now c.args.weights.now c.args.cliques.now c.args.level × (i < 64)) 0 64 (λ i low high. (c.requires.ready, high)) in
+    let inside = nat_range-All (λ i. IsReady g.C.Cost.ops c.args.frame.now c.args.weights.now c.args.cliques.now c.args.level × (i < 16)) 0 16 (λ i low high. (c.requires.ready, high)) in
     rw (c.map.ensures.base, c.map.ensures.f, c.with_min_len.ensures.base, ends.0, ends.1) (λ k d lt. (inside k d lt, λ y p. tt))
 
 pub returns : goal.returns

@@ -1,9 +1,10 @@
 use Rattle.std.proofs.Common.{ap, arith, length}
 use Rattle.list_lemmas.proofs.Fronts.{all_zip-length}
 use Rattle.road_base.specs.declared.segments.Place.{Place}
+use Rattle.edge_graph.specs.NetworkView.{NetworkView}
 use Rattle.reply_core.specs.Asked.{asked_in}
 use Rattle.reply_core.specs.Lacks.{StandsFor}
-use Rattle.reply_core.proofs.AnswerLemmas.{asked-count, few-of, some-of}
+use Rattle.reply_core.proofs.AnswerLemmas.{asked-count, few-of, few-units, some-of}
 use Rattle.reply_core.proofs.route_answers.route_answer.Goals as goal
 
 -- there are as many places as coordinates
@@ -42,3 +43,10 @@ told-requires-clause-legs c =
     let one_each = c.in_ok-routes.ensures.one_each in
     let few = few-of request.service (length request.points) c.requires.fitting.most in
     omega (arith, asked, as_many, same, one_each, few)
+
+-- none of them costs too much
+pub told-requires-clause-small : goal.told-requires-clause-small
+told-requires-clause-small c =
+    let network = c.args.under.now.road.network in
+    let same = ap (λ (n : NetworkView). length n.segments) c.network-network.ensures in
+    few-units network c.in_ok-routes.routes.items (omega (arith, c.segments.ensures.value, c.segments.ensures.few, same)) c.in_ok-routes.ensures.bound

@@ -9,8 +9,9 @@ use Rattle.road_base.specs.declared.segments.Place.{Place}
 use Rattle.road_places.specs.RoadMetric.{road_of}
 use Rattle.road_places.specs.declared.walks.Route.{Route}
 use Rattle.route_steps.specs.Points.{points_along}
+use Rattle.route_steps.specs.Steps.{joined}
 use Rattle.reply_texts.specs.Legs.{Leg}
-use Rattle.reply_texts.specs.Lines.{joined, points_behind}
+use Rattle.reply_texts.specs.Lines.{points_behind}
 use Rattle.reply_texts.specs.RouteLegs.{ends_and_routes, leg_told}
 use Rattle.reply_texts.proofs.LegLemmas.{joined-more, leg-at, legs-count, permitted-at, places-enough}
 use Rattle.reply_texts.proofs.route_lines.line_points.Goals as goal

@@ -6,7 +6,7 @@ use Rattle.search_graph.specs.Faults.{AllInRange}
 use Rattle.road_places.specs.RoadMetric.{RoadMetric}
 use Rattle.route_steps.specs.Points.{end_of, point_on}
 use Rattle.route_steps.proofs.PointLemmas.{point_on-told, points-pushed}
-use Rattle.route_steps.proofs.WalkLemmas.{vertices_of-walk}
+use Rattle.route_steps.specs.WalkLaws.{vertices_of-walk}
 use Rattle.route_steps.proofs.walk_points.leg_points.Goals as goal
 
 -- the vertices but the last are of the network

@@ -6,4 +6,4 @@ use Rattle.url_read.proofs.judging.check_options.Given as goal
 
 -- the options so far are legal
 abbrev pub invariant-loop-option : goal.invariant-loop-option
-invariant-loop-option l = AreLegal (is_legal l.scope l.service) (slice_split (λ b. eqb b 38) l.query) (length l.yielded)
+invariant-loop-option l = AreLegal (is_legal l.service) (slice_split (λ b. eqb b 38) l.query) (length l.yielded)

@@ -1,0 +1,49 @@
+//! Lists of steps.
+
+ghost use Rattle.std.specs.Prelude.{◌≡◌};
+
+use crate::maneuvers::Maneuver;
+use road_base::{Points, Text};
+use search_graph::DurLen;
+use std::marker::Model;
+
+/// A part of a walk, from where the driver is told what to do to where that comes next: what it costs, the points
+/// along it, the name of the road (empty where it has none), and what is told at its begin.
+#[derive(Drop)]
+pub struct Step {
+    pub cost: DurLen,
+    pub points: Points,
+    pub name: Text,
+    pub maneuver: Maneuver,
+}
+
+/// Steps in their order, which contracts see as a list.
+#[derive(Drop)]
+pub struct Steps {
+    inner: Vec<Step>,
+}
+
+impl Model for Steps {
+    ghost use Rattle.std.specs.Prelude.{List};
+    ghost use Rattle.route_steps.specs.declared.step_lists.Step.{Step};
+
+    ghost Value = { List Step };
+
+    ghost view = { λ steps. steps.inner.items };
+}
+
+impl Steps {
+    /// The list of a `Vec`.
+    pub fn of(inner: Vec<Step>) -> Steps
+        ensures { result ≡ inner.items }
+    {
+        Steps { inner }
+    }
+
+    /// The steps, in their order.
+    pub fn as_slice(&self) -> &[Step]
+        ensures { result.now ≡ self.now }
+    {
+        &self.inner
+    }
+}
