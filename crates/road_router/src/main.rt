@@ -14,6 +14,8 @@ mod real_streams;
 mod retrying;
 mod running;
 #[cfg(test)]
+mod step_tests;
+#[cfg(test)]
 mod tests;
 #[cfg(test)]
 mod traffic_tests;

@@ -366,7 +366,7 @@ fn a_map_without_roads_has_no_place(rt: HostRuntime) -> Result<(), AllocError> {
 }
 
 // Whether the run is done and what it puts has this text in it.
-fn shows(
+pub(crate) fn shows(
     rt: &(impl Threads + Sync),
     alloc: Global,
     case: Case<'_>,

@@ -215,3 +215,31 @@ fn a_traffic_file_that_cannot_be_read_ends_the_run(rt: HostRuntime) -> Result<()
     }
     Ok(())
 }
+
+// A route that is asked for before, between and behind refused files has the same reply.
+#[test]
+fn refused_traffic_changes_no_reply(rt: HostRuntime) -> Result<(), AllocError> {
+    let parts: [(&[u8], &[u8]); 5] = [
+        (LINE, REPLY),
+        (
+            b"TRAFFIC faulty.csv -\n",
+            b"{\"code\":\"Refused\",\"file\":\"speeds\",\"row\":3,\"kind\":\"BadNumber\"}\n",
+        ),
+        (LINE, REPLY),
+        (
+            b"TRAFFIC slow.csv slow.csv\n",
+            b"{\"code\":\"Refused\",\"file\":\"turns\",\"row\":1,\"kind\":\"BadCount\"}\n",
+        ),
+        (LINE, REPLY),
+    ];
+    let mut input = Vec::new(rt.alloc());
+    let mut expected = Vec::new(rt.alloc());
+    for (line, reply) in parts {
+        input.extend_from_slice(line)?;
+        expected.extend_from_slice(reply)?;
+    }
+    let (status, output, _) = ask(&rt, rt.alloc(), Case::over_town(input.as_slice()))?;
+    assert_eq!(rt; status, Status::Ok);
+    assert_eq!(rt; output.as_bytes(), expected.as_slice());
+    Ok(())
+}

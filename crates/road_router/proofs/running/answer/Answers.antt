@@ -1,11 +1,12 @@
 -- The line on which answering ends stands behind what was told.
-use Rattle.std.proofs.Common.{ap, inl, inr, refl, subst, sym}
+use Rattle.std.proofs.Common.{ℕ, List, ap, inl, inr, refl, subst, sym}
 use Rattle.map_loading.specs.Loading.{memory_line}
 use Rattle.road_base.specs.declared.program_status.Status.{Status}
 use Rattle.road_io.specs.Outside.{Outside, outside}
 use Rattle.road_io.specs.Putting.{Closes}
 use Rattle.road_io.specs.Views.{OutputView}
 use Rattle.road_router.specs.InnerEnds.{EndsFrom}
+use Rattle.road_router.specs.StoppedEarly.{cannot_read}
 use Rattle.road_router.proofs.running.answer.Goals as goal
 
 pub returns-in-Ok : goal.returns-in-Ok
@@ -25,11 +26,11 @@ returns-in-Err-File g c =
     let after = outside (g.F.Files.view c.answer_lines.new.files) (g.I.Source.view c.answer_lines.new.input) (g.O.Sink.view c.end_unread.new.output) in
     subst (λ (code : Status). EndsFrom code c.args.published.now before after) (sym told.0)
     (inr (record {
-      name = c.as_str.result.now;
+      name = c.in-Err-File.name;
       last = c.answer_lines.new.published;
       replies = g.O.Sink.view c.answer_lines.new.output;
-      failed = rw (c.as_str.ensures, ← c.in-Err-File.field-0-is) c.in-Err-File.ensures.stopped;
-      put = told.1;
+      failed = rw c.in-Err-File.field-0-is at c.in-Err-File.ensures.stopped;
+      put = subst (λ (n : List ℕ). Closes (g.O.Sink.view c.answer_lines.new.output) (g.O.Sink.view c.end_unread.new.output) (cannot_read n)) c.as_str.ensures told.1;
     }))
 
 pub returns-in-Err-TooLong : goal.returns-in-Err-TooLong
