@@ -1,6 +1,6 @@
 //! The doors that connections come through.
 
-ghost use Rattle.std.specs.Prelude.{◌≡◌, ℕ, ◌+◌, ◌<◌, map};
+ghost use Rattle.std.specs.Prelude.{◌≡◌, ℕ, ◌+◌, ◌<◌, ◌≤◌, length, map};
 ghost use Rattle.road_io.specs.Doorway.{DoorView, NextGives, after_finish};
 ghost use Rattle.road_io.specs.DoorOpening.{DoorsView, Asked, asked, OpenGives, door_set, BackGives};
 ghost use Rattle.road_io.specs.Views.{IsFreshConn};
@@ -70,7 +70,9 @@ pub trait Doors {
     ) -> Result<Opened<Self::Door, Self::Closer>, DoorsFault>
         ensures gives { OpenGives (view self.old) result (view self.new) (asked query.now control.now workers) (λ o. door_set (map Self.Door.view o.queries.items) (Self.Door.view o.control)) };
 
-    /// Takes doors back, with what they tell. The count of faults rises exactly where one of theirs did.
+    /// Takes doors back that are out, with what they tell. The count of faults rises exactly where one of
+    /// theirs did.
     fn back(&mut self, queries: Vec<Self::Door>, control: Self::Door)
+        requires { length queries.items + 1 ≤ (view self.old).out }
         ensures takes { BackGives (view self.old) (door_set (map Self.Door.view queries.items) (Self.Door.view control)) (view self.new) };
 }
