@@ -1,6 +1,6 @@
 -- What the last Learns and Enters of seats leave, and how they add up.
-use Rattle.std.proofs.Common.{◌≡◌, ℕ, List, [], ◌∷◌, ◌++◌, Option, Some, ⊤, refl, ap, subst, sym, ◌∙◌}
-use Rattle.std.specs.Prelude.{MatchOption, Result, Ok}
+use Rattle.std.proofs.Common.{◌≡◌, ℕ, List, [], ◌∷◌, ◌++◌, Option, Some, refl, ap, subst, sym, ◌∙◌}
+use Rattle.std.specs.Prelude.{MatchOption, Ok, ⊤}
 use Rattle.std.proofs.lemmas.Option.{same_Some}
 use mathlib.Core.List.{IsPrefix}
 use Rattle.metric_publish.specs.Calls.{EnterGives}

@@ -4,6 +4,7 @@ ghost use Rattle.std.specs.Prelude.{◌≡◌, ◌+◌, ◌-◌, ◌^◌, min, s
 ghost use Rattle.std.specs.List.{AllZip};
 ghost use Rattle.left_right.specs.Sides.{view};
 ghost use mathlib.Core.List.{IsPrefix};
+ghost use Rattle.metric_publish.specs.Calls.{Each};
 ghost use Rattle.road_io.specs.DoorOpening.{IsNewDoor};
 ghost use Rattle.door_service.specs.Passing.{GoneToEnd};
 ghost use Rattle.door_service.specs.Leading.{TendGives};
@@ -63,7 +64,7 @@ where
     ensures posts { AllZip (λ p q. AnsweredAt (Q.rule queries.now) (D.view p.door) (D.view q.door) p.seat.seen.token.log q.seat.seen.token.log q.connections) posts.old.items posts.new.items }
     ensures all { result.short ≡ false → AllZip (λ p q. GoneToEnd (D.view p.door) (D.view q.door) (Q.rule queries.now desk.new.writer.desk.shown.value.front.token.log) q.connections) posts.old.items posts.new.items }
     ensures learned { All (λ q. IsPrefix desk.new.writer.desk.shown.value.front.token.log q.seat.learned.token.log) posts.new.items }
-    ensures read { result.short ≡ false → All (λ q. HasReadAll desk.new.writer.desk.shown.value.front.token.log q.seat.seen.token.log (view q.seat.reader.place).reads) posts.new.items }
+    ensures read { result.short ≡ false → Each posts.new.items (λ q. HasReadAll desk.new.writer.desk.shown.value.front.token.log q.seat.seen.token.log (view q.seat.reader.place).reads) }
     ensures metric { result.metric ≡ last_number desk.new.writer.desk.shown.value.front.token.log }
     ensures runs { IsRun desk.new.writer.desk.shown.value.front.token.log }
     ensures connections { result.connections ≡ min (sum_by (λ p. (D.view p.door).finished) posts.new.items + (D.view control.new.door).finished) (2 ^ 64 - 1) }

@@ -5,6 +5,7 @@ ghost use Rattle.std.specs.List.{AllZip};
 ghost use Rattle.std.specs.Vec.{vec_len, vec_capacity};
 ghost use Rattle.left_right.specs.Sides.{view};
 ghost use mathlib.Core.List.{IsPrefix};
+ghost use Rattle.metric_publish.specs.Calls.{Each};
 ghost use Rattle.road_io.specs.DoorOpening.{IsNewDoor};
 ghost use Rattle.metric_publish.specs.declared.entry.Entry.{Entry};
 ghost use Rattle.metric_publish.specs.History.{IsKin, IsRun, last_number};
@@ -83,7 +84,7 @@ where
     ensures each { (first : List (Entry V)) → All (λ s. IsPrefix first s.seen.token.log) seats.old.items → AllZip (λ d e. AnsweredUnder first (D.view d) (D.view e) (Q.rule queries.now)) opened.queries.items result.doors.queries.items }
     ensures seats { vec_len seats.new ≡ vec_len seats.old }
     ensures learned { All (λ s. IsPrefix desk.new.writer.desk.shown.value.front.token.log s.learned.token.log) seats.new.items }
-    ensures read { result.short ≡ false → All (λ s. HasReadAll desk.new.writer.desk.shown.value.front.token.log s.seen.token.log (view s.reader.place).reads) seats.new.items }
+    ensures read { result.short ≡ false → Each seats.new.items (λ s. HasReadAll desk.new.writer.desk.shown.value.front.token.log s.seen.token.log (view s.reader.place).reads) }
     ensures metric { result.metric ≡ last_number desk.new.writer.desk.shown.value.front.token.log }
     ensures runs { IsRun desk.new.writer.desk.shown.value.front.token.log }
     ensures connections { result.connections ≡ min (sum_by (λ d. (D.view d).finished) result.doors.queries.items + (D.view result.doors.control).finished) (2 ^ 64 - 1) }

@@ -24,6 +24,9 @@ pub trait Querying<V: Drop> {
     /// The rule that a finished connection meets under a list of publications.
     ghost rule: { Self → List (Entry V) → Transcript → Type 0 };
 
+    /// The rule speaks of what stands in the list, so it is kept by a longer list.
+    ghost longer: { (s : Self) (xs ys : List (Entry V)) (t : Transcript) → IsPrefix xs ys → rule s xs t → rule s ys t };
+
     /// What it can answer under.
     ghost fits: { Self → V → Type 0 };
 
@@ -35,9 +38,6 @@ pub trait Querying<V: Drop> {
         ensures rule { rule self.now (S.seen seat.new) (C.state conn.new) }
         ensures seen { IsPrefix (S.seen seat.old) (S.seen seat.new) }
         ensures kin_stays { (x : V) → S.kin seat.new x → S.kin seat.old x };
-
-    /// The rule speaks of what stands in the list, so it is kept by a longer list.
-    ghost longer: { (s : Self) (xs ys : List (Entry V)) (t : Transcript) → IsPrefix xs ys → rule s xs t → rule s ys t };
 }
 
 /// Serves control connections, each of which may publish.

@@ -4,6 +4,7 @@ ghost use Rattle.std.specs.Prelude.{◌≡◌, ◌+◌, ◌-◌, ◌^◌, min, I
 ghost use Rattle.std.specs.List.{AllZip};
 ghost use Rattle.left_right.specs.Sides.{view};
 ghost use mathlib.Core.List.{IsPrefix};
+ghost use Rattle.metric_publish.specs.Calls.{Each};
 ghost use Rattle.door_service.specs.Settling.{HasReadAll, IsSettled};
 
 use crate::posts::Post;
@@ -34,7 +35,7 @@ pub fn settle_all<V: Kindred, J: Naming, D>(
 ) -> bool
     ensures settled { AllZip (λ p q. IsSettled p q (λ s. s.seen.token.log)) posts.old.items posts.new.items }
     ensures learned { All (λ q. IsPrefix desk.now.writer.desk.shown.value.front.token.log q.seat.learned.token.log) posts.new.items }
-    ensures all { IsTrue result → All (λ q. HasReadAll desk.now.writer.desk.shown.value.front.token.log q.seat.seen.token.log (view q.seat.reader.place).reads) posts.new.items }
+    ensures all { IsTrue result → Each posts.new.items (λ q. HasReadAll desk.now.writer.desk.shown.value.front.token.log q.seat.seen.token.log (view q.seat.reader.place).reads) }
 {
     let mut all = true;
     for i in 0..posts.len() {

@@ -44,7 +44,7 @@ returns-clause-each g c = λ first begun.
     let seen : Seat g.row.V.Denot g.row.J.Denot g.J.Naming → List (Entry g.row.V.Denot) = λ s. s.seen.token.log in
     let firsts = all_of_parts (λ p. p.seat) (λ s. IsPrefix first (seen s)) c.pair.new.posts.items c.args.seats.now.items c.pair.ensures.seats begun in
     let both = zip_given (λ p. IsPrefix first (seen p.seat)) (λ p q. AnsweredAt Rule (view p.door) (view q.door) (seen p.seat) (seen q.seat) q.connections) c.pair.new.posts.items c.serve_posts-told.new.posts.items firsts c.serve_posts-told.ensures.posts in
-    zip_of_parts (λ p. p.door) (λ p q. IsPrefix first (seen p.seat) × AnsweredAt Rule (view p.door) (view q.door) (seen p.seat) (seen q.seat) q.connections) (λ d e. AnsweredUnder first (view d) (view e) Rule) (answered_under Rule (g.met.Q.Querying.longer c.args.queries.now) view seen first) c.pair.new.posts.items c.serve_posts-told.new.posts.items c.args.opened.queries.items c.part.new.doors.items c.pair.ensures.doors c.part.ensures.doors both
+    zip_of_parts (λ p. p.door) (λ p q. IsPrefix first (seen p.seat) × AnsweredAt Rule (view p.door) (view q.door) (seen p.seat) (seen q.seat) q.connections) (λ d e. AnsweredUnder first (view d) (view e) Rule) (answered_under Rule (g.Q.Querying.longer c.args.queries.now) view seen first) c.pair.new.posts.items c.serve_posts-told.new.posts.items c.args.opened.queries.items c.part.new.doors.items c.pair.ensures.doors c.part.ensures.doors both
 
 pub returns-clause-learned : goal.returns-clause-learned
 returns-clause-learned g c =
@@ -54,7 +54,8 @@ returns-clause-learned g c =
 pub returns-clause-read : goal.returns-clause-read
 returns-clause-read g c = λ whole.
     let list = c.serve_posts-told.new.desk.writer.desk.shown.value.front.token.log in
-    all_to_parts (λ p. p.seat) (λ s. HasReadAll list s.seen.token.log (reads_of s.reader.place).reads) c.serve_posts-told.new.posts.items c.part.new.seats.items c.part.ensures.seats (c.serve_posts-told.ensures.read whole)
+    let Read : Seat g.row.V.Denot g.row.J.Denot g.J.Naming → Type 0 = λ s. HasReadAll list s.seen.token.log (reads_of s.reader.place).reads in
+    all_to_parts (λ p. p.seat) Read c.serve_posts-told.new.posts.items c.part.new.seats.items c.part.ensures.seats (c.serve_posts-told.ensures.read whole)
 
 pub returns-clause-connections : goal.returns-clause-connections
 returns-clause-connections g c =

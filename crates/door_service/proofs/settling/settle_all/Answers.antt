@@ -38,3 +38,6 @@ loop-i-preserved g c =
         | else-all w ↦ λ yes. absurd (false≢true (sym w.if-all.false ∙ (sym w.all-is ∙ yes)))
       ];
     }
+
+pub returns-clause-all : goal.returns-clause-all
+returns-clause-all g c = λ yes k d below. c.loop-i.invariant.all yes k d (search rules) (search rules)
