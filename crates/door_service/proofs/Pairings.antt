@@ -25,7 +25,8 @@ pub all_turned : {X : Type 0} (P : X → Type 0) (xs : List X) → All P xs → 
 all_turned P [] all = All-nil P
 all_turned P (x ∷ xs) all = All-same P (reverse (x ∷ xs)) (reverse xs ++ x ∷ []) (turned x xs) (All-push P (reverse xs) x (all_turned P xs (All-tail P x xs all)) (All-head P x xs all))
 
-all_mapped : {X Y : Type 0} (f : X → Y) (P : Y → Type 0) (ps : List X) → All P (map f ps) → All (λ p. P (f p)) ps
+-- what holds of each image holds of each
+pub all_mapped : {X Y : Type 0} (f : X → Y) (P : Y → Type 0) (ps : List X) → All P (map f ps) → All (λ p. P (f p)) ps
 all_mapped f P [] all = All-nil (λ p. P (f p))
 all_mapped f P (p ∷ ps) all = All-cons (λ p. P (f p)) p ps (All-head P (f p) (map f ps) all) (all_mapped f P ps (All-tail P (f p) (map f ps) all))
 
@@ -44,7 +45,8 @@ zip_turned R (x ∷ xs) [] zip = absurd zip
 zip_turned R (x ∷ xs) (y ∷ ys) zip =
     subst (λ l. AllZip R l (reverse (y ∷ ys))) (sym (turned x xs)) (subst (λ l. AllZip R (reverse xs ++ x ∷ []) l) (sym (turned y ys)) (AllZip-push R (reverse xs) (reverse ys) x y (zip_turned R xs ys zip.1) zip.0))
 
-zip_mapped : {X Y : Type 0} (f : X → Y) (R : X → X → Type 0) (T : Y → Y → Type 0) → ((p q : X) → R p q → T (f p) (f q)) → (ps qs : List X) → AllZip R ps qs → AllZip T (map f ps) (map f qs)
+-- a relation of each two, as one of their images
+pub zip_mapped : {X Y : Type 0} (f : X → Y) (R : X → X → Type 0) (T : Y → Y → Type 0) → ((p q : X) → R p q → T (f p) (f q)) → (ps qs : List X) → AllZip R ps qs → AllZip T (map f ps) (map f qs)
 zip_mapped f R T gives [] [] zip = tt
 zip_mapped f R T gives [] (q ∷ qs) zip = absurd zip
 zip_mapped f R T gives (p ∷ ps) [] zip = absurd zip
@@ -60,7 +62,8 @@ sum_turned h [] = refl
 sum_turned h (y ∷ ys) =
     ap (sum_by h) (turned y ys) ∙ omega (arith, sum_by_push h (reverse ys) y, sum_turned h ys, sum_by-cons h y ys)
 
-sum_mapped : {X Y : Type 0} (f : X → Y) (h : Y → ℕ) (ps : List X) → sum_by h (map f ps) ≡ sum_by (λ p. h (f p)) ps
+-- a sum over images
+pub sum_mapped : {X Y : Type 0} (f : X → Y) (h : Y → ℕ) (ps : List X) → sum_by h (map f ps) ≡ sum_by (λ p. h (f p)) ps
 sum_mapped f h [] = refl
 sum_mapped f h (p ∷ ps) = omega (arith, sum_by-cons h (f p) (map f ps), sum_mapped f h ps, sum_by-cons (λ q. h (f q)) p ps)
 

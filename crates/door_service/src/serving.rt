@@ -1,6 +1,6 @@
 //! `serve` as its caller sees it: opened doors and seats in, doors with what they tell out.
 
-ghost use Rattle.std.specs.Prelude.{◌≡◌, ◌<◌, ◌≤◌, ◌^◌, ◌+◌, ◌-◌, min, sum_by, [], All, List, Some, false};
+ghost use Rattle.std.specs.Prelude.{◌≡◌, ◌<◌, ◌≤◌, ◌^◌, ◌+◌, ◌-◌, min, map, sum_by, [], All, List, Some, false};
 ghost use Rattle.std.specs.List.{AllZip};
 ghost use Rattle.std.specs.Vec.{vec_len, vec_capacity};
 ghost use Rattle.left_right.specs.Sides.{view};
@@ -75,19 +75,19 @@ where
     requires few { vec_len opened.queries < 2 ^ 32 }
     requires empty { room.items ≡ [] }
     requires room { vec_len opened.queries ≤ vec_capacity room }
-    requires new { All (λ d. IsNewDoor (D.view d)) opened.queries.items }
+    requires new { All IsNewDoor (map D.view opened.queries.items) }
     requires control_new { IsNewDoor (D.view opened.control) }
     requires fits { All (λ s. (x : V) → IsKin V.akin s.seen.token.log x → Q.fits queries.now x) seats.old.items }
     requires makes { (x : V) → C.makes controls.now x → IsKin V.akin desk.old.writer.desk.shown.value.front.token.log x }
     ensures control { Tended (C.rule controls.now) desk.old.writer.desk.shown.value.front.token.log desk.new.writer.desk.shown.value.front.token.log (D.view opened.control) (D.view result.doors.control) (Some opened.closer) result.closer }
-    ensures all { result.short ≡ false → AllZip (λ d e. Answered (D.view d) (D.view e) (Q.rule queries.now desk.new.writer.desk.shown.value.front.token.log)) opened.queries.items result.doors.queries.items }
-    ensures each { (first : List (Entry V)) → All (λ s. IsPrefix first s.seen.token.log) seats.old.items → AllZip (λ d e. AnsweredUnder first (D.view d) (D.view e) (Q.rule queries.now)) opened.queries.items result.doors.queries.items }
+    ensures all { result.short ≡ false → AllZip (λ d e. Answered d e (Q.rule queries.now desk.new.writer.desk.shown.value.front.token.log)) (map D.view opened.queries.items) (map D.view result.doors.queries.items) }
+    ensures each { (first : List (Entry V)) → All (λ s. IsPrefix first s.seen.token.log) seats.old.items → AllZip (λ d e. AnsweredUnder first d e (Q.rule queries.now)) (map D.view opened.queries.items) (map D.view result.doors.queries.items) }
     ensures seats { vec_len seats.new ≡ vec_len seats.old }
     ensures learned { All (λ s. IsPrefix desk.new.writer.desk.shown.value.front.token.log s.learned.token.log) seats.new.items }
     ensures read { result.short ≡ false → Each seats.new.items (λ s. HasReadAll desk.new.writer.desk.shown.value.front.token.log s.seen.token.log (view s.reader.place).reads) }
     ensures metric { result.metric ≡ last_number desk.new.writer.desk.shown.value.front.token.log }
     ensures runs { IsRun desk.new.writer.desk.shown.value.front.token.log }
-    ensures connections { result.connections ≡ min (sum_by (λ d. (D.view d).finished) result.doors.queries.items + (D.view result.doors.control).finished) (2 ^ 64 - 1) }
+    ensures connections { result.connections ≡ min (sum_by (λ d. d.finished) (map D.view result.doors.queries.items) + (D.view result.doors.control).finished) (2 ^ 64 - 1) }
 {
     let Opened {
         queries: query_doors,
