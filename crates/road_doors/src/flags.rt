@@ -41,23 +41,25 @@ impl Flag {
     }
 }
 
-/// A gate that holds the answers of one seat under one number until a flag is set, so many yielding turns at
-/// most, and lets all others go on.
+/// A gate that holds the answers of one seat under one number: it tells by a flag that one has come, and lets
+/// it go on once another flag is set, after so many yielding turns at most. It lets all others go on.
 #[derive(Drop)]
 pub struct FlagGate {
     seat: u32,
     number: u32,
+    arrived: Arc<Flag>,
     wait: Arc<Flag>,
     turns: u64,
     late: Flag,
 }
 
 impl FlagGate {
-    /// A gate for this seat under this number.
-    pub fn of(seat: u32, number: u32, wait: Arc<Flag>, turns: u64) -> FlagGate {
+    /// A gate for this seat under this number, which sets `arrived` and waits for `wait`.
+    pub fn of(seat: u32, number: u32, arrived: Arc<Flag>, wait: Arc<Flag>, turns: u64) -> FlagGate {
         FlagGate {
             seat,
             number,
+            arrived,
             wait,
             turns,
             late: Flag::new(),
@@ -72,7 +74,11 @@ impl FlagGate {
 
 impl Gate for FlagGate {
     fn pass(&self, seat: u32, number: u32) {
-        if seat == self.seat && number == self.number && !self.wait.wait(self.turns) {
+        if seat != self.seat || number != self.number {
+            return;
+        }
+        self.arrived.set();
+        if !self.wait.wait(self.turns) {
             self.late.set();
         }
     }

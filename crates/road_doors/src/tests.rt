@@ -104,14 +104,21 @@ fn a_put_sets_one_flag_and_a_take_waits_for_another(rt: HostRuntime) -> Result<(
 #[test]
 fn a_gate_holds_one_seat_under_one_number(rt: HostRuntime) -> Result<(), AllocError> {
     let alloc = rt.alloc();
+    let arrived = flag(alloc)?;
     let open = flag(alloc)?;
-    let gate = FlagGate::of(1, 2, Arc::try_clone(&open)?, TURNS);
+    let gate = FlagGate::of(
+        1,
+        2,
+        Arc::try_clone(&arrived)?,
+        Arc::try_clone(&open)?,
+        TURNS,
+    );
     gate.pass(0, 2);
     gate.pass(1, 1);
-    assert!(rt; !gate.is_late());
+    assert!(rt; !gate.is_late() && !arrived.is_set());
     gate.pass(1, 2);
-    assert!(rt; gate.is_late());
-    let gate = FlagGate::of(1, 2, Arc::try_clone(&open)?, TURNS);
+    assert!(rt; gate.is_late() && arrived.is_set());
+    let gate = FlagGate::of(1, 2, arrived, Arc::try_clone(&open)?, TURNS);
     open.set();
     gate.pass(1, 2);
     assert!(rt; !gate.is_late());
