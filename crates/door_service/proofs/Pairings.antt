@@ -1,6 +1,6 @@
 -- What is moved from the end of one list to the end of another.
-use Rattle.std.proofs.Common.{◌≡◌, List, [], ◌∷◌, ◌++◌, map, reverse, ◌+◌, ℕ, refl, sym, ap, subst, ◌∙◌, append_assoc, arith}
-use Rattle.std.proofs.lemmas.List.{map-append, reverse-append, reverse-reverse}
+use Rattle.std.proofs.Common.{◌≡◌, List, [], ◌∷◌, ◌++◌, length, map, reverse, ◌+◌, ℕ, refl, sym, ap, subst, ◌∙◌, append_assoc, arith}
+use Rattle.std.proofs.lemmas.List.{length-map, length-reverse, map-append, reverse-append, reverse-reverse}
 use Rattle.std.proofs.lemmas.List.Elements.{All-nil, All-cons, All-head, All-tail, All-same, All-map, All-push, AllZip-push}
 use Rattle.std.specs.List.{All, AllZip, sum_by}
 use Rattle.std.proofs.lemmas.List.Sums.{sum_by-cons, sum_by_push}
@@ -70,3 +70,8 @@ sum_mapped f h (p ∷ ps) = omega (arith, sum_by-cons h (f p) (map f ps), sum_ma
 -- a sum over the parts, moved back
 pub sum_of_parts : {X Y : Type 0} (f : X → Y) (h : Y → ℕ) (ps : List X) (ys : List Y) → ys ≡ reverse (map f ps) → sum_by (λ p. h (f p)) ps ≡ sum_by h ys
 sum_of_parts f h ps ys is = sym (ap (sum_by h) is ∙ (sum_turned h (map f ps) ∙ sum_mapped f h ps))
+
+-- as many parts come back as went
+pub length_of_parts : {X Y : Type 0} (f : X → Y) (ps qs : List X) (ds es : List Y) → map f ps ≡ reverse ds → es ≡ reverse (map f qs) → length ps ≡ length qs → length es ≡ length ds
+length_of_parts f ps qs ds es one two same =
+    ap length two ∙ (length-reverse (map f qs) ∙ (length-map qs f ∙ (sym same ∙ (sym (length-map ps f) ∙ (ap length one ∙ length-reverse ds)))))

@@ -1,6 +1,6 @@
 //! `serve` as its caller sees it: opened doors and seats in, doors with what they tell out.
 
-ghost use Rattle.std.specs.Prelude.{◌≡◌, ◌<◌, ◌≤◌, ◌^◌, ◌+◌, ◌-◌, min, map, sum_by, [], All, List, Some, false};
+ghost use Rattle.std.specs.Prelude.{◌≡◌, ◌<◌, ◌≤◌, ◌^◌, ◌+◌, ◌-◌, min, length, map, sum_by, [], All, List, Some, false};
 ghost use Rattle.std.specs.List.{AllZip};
 ghost use Rattle.std.specs.Vec.{vec_len, vec_capacity};
 ghost use Rattle.left_right.specs.Sides.{view};
@@ -82,6 +82,7 @@ where
     ensures control { Tended (C.rule controls.now) desk.old.writer.desk.shown.value.front.token.log desk.new.writer.desk.shown.value.front.token.log (D.view opened.control) (D.view result.doors.control) (Some opened.closer) result.closer }
     ensures all { result.short ≡ false → AllZip (λ d e. Answered d e (Q.rule queries.now desk.new.writer.desk.shown.value.front.token.log)) (map D.view opened.queries.items) (map D.view result.doors.queries.items) }
     ensures each { (first : List (Entry V)) → All (λ s. IsPrefix first s.seen.token.log) seats.old.items → AllZip (λ d e. AnsweredUnder first d e (Q.rule queries.now)) (map D.view opened.queries.items) (map D.view result.doors.queries.items) }
+    ensures doors { length result.doors.queries.items ≡ length opened.queries.items }
     ensures seats { vec_len seats.new ≡ vec_len seats.old }
     ensures learned { All (λ s. IsPrefix desk.new.writer.desk.shown.value.front.token.log s.learned.token.log) seats.new.items }
     ensures read { result.short ≡ false → Each seats.new.items (λ s. HasReadAll desk.new.writer.desk.shown.value.front.token.log s.seen.token.log (view s.reader.place).reads) }

@@ -2,7 +2,7 @@
 //! A query byte is answered by the number that was entered; a control byte is published and answered by its
 //! number, and 0 asks to stop.
 
-ghost use Rattle.std.specs.Prelude.{◌≡◌, All, IfOk};
+ghost use Rattle.std.specs.Prelude.{◌≡◌, ◌<◌, All, IfOk, OnOk};
 ghost use Rattle.road_io.specs.DoorOpening.{IsNewDoor};
 ghost use Rattle.road_io.specs.MemoryStates.{conn_state};
 ghost use Rattle.road_io.specs.Views.{IsFreshConn};
@@ -115,13 +115,73 @@ fn one_byte(
     Ok(FlagConn::of(conn, Arc::try_clone(wait)?, TURNS, Arc::try_clone(set)?, 1))
 }
 
-fn door(alloc: Global, conn: FlagConn<MemConn>) -> Result<QueueDoor<FlagConn<MemConn>>, AllocError>
-    requires { IsFreshConn (conn_state conn.conn) }
-    ensures { IfOk result IsNewDoor }
+// Puts such a connection behind these.
+fn push_byte(
+    alloc: Global,
+    connections: &mut Vec<FlagConn<MemConn>>,
+    byte: u8,
+    wait: &Arc<Flag>,
+    set: &Arc<Flag>,
+) -> Result<(), AllocError>
+    requires { All (λ c. IsFreshConn (conn_state c.conn)) connections.old.items }
+    ensures { OnOk result (All (λ c. IsFreshConn (conn_state c.conn)) connections.new.items) }
+{
+    connections.push(one_byte(alloc, byte, wait, set)?)?;
+    Ok(())
+}
+
+// Puts a door that such a connection comes through behind these.
+fn push_door(
+    alloc: Global,
+    doors: &mut Vec<QueueDoor<FlagConn<MemConn>>>,
+    byte: u8,
+    wait: &Arc<Flag>,
+    set: &Arc<Flag>,
+) -> Result<(), AllocError>
+    requires { All IsNewDoor doors.old.items }
+    ensures { OnOk result (All IsNewDoor doors.new.items) }
 {
     let mut connections = Vec::new(alloc);
-    connections.push(conn)?;
-    QueueDoor::of(alloc, connections, Vec::new(alloc))
+    push_byte(alloc, &mut connections, byte, wait, set)?;
+    doors.push(QueueDoor::of(alloc, connections, Vec::new(alloc))?)?;
+    Ok(())
+}
+
+// The flags by which the connections wait for each other.
+#[derive(Drop)]
+struct Flags {
+    begun: Arc<Flag>,
+    arrived: Arc<Flag>,
+    published: Arc<Flag>,
+    answered: Arc<Flag>,
+    other: Arc<Flag>,
+}
+
+fn new_flags(alloc: Global) -> Result<Flags, AllocError> {
+    let begun = flag(alloc)?;
+    begun.set();
+    Ok(Flags {
+        begun,
+        arrived: flag(alloc)?,
+        published: flag(alloc)?,
+        answered: flag(alloc)?,
+        other: flag(alloc)?,
+    })
+}
+
+// Two query doors, and a control door that two figures and a stop come through once the first query has
+// arrived at its gate. The second query comes once both are published.
+fn doors_of(alloc: Global, flags: &Flags) -> Result<MemDoors<FlagConn<MemConn>>, AllocError> {
+    let mut queries = Vec::new(alloc);
+    push_door(alloc, &mut queries, b'a', &flags.begun, &flags.other)?;
+    push_door(alloc, &mut queries, b'b', &flags.published, &flags.answered)?;
+    let mut control = Vec::new(alloc);
+    push_byte(alloc, &mut control, 7, &flags.arrived, &flags.other)?;
+    push_byte(alloc, &mut control, 8, &flags.begun, &flags.published)?;
+    push_byte(alloc, &mut control, 0, &flags.begun, &flags.other)?;
+    push_byte(alloc, &mut control, 9, &flags.begun, &flags.other)?;
+    let control = QueueDoor::of(alloc, control, Vec::new(alloc))?;
+    Ok(MemDoors::of(alloc, queries, control, Vec::new(alloc)))
 }
 
 #[derive(Clone, Copy, Debug, PartialEq, Eq)]
@@ -208,20 +268,15 @@ fn replies(
 #[test]
 fn workers_run_beside_each_other_and_beside_the_desk(rt: HostRuntime) -> Result<(), Fail> {
     let alloc = rt.alloc();
-    let (begun, arrived) = (flag(alloc)?, flag(alloc)?);
-    let (published, answered) = (flag(alloc)?, flag(alloc)?);
-    let other = flag(alloc)?;
-    begun.set();
-    let mut query_doors = Vec::new(alloc);
-    query_doors.push(door(alloc, one_byte(alloc, b'a', &begun, &other)?)?)?;
-    query_doors.push(door(alloc, one_byte(alloc, b'b', &published, &answered)?)?)?;
-    let mut control = Vec::new(alloc);
-    control.push(one_byte(alloc, 7, &arrived, &other)?)?;
-    control.push(one_byte(alloc, 8, &begun, &published)?)?;
-    control.push(one_byte(alloc, 0, &begun, &other)?)?;
-    control.push(one_byte(alloc, 9, &begun, &other)?)?;
-    let control = QueueDoor::of(alloc, control, Vec::new(alloc))?;
-    let mut doors = MemDoors::of(alloc, query_doors, control, Vec::new(alloc));
+    let flags = new_flags(alloc)?;
+    let mut doors = doors_of(alloc, &flags)?;
+    let Flags {
+        begun: _,
+        arrived,
+        published: _,
+        answered,
+        other: _,
+    } = flags;
     let gate = FlagGate::of(0, 0, arrived, answered, TURNS);
     let numbers = Numbers { gate };
     let told = serve_once::<_, Brand, _>(&rt, alloc, &numbers, &mut doors, 2, History::new())?;

@@ -34,7 +34,9 @@ returns-clause-connections g c =
     let seen : Seat g.row.V.Denot g.row.J.Denot g.J.Naming → List (Entry g.row.V.Denot) = λ s. s.seen.token.log in
     let posts = all_settled Rule longer view seen c.args.posts.now.items c.serve_doors.new.posts.items c.settle_all-settled.new.posts.items c.serve_doors.ensures.posts c.settle_all-settled.ensures.settled in
     let counts = finished_counts Rule longer view seen c.args.posts.now.items c.settle_all-settled.new.posts.items c.requires.new posts in
-    let control = tend_count (g.C.Controlling.rule c.args.controls.now) _ _ _ _ _ _ c.serve_doors.new.control.connections c.serve_doors.new.control.end c.requires.control_new c.serve_doors.ensures.control in
+    let start = c.args.control.now in
+    let end = c.serve_doors.new.control in
+    let control = tend_count (g.C.Controlling.rule c.args.controls.now) c.args.desk.now.writer.desk.shown.value.front.token.log c.serve_doors.new.desk.writer.desk.shown.value.front.token.log (view start.door) (view end.door) start.closer end.closer end.connections end.end c.requires.control_new c.serve_doors.ensures.control in
     let same : c.deref.result.now ≡ c.settle_all-settled.new.posts.items = search rules in
     c.connections.ensures ∙ (ap (λ (l : List (Post g.row.D.Denot (Seat g.row.V.Denot g.row.J.Denot g.J.Naming))). min (sum_by (λ p. p.connections) l + c.serve_doors.new.control.connections) (2 ^ 64 - 1)) same ∙ sum_counts (λ p. p.connections) (λ p. (view p.door).finished) c.settle_all-settled.new.posts.items c.serve_doors.new.control.connections (view c.serve_doors.new.control.door).finished counts control)
 

@@ -11,7 +11,7 @@ use Rattle.door_service.specs.declared.posts.Post.{Post}
 use Rattle.door_service.specs.Passing.{GoneToEnd}
 use Rattle.door_service.specs.Serving.{Answered, AnsweredAt, AnsweredUnder}
 use Rattle.door_service.specs.Settling.{HasReadAll}
-use Rattle.door_service.proofs.Pairings.{all_mapped, all_of_parts, all_to_parts, zip_mapped, zip_of_parts, sum_mapped, sum_of_parts}
+use Rattle.door_service.proofs.Pairings.{all_mapped, all_of_parts, all_to_parts, length_of_parts, zip_mapped, zip_of_parts, sum_mapped, sum_of_parts}
 use Rattle.door_service.proofs.Servings.{answered_of, answered_under}
 use Rattle.door_service.proofs.Zips.{zip_given}
 use Rattle.door_service.proofs.serving.serve.Goals as goal
@@ -47,6 +47,10 @@ returns-clause-each g c = λ first begun.
     let both = zip_given (λ p. IsPrefix first (seen p.seat)) (λ p q. AnsweredAt Rule (view p.door) (view q.door) (seen p.seat) (seen q.seat) q.connections) c.pair.new.posts.items c.serve_posts-told.new.posts.items firsts c.serve_posts-told.ensures.posts in
     zip_mapped view (λ d e. AnsweredUnder first (view d) (view e) Rule) (λ d e. AnsweredUnder first d e Rule) (λ d e one. one) c.args.opened.queries.items c.part.new.doors.items
     (zip_of_parts (λ p. p.door) (λ p q. IsPrefix first (seen p.seat) × AnsweredAt Rule (view p.door) (view q.door) (seen p.seat) (seen q.seat) q.connections) (λ d e. AnsweredUnder first (view d) (view e) Rule) (answered_under Rule (g.Q.Querying.longer c.args.queries.now) view seen first) c.pair.new.posts.items c.serve_posts-told.new.posts.items c.args.opened.queries.items c.part.new.doors.items c.pair.ensures.doors c.part.ensures.doors both)
+
+pub returns-clause-doors : goal.returns-clause-doors
+returns-clause-doors g c =
+    length_of_parts (λ p. p.door) c.pair.new.posts.items c.serve_posts-told.new.posts.items c.args.opened.queries.items c.part.new.doors.items c.pair.ensures.doors c.part.ensures.doors (length_all_zip _ _ _ c.serve_posts-told.ensures.posts)
 
 pub returns-clause-learned : goal.returns-clause-learned
 returns-clause-learned g c =
