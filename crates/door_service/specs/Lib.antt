@@ -1,0 +1,4 @@
+pub mod Leading
+pub mod Passing
+pub mod Serving
+pub mod Settling

@@ -1,0 +1,184 @@
+//! What no clause says: that the calls succeed with ample memory, in which order connections and doors come, and
+//! what the flags hold and set.
+
+ghost use Rattle.std.specs.Prelude.{◌≡◌, ◌≤◌, All, IfOk};
+ghost use Rattle.road_io.specs.DoorOpening.{IsNewDoor};
+ghost use Rattle.road_io.specs.MemoryStates.{conn_state};
+ghost use Rattle.road_io.specs.Views.{IsFreshConn};
+
+use crate::{Flag, FlagConn, FlagGate, MemDoors, QueueDoor, SteadyConn};
+use road_io::{
+    Closer, Door, Doors, DoorsFault, Gate, MemConn, MemSink, MemSource, Opened, Sink, Source,
+};
+use std::alloc::{AllocError, Global};
+use std::net::{Net, TcpListener, TcpStream};
+use std::sync::Arc;
+
+const TURNS: u64 = 1000;
+
+fn connection(alloc: Global, input: &[u8]) -> Result<MemConn, AllocError>
+    ensures { IfOk result (λ c. IsFreshConn (conn_state c)) }
+{
+    let source = MemSource::of(
+        Vec::from_slice(alloc, input)?,
+        Vec::new(alloc),
+        Vec::new(alloc),
+    );
+    Ok(MemConn::of(source, MemSink::of(alloc, 8, Vec::new(alloc))?))
+}
+
+fn flag(alloc: Global) -> Result<Arc<Flag>, AllocError> {
+    Ok(Arc::new(alloc, Flag::new())?)
+}
+
+// Takes one byte of the next connection, puts it, and finishes the connection.
+fn echo_one<D: Door>(door: &mut D) -> Option<u8>
+    requires { (D.view door.old).finished ≤ (D.view door.old).given }
+    ensures { (D.view door.new).finished ≤ (D.view door.new).given }
+{
+    match door.next() {
+        Ok(Some(mut conn)) => {
+            let mut byte = [0_u8; 1];
+            let taken = conn.take(&mut byte);
+            let put = conn.put(&byte);
+            door.finish(conn);
+            if taken == Ok(1) && put == Ok(1) {
+                Some(byte[0])
+            } else {
+                None
+            }
+        }
+        _ => None,
+    }
+}
+
+#[test]
+fn connections_come_in_order_until_the_door_ends(rt: HostRuntime) -> Result<(), AllocError> {
+    let alloc = rt.alloc();
+    let mut connections = Vec::new(alloc);
+    connections.push(connection(alloc, b"a")?)?;
+    connections.push(connection(alloc, b"b")?)?;
+    let mut door = QueueDoor::of(alloc, connections, vec![in alloc; 3_u64]?)?;
+    assert_eq!(rt; echo_one(&mut door), Some(b'a'));
+    assert_eq!(rt; echo_one(&mut door), Some(b'b'));
+    assert!(rt; !door.has_fault());
+    assert_eq!(rt; echo_one(&mut door), None);
+    assert!(rt; door.has_fault());
+    assert_eq!(rt; echo_one(&mut door), None);
+    assert!(rt;
+        matches!(door.finished(), [first, second] if first.output() == b"a".as_slice() && second.output() == b"b".as_slice())
+    );
+    Ok(())
+}
+
+#[test]
+fn a_put_sets_one_flag_and_a_take_waits_for_another(rt: HostRuntime) -> Result<(), AllocError> {
+    let alloc = rt.alloc();
+    let wait = flag(alloc)?;
+    let set = flag(alloc)?;
+    let mut conn = FlagConn::of(
+        connection(alloc, b"abc")?,
+        Arc::try_clone(&wait)?,
+        TURNS,
+        Arc::try_clone(&set)?,
+        2,
+    );
+    assert_eq!(rt; conn.put(b"x"), Ok(1));
+    assert!(rt; !set.is_set());
+    assert_eq!(rt; conn.put(b"y"), Ok(1));
+    assert!(rt; set.is_set());
+    wait.set();
+    let mut piece = [0_u8; 4];
+    assert_eq!(rt; conn.take(&mut piece), Ok(3));
+    assert!(rt; !conn.is_late());
+    let never = flag(alloc)?;
+    let late = FlagConn::of(connection(alloc, b"abc")?, never, TURNS, set, 9);
+    let mut waiting = Vec::new(alloc);
+    waiting.push(late)?;
+    let mut door = QueueDoor::of(alloc, waiting, Vec::new(alloc))?;
+    assert_eq!(rt; echo_one(&mut door), Some(b'a'));
+    assert!(rt; matches!(door.finished(), [late] if late.is_late()));
+    Ok(())
+}
+
+#[test]
+fn a_gate_holds_one_seat_under_one_number(rt: HostRuntime) -> Result<(), AllocError> {
+    let alloc = rt.alloc();
+    let arrived = flag(alloc)?;
+    let open = flag(alloc)?;
+    let gate = FlagGate::of(
+        1,
+        2,
+        Arc::try_clone(&arrived)?,
+        Arc::try_clone(&open)?,
+        TURNS,
+    );
+    gate.pass(0, 2);
+    gate.pass(1, 1);
+    assert!(rt; !gate.is_late() && !arrived.is_set());
+    gate.pass(1, 2);
+    assert!(rt; gate.is_late() && arrived.is_set());
+    let gate = FlagGate::of(1, 2, arrived, Arc::try_clone(&open)?, TURNS);
+    open.set();
+    gate.pass(1, 2);
+    assert!(rt; !gate.is_late());
+    Ok(())
+}
+
+#[test]
+fn a_steady_connection_goes_on(rt: HostRuntime) -> Result<(), AllocError> {
+    let alloc = rt.alloc();
+    let input = Vec::from_slice(alloc, b"ab")?;
+    let mut waiting = Vec::new(alloc);
+    waiting.push(SteadyConn::of(input, Vec::new(alloc)))?;
+    let mut door = QueueDoor::of(alloc, waiting, Vec::new(alloc))?;
+    assert_eq!(rt; echo_one(&mut door), Some(b'a'));
+    assert!(rt; matches!(door.finished(), [conn] if conn.count() == 1));
+    Ok(())
+}
+
+fn door(alloc: Global, input: &[u8]) -> Result<QueueDoor<MemConn>, AllocError>
+    ensures { IfOk result IsNewDoor }
+{
+    let mut connections = Vec::new(alloc);
+    connections.push(connection(alloc, input)?)?;
+    QueueDoor::of(alloc, connections, Vec::new(alloc))
+}
+
+// Opens doors, serves one connection of the control door, and puts the doors back.
+fn open_once<N: Doors, R: Net<Listener = TcpListener, Stream = TcpStream>>(
+    rt: &R,
+    alloc: Global,
+    doors: &mut N,
+    workers: u32,
+) -> Result<(usize, Option<u8>), DoorsFault> {
+    let Opened {
+        queries,
+        control,
+        closer,
+    } = doors.open(rt, alloc, "a:1", "a:2", workers)?;
+    closer.close();
+    let mut control = control;
+    let byte = echo_one(&mut control);
+    let count = queries.len();
+    doors.back(queries, control);
+    Ok((count, byte))
+}
+
+#[test]
+fn doors_are_opened_and_come_back(rt: HostRuntime) -> Result<(), AllocError> {
+    let alloc = rt.alloc();
+    let mut queries = Vec::new(alloc);
+    queries.push(door(alloc, b"a")?)?;
+    let mut doors = MemDoors::of(alloc, queries, door(alloc, b"c")?, vec![in alloc; 1_u64]?);
+    assert_eq!(rt;
+        open_once(&rt, alloc, &mut doors, 2),
+        Err(DoorsFault::Failed)
+    );
+    assert_eq!(rt; open_once(&rt, alloc, &mut doors, 2), Ok((2, Some(b'c'))));
+    assert_eq!(rt; open_once(&rt, alloc, &mut doors, 1), Ok((1, None)));
+    assert!(rt;
+        matches!(doors.returned(), [set, again] if set.control().finished().len() == 1 && again.queries().len() == 1)
+    );
+    Ok(())
+}
