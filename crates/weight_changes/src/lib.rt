@@ -4,6 +4,8 @@
 
 mod changes;
 mod places;
+#[cfg(test)]
+mod tests;
 
 pub use changes::changed;
 pub use places::Changed;
