@@ -4,8 +4,6 @@
 
 mod changes;
 mod places;
-#[cfg(test)]
-mod tests;
 
 pub use changes::changed;
 pub use places::Changed;
