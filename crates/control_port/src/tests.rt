@@ -192,86 +192,70 @@ fn refused(file: TrafficFile, row: u64, kind: RowKind) -> Controlled {
     Controlled::Refused(RowFault { file, row, kind })
 }
 
-// Requests one behind the other: the sizes of their speeds files, their bodies, what comes of each, and the number of
-// the last publication then.
+// What comes of a body, of which the first bytes are the speeds file, on a board opened under number 7, and the number
+// of the last publication then.
+fn controlled(
+    rt: &(impl Threads + Sync),
+    alloc: Global,
+    speeds: usize,
+    body: &[u8],
+) -> Result<(Controlled, u32), AllocError>
+    requires { speeds ≤ length body.now }
+{
+    let roads = town(alloc)?;
+    let mut desk = board(rt, alloc, &roads, 7)?;
+    let request = ControlHead::Metric {
+        speeds,
+        length: body.len(),
+    };
+    let answer = control(rt, alloc, &mut desk, &roads, request, body)?;
+    Ok((answer, desk.enter()?.number()))
+}
+
+fn published(unmatched: u64) -> Controlled {
+    Controlled::Published {
+        number: 8,
+        unmatched,
+    }
+}
+
 #[test]
 fn files_are_published_or_change_nothing(rt: HostRuntime) -> Result<(), AllocError> {
-    let alloc = rt.alloc();
-    let roads = town(alloc)?;
-    let mut desk = board(&rt, alloc, &roads, 0)?;
     let cases: [(usize, &[u8], Controlled, u32); 8] = [
-        (
-            0,
-            b"",
-            Controlled::Published {
-                number: 1,
-                unmatched: 0,
-            },
-            1,
-        ),
+        (0, b"", published(0), 8),
         (
             22,
             b"1,2,20\n2,3,30\n3,2,abc\n",
             refused(TrafficFile::Speeds, 3, RowKind::BadNumber),
-            1,
+            7,
         ),
-        (
-            6,
-            b"1,2,20",
-            Controlled::Published {
-                number: 2,
-                unmatched: 0,
-            },
-            2,
-        ),
-        (
-            6,
-            b"1,9,20",
-            Controlled::Published {
-                number: 3,
-                unmatched: 1,
-            },
-            3,
-        ),
+        (6, b"1,2,20", published(0), 8),
+        (6, b"1,9,20", published(1), 8),
         (
             12,
             b"1,2,1000.001",
             refused(TrafficFile::Speeds, 1, RowKind::OutOfRange),
-            3,
+            7,
         ),
         (
             7,
             b"1,2,20\n1,2,3,4\n1,2",
             refused(TrafficFile::Turns, 2, RowKind::BadCount),
-            3,
+            7,
         ),
         (
             3,
             b"1,2,20\n",
             refused(TrafficFile::Speeds, 1, RowKind::BadCount),
-            3,
+            7,
         ),
-        (
-            0,
-            b"1,2,3,10\n3,2,9,10",
-            Controlled::Published {
-                number: 4,
-                unmatched: 1,
-            },
-            4,
-        ),
+        (0, b"1,2,3,10\n3,2,9,10", published(1), 8),
     ];
     for (speeds, body, want, number) in cases {
-        let request = ControlHead::Metric {
-            speeds,
-            length: body.len(),
-        };
         assert!(rt; speeds <= body.len());
-        assert_eq!(rt;
-            control(&rt, alloc, &mut desk, &roads, request, body)?,
-            want
-        );
-        assert_eq!(rt; desk.enter()?.number(), number);
+        let (answer, last) = controlled(&rt, rt.alloc(), speeds, body)?;
+        assert_eq!(rt; answer, want);
+        assert_eq!(rt; last, number);
     }
     Ok(())
 }
