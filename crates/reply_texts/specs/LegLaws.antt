@@ -1,9 +1,8 @@
 -- What is told of a leg in steps is the leg.
-use Rattle.std.specs.Prelude.{◌≡◌, ℕ, ◌*◌, ◌-◌, suc, List, [], ◌∷◌, All, Option, Some, drop, length, map, refl, take}
+use Rattle.std.specs.Prelude.{◌≡◌, ℕ, ◌*◌, ◌-◌, suc, List, [], ◌∷◌, All, Some, drop, length, map, refl, take}
 use Rattle.std.specs.List.{AllZip, slice_get, zip}
 use Rattle.std.proofs.lemmas.List.Elements.{All-cons, All-head, All-map, All-nil, All-tail}
 use Rattle.road_base.specs.declared.segments.Place.{Place}
-use Rattle.search_graph.specs.declared.costs.DurLen.{DurLen}
 use Rattle.search_graph.specs.Faults.{AllInRange}
 use Rattle.edge_graph.specs.Turn.{IsSimple}
 use Rattle.road_places.specs.Paid.{total_of}

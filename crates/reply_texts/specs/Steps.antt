@@ -1,6 +1,6 @@
 -- The steps of a leg, and what a driver is told where each begins (OSRM's HTTP API, version 1; that a mode is
 -- always `driving` is this project's rule).
-use Rattle.std.specs.Prelude.{ℕ, Bool, pos, List, [], ◌∷◌, ◌++◌, codes, map, Option, Some, None, option_map, if◌then◌else◌}
+use Rattle.std.specs.Prelude.{ℕ, Bool, pos, List, [], ◌∷◌, ◌++◌, codes, map, option_map, if◌then◌else◌}
 use Rattle.road_base.specs.declared.directions.Modifier.{Modifier}
 use Rattle.road_base.specs.declared.directions.Modifier.TheVariants as bend
 use Rattle.way_profile.specs.Vehicle.{ProfileView}

@@ -1,7 +1,7 @@
 //! Least routes along the legs of a list of places.
 
 ghost use Rattle.std.specs.Prelude.{◌≡◌, ℕ, ◌+◌, ◌^◌, ◌<◌, Some, IfOk, IfErr, length};
-ghost use Rattle.std.specs.List.{AllZip, slice_get};
+ghost use Rattle.std.specs.List.{slice_get};
 ghost use Rattle.road_places.specs.Places.{IsPlaceOn};
 ghost use Rattle.road_walks.specs.Least.{most_units};
 ghost use Rattle.road_walks.specs.Legs.{AreAlong, AreLeastRoutes, AreWithinUnits, IsLegFault};

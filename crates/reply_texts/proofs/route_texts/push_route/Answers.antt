@@ -2,14 +2,12 @@ use Rattle.std.proofs.Common.{[], ◌∷◌, ◌++◌, List, ap, codes, drop, sy
 use Rattle.std.specs.Prelude.{map}
 use Rattle.std.specs.List.{zip}
 use Rattle.list_lemmas.proofs.Fronts.{all_zip-length}
-use Rattle.search_graph.specs.declared.costs.DurLen.{DurLen}
 use Rattle.json_text.specs.declared.draft.Container.TheVariants as container
 use Rattle.json_text.specs.Values.{text}
 use Rattle.json_text.specs.Drafts.{begun, ended}
 use Rattle.json_text.specs.Wholes.{array_of, optional_member, with_member, with_members}
 use Rattle.json_text.specs.WholeLaws.{object_written, with_members-append}
 use Rattle.road_places.specs.RoadMetric.{road_of}
-use Rattle.road_places.specs.declared.walks.Route.{Route}
 use Rattle.route_steps.specs.Steps.{joined}
 use Rattle.reply_texts.specs.Legs.{Leg, leg_value, route_value}
 use Rattle.reply_texts.specs.Lines.{overview_line}
