@@ -1,17 +1,17 @@
 //! The outside of the program as the system has it: files, the standard streams, and doors over TCP. Each form
-//! meets a trait of `road_io`, tells its counts, and tells nothing of what it holds.
+//! meets a trait of `road_io`: it tells its counts, and nothing of what it holds. Proved are the counts: that
+//! `Failed` comes exactly where a count of faults rose, how many bytes were taken, how many doors an opening
+//! gives, how many connections a door gave and took back, and that a door that has ended stays so.
 //!
-//! This is the trusted edge: of what follows no clause speaks, and only runs show it.
-//! - A file's bytes are those that `fs::read` gives for its name, and none is made up.
-//! - A source's bytes are those that the reader of std gives, and a sink's go to the writer of std, in order.
-//! - A door's connections are those that the listener's `accept` gives, and their bytes those of their sockets.
-//! - The doors listen at the addresses that `open` was handed, and at no other.
-//! - A door ends unasked only where an `accept` failed sixteen times in a row: it tells that it was closed only
-//!   where its closer had raised the flag that they share.
-//! - Waking: a door that waits when it is closed gets one of the connections that the closer makes, as the
-//!   system hands each connection to one `accept`.
-//! - What is proved: the counts, that `Failed` comes exactly where a count rose, how many doors an opening gives,
-//!   and that a door that ended stays so.
+//! This is the trusted edge. No clause says the following; it rests on the bodies, which are as short as can
+//! be, and on their tests:
+//! - the bytes of a file are those that `fs::read` gives for its name;
+//! - a source gives what its reader of std gives, and a sink hands what is put to its writer of std, in order;
+//! - doors listen at the addresses that `open` was handed, and at no other;
+//! - a door's connections are those that its listener's `accept` gives, and each takes and puts the bytes of
+//!   its own socket;
+//! - a door tells that it was closed only where its closer was used, and then it gives no connection more;
+//! - the closer wakes each door that waits, since the system hands each connection to one `accept`.
 #![tactic(auto)]
 
 mod accepting;

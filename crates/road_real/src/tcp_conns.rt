@@ -18,10 +18,12 @@ pub struct TcpConn {
 impl TcpConn {
     ghost use Rattle.road_real.specs.TcpStates.{conn_state};
 
-    /// The connection of this stream, of which nothing was taken and to which nothing was put.
+    /// The connection of this stream, of which nothing was taken and to which nothing was put. What is put goes
+    /// out at once, where the system grants that.
     pub fn of(stream: TcpStream) -> TcpConn
         ensures { IsFreshConn (conn_state result) }
     {
+        let _ = stream.set_nodelay(true);
         TcpConn {
             stream,
             taken: 0,

@@ -1,6 +1,6 @@
 //! A door over TCP.
 
-ghost use Rattle.std.specs.Prelude.{◌≡◌, ◌<◌, ◌↔◌, IsTrue};
+ghost use Rattle.std.specs.Prelude.{◌<◌, ◌≤◌, ◌↔◌, IsTrue};
 ghost use Rattle.road_io.specs.DoorOpening.{IsNewDoor};
 
 use crate::accepting::accept_retrying;
@@ -22,6 +22,7 @@ pub struct TcpDoor {
     closed: bool,
     ended: bool,
     faults: u64,
+    ghost counted: { finished ≤ given },
 }
 
 impl TcpDoor {
