@@ -9,9 +9,6 @@
 #[cfg(test)]
 mod edge_tests;
 mod endings;
-mod real_files;
-mod real_streams;
-mod retrying;
 mod running;
 #[cfg(test)]
 mod step_tests;
@@ -22,9 +19,8 @@ mod traffic_tests;
 mod typed_words;
 
 use endings::{Ended, run_to_end};
-use real_files::SystemFiles;
-use real_streams::{Reading, Writing};
 use road_io::{NoDoors, OpenGate};
+use road_real::{Reading, SystemFiles, Writing};
 use std::io;
 use typed_words::typed_words_of;
 

@@ -1,6 +1,6 @@
 -- A write that a signal interrupts puts nothing.
 use Rattle.std.specs.Io.KnownBytes.{Keeps}
-use Rattle.road_router.proofs.retrying.write_retrying.Given as goal
+use Rattle.road_real.proofs.retrying.write_retrying.Given as goal
 
 abbrev pub invariant-loop : goal.invariant-loop
 invariant-loop g l = Keeps (g.W.Write.contents l.initial.writer) (g.W.Write.contents l.writer)

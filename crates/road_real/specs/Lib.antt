@@ -1,0 +1,2 @@
+pub mod TcpDoorsTold
+pub mod TcpStates

@@ -1,0 +1,104 @@
+//! A door over TCP.
+
+ghost use Rattle.std.specs.Prelude.{◌<◌, ◌≤◌, ◌↔◌, IsTrue};
+ghost use Rattle.road_io.specs.DoorOpening.{IsNewDoor};
+
+use crate::accepting::accept_retrying;
+use crate::tcp_conns::TcpConn;
+use road_io::{Door, Failed};
+use std::io;
+use std::net::{SocketAddr, TcpListener, TcpStream};
+use std::sync::Arc;
+use std::sync::atomic::{AtomicBool, Ordering};
+
+/// A door over TCP: a listener, and a flag that it shares with what closes it. It gives up to
+/// 18446744073709551615 connections, one after another; then it fails.
+#[derive(Drop)]
+pub struct TcpDoor {
+    listener: TcpListener,
+    close: Arc<AtomicBool>,
+    given: u64,
+    finished: u64,
+    closed: bool,
+    ended: bool,
+    faults: u64,
+    ghost counted: { finished ≤ given },
+}
+
+impl TcpDoor {
+    ghost use Rattle.road_real.specs.TcpStates.{door_view};
+
+    /// A door at which this listener waits until the flag is raised.
+    pub fn of(listener: TcpListener, close: Arc<AtomicBool>) -> TcpDoor
+        ensures { IsNewDoor (door_view result) }
+    {
+        TcpDoor {
+            listener,
+            close,
+            given: 0,
+            finished: 0,
+            closed: false,
+            ended: false,
+            faults: 0,
+        }
+    }
+
+    /// The address that the door listens at, with the port that the system chose where 0 was asked for.
+    pub fn address(&self) -> io::Result<SocketAddr> {
+        self.listener.local_addr()
+    }
+
+    /// Whether the door has counted a fault.
+    pub fn has_fault(&self) -> bool
+        ensures { IsTrue result ↔ (0 < (door_view self.now).faults) }
+    {
+        self.faults > 0
+    }
+
+    // The next stream; None where the flag was raised before one came. One that came later is let go: it is
+    // the closer's, which wakes the door, or too late.
+    fn arrival(&self) -> Result<Option<TcpStream>, Failed> {
+        if self.close.load(Ordering::SeqCst) {
+            return Ok(None);
+        }
+        let stream = accept_retrying(&self.listener)?;
+        if self.close.load(Ordering::SeqCst) {
+            return Ok(None);
+        }
+        Ok(Some(stream))
+    }
+}
+
+impl Door for TcpDoor {
+    ghost use Rattle.road_real.specs.TcpStates.{door_view};
+
+    type Conn = TcpConn;
+
+    ghost view = { door_view };
+
+    fn next(&mut self) -> Result<Option<TcpConn>, Failed> {
+        if self.ended {
+            return Ok(None);
+        }
+        match self.arrival() {
+            Ok(Some(stream)) if self.given < u64::MAX => {
+                self.given += 1;
+                Ok(Some(TcpConn::of(stream)))
+            }
+            Ok(None) => {
+                self.closed = true;
+                self.ended = true;
+                Ok(None)
+            }
+            _ => {
+                self.faults = self.faults.saturating_add(1);
+                self.ended = true;
+                Err(Failed)
+            }
+        }
+    }
+
+    fn finish(&mut self, _conn: TcpConn) {
+        self.finished += 1;
+    }
+}

@@ -1,0 +1,194 @@
+//! What opens doors over TCP, closes them and takes them back.
+
+ghost use Rattle.std.specs.Prelude.{◌≡◌, ◌+◌, ◌<◌, ◌≤◌, ◌↔◌, All, IsTrue, IfOk, length, map, sum_by};
+ghost use Rattle.road_io.specs.DoorOpening.{BackGives, IsNewDoor, door_set};
+ghost use Rattle.road_real.specs.TcpDoorsTold.{doors_told};
+ghost use Rattle.road_real.specs.TcpStates.{door_view};
+
+use crate::tcp_doors::TcpDoor;
+use road_io::{Closer, Doors, DoorsFault, Opened};
+use std::alloc::{AllocError, Global};
+use std::net::{Net, SocketAddr, TcpListener, TcpStream};
+use std::sync::Arc;
+use std::sync::atomic::{AtomicBool, Ordering};
+use std::time::Duration;
+
+// How long the waking of a door may take, in milliseconds. It takes any time only where connections stand in
+// line, and then no door waits.
+const WAKING: u64 = 500;
+
+/// What closes query doors over TCP: it raises their flag, and then makes one connection per door to their
+/// address, so that each door that waits wakes and sees it. It has no `Drop`, so it can't be lost.
+pub struct TcpCloser<'a, N> {
+    rt: &'a N,
+    address: SocketAddr,
+    doors: u32,
+    close: Arc<AtomicBool>,
+}
+
+impl<'a, N: Net> Closer for TcpCloser<'a, N> {
+    fn close(self) {
+        let TcpCloser {
+            rt,
+            address,
+            doors,
+            close,
+        } = self;
+        close.store(true, Ordering::SeqCst);
+        for _ in 0..doors {
+            let _ = TcpStream::connect_timeout(rt, &address, Duration::from_millis(WAKING));
+        }
+    }
+}
+
+/// Doors over TCP. The query doors of an opening share one listener, and each connection comes to one of them.
+#[derive(Drop)]
+pub struct TcpDoors<'a, N> {
+    rt: &'a N,
+    out: u64,
+    faults: u64,
+}
+
+impl<'a, N> TcpDoors<'a, N> {
+    /// Doors of which none is open. What closes them connects by this runtime.
+    pub fn of(rt: &'a N) -> TcpDoors<'a, N>
+        ensures { doors_told result.out result.faults ≡ doors_told 0 0 }
+    {
+        TcpDoors {
+            rt,
+            out: 0,
+            faults: 0,
+        }
+    }
+}
+
+impl<'a, N: Net> Doors for TcpDoors<'a, N> {
+    type Door = TcpDoor;
+
+    type Closer = TcpCloser<'a, N>;
+
+    ghost view = { λ d. doors_told d.out d.faults };
+
+    fn open<R: Net<Listener = TcpListener, Stream = TcpStream>>(
+        &mut self,
+        rt: &R,
+        alloc: Global,
+        query: &str,
+        control: &str,
+        workers: u32,
+    ) -> Result<Opened<TcpDoor, TcpCloser<'a, N>>, DoorsFault> {
+        let count = u64::from(workers) + 1;
+        let opened = if self.out <= u64::MAX - count {
+            open_at(self.rt, rt, alloc, query, control, workers)
+        } else {
+            Err(DoorsFault::Failed)
+        };
+        match opened {
+            Ok(opened) => {
+                self.out += count;
+                Ok(opened)
+            }
+            Err(DoorsFault::Failed) => {
+                self.faults = self.faults.saturating_add(1);
+                Err(DoorsFault::Failed)
+            }
+            Err(DoorsFault::Memory) => Err(DoorsFault::Memory),
+        }
+    }
+
+    fn back(&mut self, queries: Vec<TcpDoor>, control: TcpDoor)
+        requires { length queries.items + 1 ≤ self.old.out }
+        ensures takes { BackGives (doors_told self.old.out self.old.faults) (door_set (map door_view queries.items) (door_view control)) (doors_told self.new.out self.new.faults) }
+    {
+        if control.has_fault() || any_fault(&queries) {
+            self.faults = self.faults.saturating_add(1);
+        }
+        self.out -= queries.len() as u64 + 1;
+    }
+}
+
+// Opens doors at these addresses, whose closer connects by `waker`.
+fn open_at<'a, N, R: Net<Listener = TcpListener, Stream = TcpStream>>(
+    waker: &'a N,
+    rt: &R,
+    alloc: Global,
+    query: &str,
+    control: &str,
+    workers: u32,
+) -> Result<Opened<TcpDoor, TcpCloser<'a, N>>, DoorsFault>
+    ensures queries { IfOk result (λ o. (length o.queries.items ≡ workers) × All IsNewDoor (map door_view o.queries.items)) }
+    ensures control { IfOk result (λ o. IsNewDoor (door_view o.control)) }
+{
+    let listener = listener_at(rt, query)?;
+    let Ok(address) = listener.local_addr() else {
+        return Err(DoorsFault::Failed);
+    };
+    let control = TcpDoor::of(listener_at(rt, control)?, lowered_flag(alloc)?);
+    let close = lowered_flag(alloc)?;
+    let queries = doors_at(alloc, &listener, &close, workers)?;
+    Ok(Opened {
+        queries,
+        control,
+        closer: TcpCloser {
+            rt: waker,
+            address,
+            doors: workers,
+            close,
+        },
+    })
+}
+
+// A listener at this address.
+fn listener_at<R: Net<Listener = TcpListener, Stream = TcpStream>>(
+    rt: &R,
+    address: &str,
+) -> Result<TcpListener, DoorsFault> {
+    TcpListener::bind(rt, address).map_err(|_| DoorsFault::Failed)
+}
+
+// A flag that is not raised.
+fn lowered_flag(alloc: Global) -> Result<Arc<AtomicBool>, DoorsFault> {
+    Arc::new(alloc, AtomicBool::new(false)).map_err(|_| DoorsFault::Memory)
+}
+
+// So many doors that share a listener and a flag.
+fn doors_at(
+    alloc: Global,
+    listener: &TcpListener,
+    close: &Arc<AtomicBool>,
+    count: u32,
+) -> Result<Vec<TcpDoor>, DoorsFault>
+    ensures { IfOk result (λ v. (length v.items ≡ count) × All IsNewDoor (map door_view v.items)) }
+{
+    let mut doors = Vec::new(alloc);
+    for _ in 0..count {
+        let door = door_at(listener, close)?;
+        if doors.push(door).is_err() {
+            return Err(DoorsFault::Memory);
+        }
+    }
+    Ok(doors)
+}
+
+// A door that shares this listener and this flag.
+fn door_at(listener: &TcpListener, close: &Arc<AtomicBool>) -> Result<TcpDoor, DoorsFault>
+    ensures { IfOk result (λ door. IsNewDoor (door_view door)) }
+{
+    match (listener.try_clone(), Arc::try_clone(close)) {
+        (Ok(listener), Ok(close)) => Ok(TcpDoor::of(listener, close)),
+        (Ok(_), Err(AllocError)) => Err(DoorsFault::Memory),
+        (Err(_), _) => Err(DoorsFault::Failed),
+    }
+}
+
+// Whether one of these doors has counted a fault.
+fn any_fault(doors: &[TcpDoor]) -> bool
+    ensures { IsTrue result ↔ (0 < sum_by (λ door. door.faults) (map door_view doors.now)) }
+{
+    for door in doors {
+        if door.has_fault() {
+            return true;
+        }
+    }
+    false
+}
