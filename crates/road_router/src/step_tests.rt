@@ -29,7 +29,7 @@ const ROUND_THE_CORNER: &str =
     "\"geometry\":\"??gE??gE\",\"legs\":[{\"distance\":222.2,\"duration\":19.8,\"weight\":19.8,\"summary\":\"\",\"steps\":[{\"distance\":222.2,\"duration\":19.8,\"weight\":19.8,\"geometry\":\"??gE??gE\",\"name\":\"\",\"mode\":\"driving\",\"driving_side\":\"right\",\"maneuver\":{\"location\":[0.000000,0.000000],\"bearing_before\":0,\"bearing_after\":0,\"type\":\"depart\"}},{\"distance\":0.0,\"duration\":0.0,\"weight\":0.0,\"geometry\":\"gEgE??\",\"name\":\"\",\"mode\":\"driving\",\"driving_side\":\"right\",\"maneuver\":{\"location\":[0.001000,0.001000],\"bearing_before\":90,\"bearing_after\":0,\"type\":\"arrive\"}}],\"annotation\":{\"distance\":[111.1,111.1],\"duration\":[9.9,9.9],\"weight\":[9.9,9.9],\"nodes\":[1,2,3],\"speed\":[11.2,11.2]}}]}]}\n";
 
 // The parts, with this between each two of them.
-fn joined(alloc: Global, parts: &[&str], between: &str) -> Result<String, AllocError> {
+pub(crate) fn joined(alloc: Global, parts: &[&str], between: &str) -> Result<String, AllocError> {
     let mut text = String::new(alloc);
     let mut first = true;
     for part in parts {
