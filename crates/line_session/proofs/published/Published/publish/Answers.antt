@@ -27,10 +27,9 @@ returns-clause-reply g c =
     let size : c.len-speeds_length.result ≡ length c.args.speeds.items = omega (arith, c.args.speeds.ok.0, c.len-speeds_length.ensures) in
     let joined : c.extend_from_slice.new.self.items ≡ c.args.speeds.items ++ c.args.turns.now = search rules in
     let gives = gives_files c.self.inside.roads board.token.log after.token.log c.in_ok-answer.answer c.deref.result.now c.args.speeds.items c.args.turns.now c.len-speeds_length.result (c.deref.ensures.value ∙ joined) size c.in_ok-answer.ensures.controlled in
-    let text : c.of.result ≡ body_of c.in_ok-answer.answer ++ newline = search rules in
-    (
+    let text : c.of.result ≡ body_of c.in_ok-answer.answer ++ newline = search rules in (
       c.in_ok-answer.answer,
       subst (λ (p : Publication). Comes p c.args.speeds.items c.args.turns.now c.in_ok-answer.answer (publication_of (entry_of after.put))) c.self.view_is
-      (comes_of c.self.inside.roads board.token.log after.token.log (entry_of board.put) (entry_of after.put) c.args.speeds.items c.args.turns.now board.last after.last c.self.invariant.on c.in_ok-answer.answer gives),
+          (comes_of c.self.inside.roads board.token.log after.token.log (entry_of board.put) (entry_of after.put) c.args.speeds.items c.args.turns.now board.last after.last c.self.invariant.on c.in_ok-answer.answer gives),
       text,
     )
