@@ -1,11 +1,10 @@
 -- How control connections add up.
 use Rattle.std.proofs.Common.{◌≡◌, ℕ, false, List, [], ◌∷◌, ◌++◌, ◌+◌, ◌-◌, ◌^◌, min, refl, sym, subst, arith, length-append}
 use Rattle.road_io.specs.Views.{Transcript}
-use Rattle.road_io.specs.Faults.{Rose}
 use Rattle.road_io.specs.Doorway.{DoorView}
 use Rattle.std.proofs.lemmas.List.{append-nil}
 use Rattle.door_service.specs.declared.sessions.Then.TheVariants.{GoOn, Stop}
-use Rattle.door_service.specs.Passing.{Goes, Ends, counts}
+use Rattle.door_service.specs.Passing.{Goes, Ends}
 use Rattle.door_service.specs.Leading.{Step, Leads, LedSoFar, LedToEnd, LedToStop}
 use Rattle.door_service.proofs.Passings.{goes_none, goes_then, ends_then}
 

@@ -1,13 +1,12 @@
 -- How what passed a door adds up.
-use Rattle.std.proofs.Common.{◌≡◌, ◌⊎◌, ℕ, ◌+◌, ◌-◌, ◌^◌, min, ◌≤◌, Bool, true, false, List, [], ◌∷◌, ◌++◌, length, Option, Some, None, option_map, refl, ap, sym, ◌∙◌, subst, arith, append_assoc, length-append}
+use Rattle.std.proofs.Common.{◌≡◌, ℕ, ◌+◌, ◌-◌, ◌^◌, min, true, false, List, [], ◌∷◌, ◌++◌, Option, Some, None, option_map, refl, ap, sym, ◌∙◌, subst, arith, append_assoc, length-append}
 use Rattle.std.specs.List.{All}
 use Rattle.std.proofs.lemmas.List.{append-nil}
 use Rattle.std.proofs.lemmas.List.Elements.{All-nil, All-push, All-weaker}
 use mathlib.Core.List.{IsPrefix}
-use Rattle.road_io.specs.Faults.{Rose}
 use Rattle.road_io.specs.Views.{Transcript}
-use Rattle.road_io.specs.Doorway.{DoorView, NextGives, IsUsedUp, after_finish}
-use Rattle.door_service.specs.Passing.{Passed, Goes, Ends, PassesOne, GoneSoFar, GoneToEnd, counts}
+use Rattle.road_io.specs.Doorway.{DoorView, after_finish}
+use Rattle.door_service.specs.Passing.{Passed, Goes, Ends, PassesOne, GoneSoFar, GoneToEnd}
 
 map_none : (told : Option (List Transcript)) → told ≡ option_map (λ all. all ++ []) told
 map_none None = refl

@@ -1,5 +1,5 @@
 -- What the loops and the last reads say together.
-use Rattle.std.proofs.Common.{◌≡◌, ℕ, ◌+◌, ◌-◌, ◌^◌, min, Bool, true, false, List, Option, refl, sym, subst, arith}
+use Rattle.std.proofs.Common.{◌≡◌, ℕ, ◌-◌, ◌^◌, min, List, Option, sym, subst, arith}
 use Rattle.std.specs.List.{All, AllZip}
 use mathlib.Core.List.{IsPrefix}
 use Rattle.road_io.specs.Views.{Transcript}

@@ -2,7 +2,6 @@
 use Rattle.std.proofs.Common.{◌≡◌, ℕ, List, [], ◌∷◌, ◌++◌, Option, Some, refl, ap, subst, sym, ◌∙◌}
 use Rattle.std.specs.Prelude.{MatchOption, Ok, ⊤}
 use Rattle.std.proofs.lemmas.Option.{same_Some}
-use mathlib.Core.List.{IsPrefix}
 use Rattle.metric_publish.specs.Calls.{EnterGives}
 use Rattle.metric_publish.specs.History.{last_number, last_of}
 use Rattle.metric_publish.specs.declared.entry.Entry.{Entry}

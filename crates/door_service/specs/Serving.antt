@@ -1,5 +1,5 @@
 -- What serving leaves of its doors.
-use Rattle.std.specs.Prelude.{◌≡◌, ℕ, List, All, Option}
+use Rattle.std.specs.Prelude.{ℕ, List, All, Option}
 use mathlib.Core.List.{IsPrefix}
 use Rattle.road_io.specs.Views.{Transcript}
 use Rattle.road_io.specs.Doorway.{DoorView}

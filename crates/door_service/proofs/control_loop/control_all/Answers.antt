@@ -1,4 +1,4 @@
-use Rattle.std.proofs.Common.{refl, subst, ◌∙◌, arith}
+use Rattle.std.proofs.Common.{refl, subst, arith}
 use Rattle.door_service.specs.declared.turns.Turn.{Turn}
 use Rattle.door_service.specs.Leading.{TurnGives}
 use Rattle.door_service.proofs.Leadings.{led_none, led_then}

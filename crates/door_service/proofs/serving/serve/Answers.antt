@@ -7,7 +7,6 @@ use Rattle.metric_publish.specs.declared.entry.Entry.{Entry}
 use Rattle.metric_publish.specs.declared.seat.Seat.{Seat}
 use Rattle.metric_publish.specs.History.{IsKin}
 use Rattle.road_io.specs.DoorOpening.{IsNewDoor}
-use Rattle.door_service.specs.declared.posts.Post.{Post}
 use Rattle.door_service.specs.Passing.{GoneToEnd}
 use Rattle.door_service.specs.Serving.{Answered, AnsweredAt, AnsweredUnder}
 use Rattle.door_service.specs.Settling.{HasReadAll}

@@ -1,6 +1,6 @@
-use Rattle.std.proofs.Common.{◌≡◌, ◌<◌, List, length, refl, sym, subst, ◌∙◌, rules}
+use Rattle.std.proofs.Common.{◌<◌, List, length, sym, subst, ◌∙◌, rules}
 use Rattle.std.proofs.lemmas.Bool.{false≢true}
-use Rattle.std.proofs.lemmas.List.Elements.{AllWithin-none, AllWithin-more_set}
+use Rattle.std.proofs.lemmas.List.Elements.{AllWithin-more_set}
 use Rattle.left_right.specs.Sides.{view}
 use mathlib.Core.List.{IsPrefix}
 use Rattle.metric_publish.specs.declared.entry.Entry.{Entry}

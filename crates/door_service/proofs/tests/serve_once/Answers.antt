@@ -7,4 +7,4 @@ use Rattle.door_service.proofs.tests.serve_once.Goals as goal
 pub back-requires : goal.back-requires
 back-requires g c =
     let gives = c.in-Ok-open.ensures.gives in
-    omega (arith, c.serve-served.ensures.doors, gives.0, length-map c.in-Ok-open.opened.queries.items g.N.Door.view, ap (λ (v : DoorsView). v.out) gives.3)
+    omega (arith, c.serve-served.ensures.doors, gives.0, length-map c.in-Ok-open.opened.queries.items g.N.Door.Door.view, ap (λ (v : DoorsView). v.out) gives.3)

@@ -1,4 +1,4 @@
-use Rattle.std.proofs.Common.{Bool, refl, subst, arith}
+use Rattle.std.proofs.Common.{Bool, subst, arith}
 use Rattle.door_service.specs.Passing.{PassesOne}
 use Rattle.door_service.proofs.Fronts.{prefix_self, prefix_trans}
 use Rattle.door_service.proofs.Passings.{so_far_none, so_far_then, to_end_then}
