@@ -9,6 +9,8 @@
 #[cfg(test)]
 mod edge_tests;
 mod endings;
+#[cfg(test)]
+mod row_tests;
 mod running;
 #[cfg(test)]
 mod step_tests;
