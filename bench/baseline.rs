@@ -8,6 +8,8 @@
 //!
 //!     rustc --edition 2024 -C opt-level=3 baseline.rs
 //!     baseline ask OPL SETTINGS       answers the lines of standard input
+//!     baseline mirror OPL SETTINGS    the same, with rows of traffic applied in the program's way: the rows are
+//!                                     kept by their nodes, and each vertex and each turn looks for its own
 //!     baseline check OPL SETTINGS     prints the counts of the program's `check`
 
 use std::cmp::Reverse;
@@ -119,14 +121,15 @@ struct Metric {
 fn main() {
     let words: Vec<String> = std::env::args().skip(1).collect();
     let [command, map, settings] = words.as_slice() else {
-        panic!("usage: baseline ask|check OPL SETTINGS");
+        panic!("usage: baseline ask|mirror|check OPL SETTINGS");
     };
     let settings = read_settings(&std::fs::read_to_string(settings).expect("settings"));
     let map = read_map(&std::fs::read(map).expect("map"), &settings);
     let counts = map.counts;
     let mut network = build(map, &settings);
     match command.as_str() {
-        "ask" => answer_lines(&mut network),
+        "ask" => answer_lines(&mut network, metric_of),
+        "mirror" => answer_lines(&mut network, mirrored_metric_of),
         "check" => check(counts, &network),
         _ => panic!("no such command"),
     }
@@ -903,7 +906,7 @@ fn file(name: &str) -> Vec<u8> {
 }
 
 /// Puts the metric of these files in the place of the one that holds now, or refuses both.
-fn take_traffic(network: &mut Network, speeds: &str, turns: &str) -> String {
+fn take_traffic(network: &mut Network, applying: Applying, speeds: &str, turns: &str) -> String {
     let (speeds, turns) = (file(speeds), file(turns));
     let refused = |file: &str, (row, kind): (usize, &str)| {
         format!("{{\"code\":\"Refused\",\"file\":\"{file}\",\"row\":{row},\"kind\":\"{kind}\"}}")
@@ -913,10 +916,17 @@ fn take_traffic(network: &mut Network, speeds: &str, turns: &str) -> String {
         (_, Err(fault)) => return refused("turns", fault),
         (Ok(speeds), Ok(turns)) => (speeds, turns),
     };
-    let (metric, unmatched) = metric_of(network, &rows.0, &rows.1);
+    let (metric, unmatched) = applying(network, &rows.0, &rows.1);
     network.metric = metric;
     let number = network.metric.number;
     format!("{{\"code\":\"Ok\",\"data_version\":\"{number}\",\"unmatched\":{unmatched}}}")
+}
+
+/// How rows are applied.
+type Applying = fn(&Network, &[SpeedRow], &[TurnRow]) -> (Metric, usize);
+
+fn paid_at(speed: u64, length: u64) -> Option<Cost> {
+    (speed > 0).then(|| ((length * 3600 / speed).max(1), length))
 }
 
 /// The metric of the settings and these rows, and how many rows match nothing.
@@ -931,7 +941,7 @@ fn metric_of(network: &Network, speeds: &[SpeedRow], turns: &[TurnRow]) -> (Metr
         let mut matched = false;
         for v in between(row.from, row.to) {
             let length = network.profile.costs[v].expect("permitted").1;
-            metric.costs[v] = (row.speed > 0).then(|| ((length * 3600 / row.speed).max(1), length));
+            metric.costs[v] = paid_at(row.speed, length);
             matched = true;
         }
         unmatched += usize::from(!matched);
@@ -949,6 +959,37 @@ fn metric_of(network: &Network, speeds: &[SpeedRow], turns: &[TurnRow]) -> (Metr
         unmatched += usize::from(!matched);
     }
     (metric, unmatched)
+}
+
+/// The same: each vertex and each turn looks for the last row of its nodes.
+fn mirrored_metric_of(network: &Network, speeds: &[SpeedRow], turns: &[TurnRow]) -> (Metric, usize) {
+    let mut metric = Metric { number: network.metric.number + 1, ..network.profile.clone() };
+    let mut last_speeds: HashMap<(i64, i64), (usize, bool)> = HashMap::new();
+    for (number, row) in speeds.iter().enumerate() {
+        last_speeds.insert((row.from, row.to), (number, false));
+    }
+    for v in 0..metric.costs.len() {
+        if let (Some(cost), Some(last)) = (metric.costs[v], last_speeds.get_mut(&ends(&network.segments, v))) {
+            last.1 = true;
+            metric.costs[v] = paid_at(speeds[last.0].speed, cost.1);
+        }
+    }
+    let mut last_turns: HashMap<(i64, i64, i64), (usize, bool)> = HashMap::new();
+    for (number, row) in turns.iter().enumerate() {
+        last_turns.insert((row.from, row.via, row.to), (number, false));
+    }
+    for d in 0..metric.costs.len() {
+        let (tail, via) = ends(&network.segments, d);
+        for turn in network.first[d] as usize..network.first[d + 1] as usize {
+            let head = ends(&network.segments, network.turns[turn] as usize).1;
+            if let Some(last) = last_turns.get_mut(&(tail, via, head)) {
+                last.1 = true;
+                metric.penalties[turn] = turns[last.0].penalty;
+            }
+        }
+    }
+    let missed = speeds.iter().filter(|row| !last_speeds[&(row.from, row.to)].1).count();
+    (metric, missed + turns.iter().filter(|row| !last_turns[&(row.from, row.via, row.to)].1).count())
 }
 
 // ---- lines on the map ----
@@ -1044,7 +1085,7 @@ fn paid_along(network: &Network, walk: &[u32], from: Place, to: Place) -> Vec<Co
 
 // ---- lines ----
 
-fn answer_lines(network: &mut Network) {
+fn answer_lines(network: &mut Network, applying: Applying) {
     let mut labels = Labels::new(network.metric.costs.len());
     let mut input = std::io::stdin().lock();
     let mut output = std::io::stdout().lock();
@@ -1057,7 +1098,7 @@ fn answer_lines(network: &mut Network) {
             }
         }
         if !line.is_empty() {
-            let mut reply = reply(network, &mut labels, &line);
+            let mut reply = reply(network, &mut labels, applying, &line);
             reply.push('\n');
             output.write_all(reply.as_bytes()).expect("output");
         }
@@ -1065,12 +1106,12 @@ fn answer_lines(network: &mut Network) {
     }
 }
 
-fn reply(network: &mut Network, labels: &mut Labels, line: &[u8]) -> String {
+fn reply(network: &mut Network, labels: &mut Labels, applying: Applying, line: &[u8]) -> String {
     let line = if line.len() > 8192 { None } else { std::str::from_utf8(line).ok() };
     match line.and_then(|line| line.split_once(' ')) {
         Some(("GET", target)) => answer(network, labels, target),
         Some(("TRAFFIC", names)) if names.split([' ', '\t']).count() == 2 => match names.split_once(' ') {
-            Some((speeds, turns)) if !speeds.is_empty() && !turns.is_empty() => take_traffic(network, speeds, turns),
+            Some((speeds, turns)) if !speeds.is_empty() && !turns.is_empty() => take_traffic(network, applying, speeds, turns),
             _ => String::from("{\"code\":\"BadRequest\"}"),
         },
         _ => String::from("{\"code\":\"BadRequest\"}"),

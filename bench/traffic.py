@@ -1,11 +1,12 @@
 #!/usr/bin/env python3
 """Measures what a TRAFFIC line takes, in time and in memory, beside the baseline of this folder, in one run.
 
-    bench/traffic.py PROGRAM SETTINGS [--town N] [--map OPL] [--rows N] [--files SPEEDS,TURNS] [--repeats N] [--baseline FILE]
+    bench/traffic.py [--town N] [--map OPL] [--rows N] [--files SPEEDS,TURNS] [--repeats N] [--baseline FILE] PROGRAM SETTINGS
 
-PROGRAM is the built road_router. Both read a generated town of N by N nodes (300), or the map that is named, and are
-then given lines of TRAFFIC one by one: without rows (`TRAFFIC - -`); with N rows of speeds and N of turns (100,000),
-drawn, or the files that are named; and with the same rows and one more, the last of the turns, that is faulty.
+PROGRAM is the built road_router. It and the baseline, which applies rows in two ways (its own and that of the
+program, as `mirror`), read a generated town of N by N nodes (300), or the map that is named, and are then given lines
+of TRAFFIC one by one: without rows (`TRAFFIC - -`); with N rows of speeds and N of turns (100,000), drawn, or the
+files that are named; and with the same rows and one more, the last of the turns, that is faulty.
 
 The program customizes for every metric, which the baseline has no use for. The program does that in other threads, and
 the thread that reads lines waits for them; so what is told of a line is the processor time of the first thread alone,
@@ -139,17 +140,20 @@ def main():
         with open(faulty, "wb") as out, open(turns, "rb") as good:
             out.write(good.read() + b"\n1,2,3,x\n")
         lines = {"no rows": "TRAFFIC - -", "all rows": f"TRAFFIC {speeds} {turns}", "refused at the last row": f"TRAFFIC {speeds} {faulty}"}
-        both = [measured([command, "ask", opl, given.settings], lines, given.repeats) for command in (given.program, baseline)]
+        runs = [(given.program, "ask"), (baseline, "ask"), (baseline, "mirror")]
+        both = [measured([*run, opl, given.settings], lines, given.repeats) for run in runs]
     tell(lines, both)
 
 
 def tell(lines, both):
     replies = [[reply for kind in lines for reply, _, _ in told[kind]] for _, told in both]
-    print("replies:", "alike" if replies[0] == replies[1] else f"DIFFERENT: {replies}", "; ".join(reply for reply, _, _ in (told for told in (both[0][1][kind][-1] for kind in lines))))
-    print(f"{'processor seconds':<42} {'program':>9} {'baseline':>9} {'ratio':>7}")
+    alike = all(other == replies[0] for other in replies)
+    print("replies:", "alike" if alike else f"DIFFERENT: {replies}", "; ".join(reply for reply, _, _ in (told for told in (both[0][1][kind][-1] for kind in lines))))
+    print(f"{'processor seconds':<42} {'program':>9} {'baseline':>9} {'mirror':>9} {'ratios':>7}")
 
-    def row(name, pair):
-        print(f"{name:<42} {pair[0]:>9.4f} {pair[1]:>9.4f} {pair[0] / max(pair[1], 1e-9):>7.2f}")
+    def row(name, all_of):
+        ratios = [all_of[0] / max(other, 1e-9) for other in all_of[1:]]
+        print(f"{name:<42} " + " ".join(f"{figure:>9.4f}" for figure in all_of) + " " + " ".join(f"{ratio:>7.2f}" for ratio in ratios))
 
     least = {kind: [min(times[0] for _, times, _ in told[kind]) for _, told in both] for kind in lines}
     row("start, all threads", [start[0][1] for start, _ in both])
@@ -158,11 +162,11 @@ def tell(lines, both):
         row(f"{kind}, all threads", [min(times[1] for _, times, _ in told[kind]) for _, told in both])
     row("reading, judging (refused line)", least["refused at the last row"])
     row("reading and applying (all - no rows)", [a - b for a, b in zip(least["all rows"], least["no rows"])])
-    for name, (start, told) in zip(("program", "baseline"), both):
+    for name, (start, told) in zip(("program", "baseline", "mirror"), both):
         print(f"{name}, megabytes: {start[1][0]:.1f} after the start (peak {start[1][1]:.1f}); each line before, at its peak, after:")
         for kind in lines:
             print(f"    {kind}: " + ", ".join(" ".join(f"{size:.1f}" for size in sizes) for _, _, sizes in told[kind]))
-    sys.exit(0 if replies[0] == replies[1] else 1)
+    sys.exit(0 if alike else 1)
 
 
 if __name__ == "__main__":
