@@ -2,12 +2,14 @@
 //! Rust, as one would write it without proofs and without tricks. It reads the same OPL text and settings
 //! and answers the same lines with the same bytes.
 //!
-//! It trusts its files: it tells no fault, looks for no duplicates, does not check UTF-8, and keeps only the
-//! nodes' locations, the ways that can be used, and the restrictions. Its TOML is keys with a number, a text
-//! or a list of texts, and tables of numbers.
+//! It trusts its map and its settings: it tells no fault of theirs, looks for no duplicates, does not check
+//! UTF-8, and keeps only the nodes' locations, the ways that can be used, and the restrictions. Its TOML is
+//! keys with a number, a text or a list of texts, and tables of numbers. Of traffic files it tells each fault.
 //!
 //!     rustc --edition 2024 -C opt-level=3 baseline.rs
 //!     baseline ask OPL SETTINGS       answers the lines of standard input
+//!     baseline mirror OPL SETTINGS    the same, with rows of traffic applied in the program's way: the rows are
+//!                                     kept by their nodes, and each vertex and each turn looks for its own
 //!     baseline check OPL SETTINGS     prints the counts of the program's `check`
 
 use std::cmp::Reverse;
@@ -40,6 +42,7 @@ struct Settings {
     penalties: [u64; 8],
     u_turn: u64,
     signal: u64,
+    left_side: bool,
 }
 
 const MODIFIERS: [&str; 8] =
@@ -93,34 +96,47 @@ struct Segment {
 struct Network {
     ways: Vec<Way>,
     segments: Vec<Segment>,
-    /// By vertex; None where it is closed.
-    costs: Vec<Option<Cost>>,
-    /// The turns of vertex v lead to `turns[first[v]..first[v + 1]]`, and cost `penalties` there.
+    /// The permitted vertices that leave a node.
+    leaving: HashMap<i64, Vec<u32>>,
+    /// The turns of vertex v lead to `turns[first[v]..first[v + 1]]`.
     first: Vec<u32>,
     turns: Vec<u32>,
-    penalties: Vec<u32>,
     applied: usize,
     ignored: usize,
+    left_side: bool,
+    /// What the settings alone say, and what holds now.
+    profile: Metric,
+    metric: Metric,
+}
+
+#[derive(Clone)]
+struct Metric {
+    number: u32,
+    /// By vertex; None where it is closed.
+    costs: Vec<Option<Cost>>,
+    /// By turn.
+    penalties: Vec<u32>,
 }
 
 fn main() {
     let words: Vec<String> = std::env::args().skip(1).collect();
     let [command, map, settings] = words.as_slice() else {
-        panic!("usage: baseline ask|check OPL SETTINGS");
+        panic!("usage: baseline ask|mirror|check OPL SETTINGS");
     };
     let settings = read_settings(&std::fs::read_to_string(settings).expect("settings"));
     let map = read_map(&std::fs::read(map).expect("map"), &settings);
     let counts = map.counts;
-    let network = build(map, &settings);
+    let mut network = build(map, &settings);
     match command.as_str() {
-        "ask" => answer_lines(&network),
+        "ask" => answer_lines(&mut network, metric_of),
+        "mirror" => answer_lines(&mut network, mirrored_metric_of),
         "check" => check(counts, &network),
         _ => panic!("no such command"),
     }
 }
 
 fn check([nodes, ways, relations]: [usize; 3], network: &Network) {
-    let vertices = network.costs.iter().filter(|cost| cost.is_some()).count();
+    let vertices = network.profile.costs.iter().filter(|cost| cost.is_some()).count();
     println!("nodes {nodes}\nways {ways}\nrelations {relations}");
     println!("segments {}\nvertices {vertices}\nturns {}", network.segments.len(), network.turns.len());
     println!("restrictions {}\nignored {}", network.applied, network.ignored);
@@ -163,6 +179,7 @@ fn set(settings: &mut Settings, table: &str, key: &str, value: &str) {
         (_, "barriers") => settings.barriers = texts(),
         (_, "u_turn_penalty") => settings.u_turn = number(),
         (_, "signal_penalty") => settings.signal = number(),
+        (_, "driving_side") => settings.left_side = text() == "left",
         _ => (),
     }
 }
@@ -311,29 +328,36 @@ fn integer(text: &[u8]) -> i64 {
     if digits.len() < text.len() { -size } else { size }
 }
 
-/// Six digits after the point; a seventh of 5 or more adds one away from zero. None where it is no decimal.
-fn microdegrees(text: &[u8]) -> Option<i64> {
+/// The sign and the digits before and after the point; None where it is no decimal.
+fn decimal(text: &[u8]) -> Option<(bool, &[u8], &[u8])> {
     let digits = text.strip_prefix(b"-").unwrap_or(text);
-    let point = digits.iter().position(|b| *b == b'.');
-    let (whole, fraction) = match point {
+    let (whole, fraction) = match digits.iter().position(|b| *b == b'.') {
         Some(at) => (&digits[..at], &digits[at + 1..]),
         None => (digits, &b"0"[..]),
     };
     let all_digits = whole.iter().chain(fraction).all(|b| b.is_ascii_digit());
-    if whole.is_empty() || fraction.is_empty() || !all_digits {
-        return None;
-    }
+    (all_digits && !whole.is_empty() && !fraction.is_empty()).then_some((digits.len() < text.len(), whole, fraction))
+}
+
+/// A decimal without its sign and without what stands behind so many digits after the point, in units of the
+/// last of these; what is past 10^9 counts as 10^9.
+fn kept(whole: &[u8], fraction: &[u8], places: usize) -> i64 {
     let mut size: i64 = 0;
     for digit in whole {
-        size = (size * 10 + i64::from(*digit - b'0')).min(1_000_000);
+        size = (size * 10 + i64::from(*digit - b'0')).min(1_000_000_000);
     }
-    for place in 0..6 {
+    for place in 0..places {
         size = size * 10 + i64::from(fraction.get(place).map_or(0, |digit| *digit - b'0'));
     }
-    if fraction.get(6).is_some_and(|digit| *digit >= b'5') {
-        size += 1;
-    }
-    Some(if digits.len() < text.len() { -size } else { size })
+    size
+}
+
+/// Six digits after the point; a seventh of 5 or more adds one away from zero. None where it is no decimal.
+fn microdegrees(text: &[u8]) -> Option<i64> {
+    let (negative, whole, fraction) = decimal(text)?;
+    let more = fraction.get(6).is_some_and(|digit| *digit >= b'5');
+    let size = kept(whole, fraction, 6) + i64::from(more);
+    Some(if negative { -size } else { size })
 }
 
 // ---- geometry ----
@@ -441,8 +465,15 @@ fn build(mut map: Map, settings: &Settings) -> Network {
     let read = map.restrictions.len();
     let rules = applying(&mut map, &segments);
     let applied = rules.values().map(Vec::len).sum();
-    let (first, turns, penalties) = turns_of(&map, settings, &segments, &costs, &rules);
-    Network { ways: map.ways, segments, costs, first, turns, penalties, applied, ignored: map.ignored + read - applied }
+    let mut leaving: HashMap<i64, Vec<u32>> = HashMap::new();
+    for v in (0..costs.len()).filter(|v| costs[*v].is_some()) {
+        leaving.entry(ends(&segments, v).0).or_default().push(v as u32);
+    }
+    let (first, turns, penalties) = turns_of(&map, settings, &segments, &leaving, &costs, &rules);
+    let (ignored, left_side) = (map.ignored + read - applied, settings.left_side);
+    let profile = Metric { number: 0, costs, penalties };
+    let metric = profile.clone();
+    Network { ways: map.ways, segments, leaving, first, turns, applied, ignored, left_side, profile, metric }
 }
 
 /// The restrictions by their `via` node, but those one of whose ways does not meet it.
@@ -490,13 +521,10 @@ fn turns_of(
     map: &Map,
     settings: &Settings,
     segments: &[Segment],
+    leaving: &HashMap<i64, Vec<u32>>,
     costs: &[Option<Cost>],
     rules: &HashMap<i64, Vec<Restriction>>,
 ) -> (Vec<u32>, Vec<u32>, Vec<u32>) {
-    let mut leaving: HashMap<i64, Vec<u32>> = HashMap::new();
-    for v in (0..costs.len()).filter(|v| costs[*v].is_some()) {
-        leaving.entry(ends(segments, v).0).or_default().push(v as u32);
-    }
     let bearings: Vec<u32> = (0..costs.len()).map(|v| vertex_bearing(segments, v)).collect();
     let way_of = |v: u32| map.ways[segments[v as usize / 2].way as usize].id;
     let (mut first, mut turns, mut penalties) = (vec![0], Vec::new(), Vec::new());
@@ -542,19 +570,34 @@ fn vertex_bearing(segments: &[Segment], v: usize) -> u32 {
 
 // ---- routes ----
 
-fn snap(network: &Network, p: Point) -> Option<Place> {
-    let mut best: Option<(u128, Place)> = None;
-    for (number, segment) in network.segments.iter().enumerate() {
-        if network.costs[2 * number].is_none() && network.costs[2 * number + 1].is_none() {
-            continue;
+/// What a coordinate asks of its place: the greatest distance, and a bearing with what it may differ by.
+#[derive(Clone, Copy, Default)]
+struct Wish {
+    radius: Option<u64>,
+    bearing: Option<(u32, u32)>,
+}
+
+/// The candidates for a point, each as its plane value, its segment and where on it.
+fn candidates(network: &Network, p: Point, wish: Wish) -> impl Iterator<Item = (u128, u32, u64)> {
+    let near = move |number: usize, segment: &Segment| {
+        let open = |v: &usize| network.metric.costs[*v].is_some();
+        let bears = |v: usize| wish.bearing.is_none_or(|(value, range)| {
+            let apart = vertex_bearing(&network.segments, v).abs_diff(value % 360);
+            apart.min(360 - apart) <= range
+        });
+        if ![2 * number, 2 * number + 1].into_iter().filter(open).any(bears) {
+            return None;
         }
         let at = project(p, segment.from, segment.to);
-        let far = plane(p, point_at(segment.from, segment.to, at));
-        if best.is_none_or(|(least, _)| far < least) {
-            best = Some((far, Place { segment: number as u32, at }));
-        }
-    }
-    best.map(|(_, place)| place)
+        let own = point_at(segment.from, segment.to, at);
+        let within = wish.radius.is_none_or(|radius| distance(p, own) <= radius);
+        within.then(|| (plane(p, own), number as u32, at))
+    };
+    network.segments.iter().enumerate().filter_map(move |(number, segment)| near(number, segment))
+}
+
+fn snap(network: &Network, p: Point, wish: Wish) -> Option<Place> {
+    candidates(network, p, wish).min().map(|(_, segment, at)| Place { segment, at })
 }
 
 fn plus(a: Cost, b: Cost) -> Cost {
@@ -572,7 +615,7 @@ fn before(cost: Cost, parts: u64) -> Cost {
 /// The open directions of a place's segment, with their costs and how far along each it lies.
 fn directions(network: &Network, place: Place) -> Vec<(u32, Cost, u64)> {
     let both = [(2 * place.segment, place.at), (2 * place.segment + 1, 1024 - place.at)];
-    let open = both.iter().filter_map(|(v, parts)| Some((*v, network.costs[*v as usize]?, *parts)));
+    let open = both.iter().filter_map(|(v, parts)| Some((*v, network.metric.costs[*v as usize]?, *parts)));
     open.collect()
 }
 
@@ -621,8 +664,8 @@ impl Labels {
     fn expand(&mut self, network: &Network, v: u32, paid: Cost, mark: u32) {
         for turn in network.first[v as usize]..network.first[v as usize + 1] {
             let e = network.turns[turn as usize];
-            if let Some(cost) = network.costs[e as usize] {
-                let penalty = u64::from(network.penalties[turn as usize]);
+            if let Some(cost) = network.metric.costs[e as usize] {
+                let penalty = u64::from(network.metric.penalties[turn as usize]);
                 self.offer(e, plus(paid, plus((penalty, 0), cost)), v | mark);
             }
         }
@@ -717,6 +760,238 @@ fn row(network: &Network, labels: &mut Labels, from: Place, to: &[Place]) -> Vec
     to.iter().map(cell).collect()
 }
 
+// ---- traffic ----
+
+/// One record of a CSV text: its fields one behind the other, and where each ends.
+#[derive(Default)]
+struct Record {
+    bytes: Vec<u8>,
+    ends: Vec<usize>,
+}
+
+impl Record {
+    /// A field without the blanks round it.
+    fn field(&self, number: usize) -> &[u8] {
+        let from = if number == 0 { 0 } else { self.ends[number - 1] };
+        let mut field = &self.bytes[from..self.ends[number]];
+        while let Some(rest) = field.strip_prefix(b" ").or(field.strip_suffix(b" ")) {
+            field = rest;
+        }
+        field
+    }
+}
+
+/// The records of a CSV text: fields parted by commas, records by ends of lines of any kind. A field that begins
+/// with a quote goes to the next quote that is not doubled. Empty lines are no records.
+struct Records<'a> {
+    rest: &'a [u8],
+}
+
+impl Records<'_> {
+    fn next(&mut self, record: &mut Record) -> bool {
+        record.bytes.clear();
+        record.ends.clear();
+        while let [b'\n' | b'\r', rest @ ..] = self.rest {
+            self.rest = rest;
+        }
+        if self.rest.is_empty() {
+            return false;
+        }
+        while self.field(record) {}
+        true
+    }
+
+    /// Reads a field; whether another one follows.
+    fn field(&mut self, record: &mut Record) -> bool {
+        let mut quoted = self.rest.first() == Some(&b'"');
+        let mut at = usize::from(quoted);
+        let mut last = None;
+        while let (None, Some(byte)) = (last, self.rest.get(at)) {
+            at += 1;
+            match byte {
+                b'"' if quoted && self.rest.get(at) != Some(&b'"') => quoted = false,
+                b'"' if quoted => {
+                    record.bytes.push(b'"');
+                    at += 1;
+                }
+                b',' | b'\n' | b'\r' if !quoted => last = Some(*byte),
+                _ => record.bytes.push(*byte),
+            }
+        }
+        record.ends.push(record.bytes.len());
+        self.rest = &self.rest[at..];
+        last == Some(b',')
+    }
+}
+
+/// Thousandths of km/h.
+struct SpeedRow {
+    from: i64,
+    to: i64,
+    speed: u64,
+}
+
+/// Deciseconds.
+struct TurnRow {
+    from: i64,
+    via: i64,
+    to: i64,
+    penalty: u32,
+}
+
+/// The rows of a file, or the number of the first faulty one, from 1, and what is wrong with it.
+fn rows_of<R>(text: &[u8], row: fn(&Record) -> Result<R, &'static str>) -> Result<Vec<R>, (usize, &'static str)> {
+    let mut records = Records { rest: text.strip_prefix(b"\xef\xbb\xbf").unwrap_or(text) };
+    let (mut rows, mut record) = (Vec::new(), Record::default());
+    while records.next(&mut record) {
+        rows.push(row(&record).map_err(|kind| (rows.len() + 1, kind))?);
+    }
+    Ok(rows)
+}
+
+fn speed_row(record: &Record) -> Result<SpeedRow, &'static str> {
+    if ![3, 4].contains(&record.ends.len()) {
+        return Err("BadCount");
+    }
+    let (from, to) = (id_in(record.field(0))?, id_in(record.field(1))?);
+    let (negative, speed) = number_in(record.field(2), 3)?;
+    if negative {
+        return Err("BadNumber");
+    }
+    if record.ends.len() == 4 {
+        number_in(record.field(3), 0)?;
+    }
+    match speed {
+        0 => Ok(SpeedRow { from, to, speed: 0 }),
+        1..=1_000_000 => Ok(SpeedRow { from, to, speed: speed.max(1000) }),
+        _ => Err("OutOfRange"),
+    }
+}
+
+fn turn_row(record: &Record) -> Result<TurnRow, &'static str> {
+    if ![4, 5].contains(&record.ends.len()) {
+        return Err("BadCount");
+    }
+    let (from, via, to) = (id_in(record.field(0))?, id_in(record.field(1))?, id_in(record.field(2))?);
+    let (negative, penalty) = number_in(record.field(3), 1)?;
+    if record.ends.len() == 5 {
+        number_in(record.field(4), 0)?;
+    }
+    match if negative { 0 } else { penalty } {
+        penalty @ 0..=1_000_000 => Ok(TurnRow { from, via, to, penalty: penalty as u32 }),
+        _ => Err("OutOfRange"),
+    }
+}
+
+fn id_in(text: &[u8]) -> Result<i64, &'static str> {
+    let digits = text.strip_prefix(b"-").unwrap_or(text);
+    let whole = (1..=19).contains(&digits.len()) && digits.iter().all(u8::is_ascii_digit);
+    let text = std::str::from_utf8(text).ok().filter(|_| whole);
+    text.and_then(|text| text.parse().ok()).ok_or("BadId")
+}
+
+/// Whether it has a sign, and the size in units of the last of so many places after the point.
+fn number_in(text: &[u8], places: usize) -> Result<(bool, u64), &'static str> {
+    let (negative, whole, fraction) = decimal(text).ok_or("BadNumber")?;
+    Ok((negative, kept(whole, fraction, places).unsigned_abs()))
+}
+
+/// The bytes of a file, none where its name is `-`.
+fn file(name: &str) -> Vec<u8> {
+    let read = if name == "-" { Ok(Vec::new()) } else { std::fs::read(name) };
+    read.unwrap_or_else(|_| {
+        println!("cannot read {name}");
+        std::process::exit(1)
+    })
+}
+
+/// Puts the metric of these files in the place of the one that holds now, or refuses both.
+fn take_traffic(network: &mut Network, applying: Applying, speeds: &str, turns: &str) -> String {
+    let (speeds, turns) = (file(speeds), file(turns));
+    let refused = |file: &str, (row, kind): (usize, &str)| {
+        format!("{{\"code\":\"Refused\",\"file\":\"{file}\",\"row\":{row},\"kind\":\"{kind}\"}}")
+    };
+    let rows = match (rows_of(&speeds, speed_row), rows_of(&turns, turn_row)) {
+        (Err(fault), _) => return refused("speeds", fault),
+        (_, Err(fault)) => return refused("turns", fault),
+        (Ok(speeds), Ok(turns)) => (speeds, turns),
+    };
+    let (metric, unmatched) = applying(network, &rows.0, &rows.1);
+    network.metric = metric;
+    let number = network.metric.number;
+    format!("{{\"code\":\"Ok\",\"data_version\":\"{number}\",\"unmatched\":{unmatched}}}")
+}
+
+/// How rows are applied.
+type Applying = fn(&Network, &[SpeedRow], &[TurnRow]) -> (Metric, usize);
+
+fn paid_at(speed: u64, length: u64) -> Option<Cost> {
+    (speed > 0).then(|| ((length * 3600 / speed).max(1), length))
+}
+
+/// The metric of the settings and these rows, and how many rows match nothing.
+fn metric_of(network: &Network, speeds: &[SpeedRow], turns: &[TurnRow]) -> (Metric, usize) {
+    let mut metric = Metric { number: network.metric.number + 1, ..network.profile.clone() };
+    let mut unmatched = 0;
+    let between = |from: i64, to: i64| {
+        let leaving = network.leaving.get(&from).map_or(&[][..], Vec::as_slice);
+        leaving.iter().map(|v| *v as usize).filter(move |v| ends(&network.segments, *v).1 == to)
+    };
+    for row in speeds {
+        let mut matched = false;
+        for v in between(row.from, row.to) {
+            let length = network.profile.costs[v].expect("permitted").1;
+            metric.costs[v] = paid_at(row.speed, length);
+            matched = true;
+        }
+        unmatched += usize::from(!matched);
+    }
+    for row in turns {
+        let mut matched = false;
+        for d in between(row.from, row.via) {
+            for turn in network.first[d] as usize..network.first[d + 1] as usize {
+                if ends(&network.segments, network.turns[turn] as usize).1 == row.to {
+                    metric.penalties[turn] = row.penalty;
+                    matched = true;
+                }
+            }
+        }
+        unmatched += usize::from(!matched);
+    }
+    (metric, unmatched)
+}
+
+/// The same: each vertex and each turn looks for the last row of its nodes.
+fn mirrored_metric_of(network: &Network, speeds: &[SpeedRow], turns: &[TurnRow]) -> (Metric, usize) {
+    let mut metric = Metric { number: network.metric.number + 1, ..network.profile.clone() };
+    let mut last_speeds: HashMap<(i64, i64), (usize, bool)> = HashMap::new();
+    for (number, row) in speeds.iter().enumerate() {
+        last_speeds.insert((row.from, row.to), (number, false));
+    }
+    for v in 0..metric.costs.len() {
+        if let (Some(cost), Some(last)) = (metric.costs[v], last_speeds.get_mut(&ends(&network.segments, v))) {
+            last.1 = true;
+            metric.costs[v] = paid_at(speeds[last.0].speed, cost.1);
+        }
+    }
+    let mut last_turns: HashMap<(i64, i64, i64), (usize, bool)> = HashMap::new();
+    for (number, row) in turns.iter().enumerate() {
+        last_turns.insert((row.from, row.via, row.to), (number, false));
+    }
+    for d in 0..metric.costs.len() {
+        let (tail, via) = ends(&network.segments, d);
+        for turn in network.first[d] as usize..network.first[d + 1] as usize {
+            let head = ends(&network.segments, network.turns[turn] as usize).1;
+            if let Some(last) = last_turns.get_mut(&(tail, via, head)) {
+                last.1 = true;
+                metric.penalties[turn] = turns[last.0].penalty;
+            }
+        }
+    }
+    let missed = speeds.iter().filter(|row| !last_speeds[&(row.from, row.to)].1).count();
+    (metric, missed + turns.iter().filter(|row| !last_turns[&(row.from, row.via, row.to)].1).count())
+}
+
 // ---- lines on the map ----
 
 /// The point where a vertex ends.
@@ -801,7 +1076,7 @@ fn paid_along(network: &Network, walk: &[u32], from: Place, to: Place) -> Vec<Co
     let parts = |v: u32, place: Place| if v % 2 == 0 { place.at } else { 1024 - place.at };
     let last = walk.len() - 1;
     let each = walk.iter().enumerate().map(|(at, v)| {
-        let whole = network.costs[*v as usize].expect("an open vertex");
+        let whole = network.metric.costs[*v as usize].expect("an open vertex");
         let end = if at == last { before(whole, parts(*v, to)) } else { whole };
         if at == 0 { minus(end, before(whole, parts(*v, from))) } else { end }
     });
@@ -810,8 +1085,8 @@ fn paid_along(network: &Network, walk: &[u32], from: Place, to: Place) -> Vec<Co
 
 // ---- lines ----
 
-fn answer_lines(network: &Network) {
-    let mut labels = Labels::new(network.costs.len());
+fn answer_lines(network: &mut Network, applying: Applying) {
+    let mut labels = Labels::new(network.metric.costs.len());
     let mut input = std::io::stdin().lock();
     let mut output = std::io::stdout().lock();
     let mut line = Vec::new();
@@ -823,7 +1098,7 @@ fn answer_lines(network: &Network) {
             }
         }
         if !line.is_empty() {
-            let mut reply = reply(network, &mut labels, &line);
+            let mut reply = reply(network, &mut labels, applying, &line);
             reply.push('\n');
             output.write_all(reply.as_bytes()).expect("output");
         }
@@ -831,42 +1106,52 @@ fn answer_lines(network: &Network) {
     }
 }
 
-fn reply(network: &Network, labels: &mut Labels, line: &[u8]) -> String {
+fn reply(network: &mut Network, labels: &mut Labels, applying: Applying, line: &[u8]) -> String {
     let line = if line.len() > 8192 { None } else { std::str::from_utf8(line).ok() };
-    let Some(target) = line.and_then(|line| line.strip_prefix("GET ")) else {
-        return String::from("{\"code\":\"BadRequest\"}");
-    };
+    match line.and_then(|line| line.split_once(' ')) {
+        Some(("GET", target)) => answer(network, labels, target),
+        Some(("TRAFFIC", names)) if names.split([' ', '\t']).count() == 2 => match names.split_once(' ') {
+            Some((speeds, turns)) if !speeds.is_empty() && !turns.is_empty() => take_traffic(network, applying, speeds, turns),
+            _ => String::from("{\"code\":\"BadRequest\"}"),
+        },
+        _ => String::from("{\"code\":\"BadRequest\"}"),
+    }
+}
+
+fn answer(network: &Network, labels: &mut Labels, target: &str) -> String {
     let request = match request(target) {
         Ok(request) => request,
         Err((code, message)) => return format!("{{\"code\":\"{code}\",\"message\":{}}}", quoted(&message)),
     };
+    let version = network.metric.number;
+    if request.since > version {
+        let since = request.since;
+        return format!("{{\"code\":\"AheadOfData\",\"data_version\":\"{version}\",\"message\":\"since {since}\"}}");
+    }
     let found = match request.service.as_str() {
         "nearest" => nearest(network, &request),
         "table" => table(network, labels, &request),
         _ => route(network, labels, &request),
     };
     match found {
-        Ok(members) => format!("{{\"code\":\"Ok\",\"data_version\":\"0\",{members}}}"),
-        Err((code, message)) => format!("{{\"code\":\"{code}\",\"data_version\":\"0\",\"message\":\"{message}\"}}"),
+        Ok(members) => format!("{{\"code\":\"Ok\",\"data_version\":\"{version}\",{members}}}"),
+        Err((code, message)) => format!("{{\"code\":\"{code}\",\"data_version\":\"{version}\",\"message\":\"{message}\"}}"),
     }
 }
 
 type Refusal = (&'static str, String);
 
-fn places_of(network: &Network, points: &[Point]) -> Result<Vec<Place>, Refusal> {
-    let place = |(number, point): (usize, &Point)| snap(network, *point).ok_or_else(|| ("NoSegment", format!("coordinate {number}")));
-    points.iter().enumerate().map(place).collect()
+fn places_of(network: &Network, request: &Request) -> Result<Vec<Place>, Refusal> {
+    let place = |number: usize| {
+        let found = snap(network, request.points[number], request.wishes[number]);
+        found.ok_or_else(|| ("NoSegment", format!("coordinate {number}")))
+    };
+    (0..request.points.len()).map(place).collect()
 }
 
 fn nearest(network: &Network, request: &Request) -> Result<String, Refusal> {
     let point = request.points[0];
-    let mut found = Vec::new();
-    for (number, segment) in network.segments.iter().enumerate() {
-        if network.costs[2 * number].is_some() || network.costs[2 * number + 1].is_some() {
-            let at = project(point, segment.from, segment.to);
-            found.push((plane(point, point_at(segment.from, segment.to, at)), number as u32, at));
-        }
-    }
+    let mut found: Vec<(u128, u32, u64)> = candidates(network, point, request.wishes[0]).collect();
     if found.is_empty() {
         return Err(("NoSegment", String::from("coordinate 0")));
     }
@@ -880,7 +1165,7 @@ fn nearest(network: &Network, request: &Request) -> Result<String, Refusal> {
 }
 
 fn table(network: &Network, labels: &mut Labels, request: &Request) -> Result<String, Refusal> {
-    let places = places_of(network, &request.points)?;
+    let places = places_of(network, request)?;
     let (from, to) = (&request.sources, &request.destinations);
     let ends: Vec<Place> = to.iter().map(|i| places[*i]).collect();
     let rows: Vec<Vec<Option<Cost>>> = from.iter().map(|i| row(network, labels, places[*i], &ends)).collect();
@@ -902,14 +1187,14 @@ fn table(network: &Network, labels: &mut Labels, request: &Request) -> Result<St
 }
 
 fn route(network: &Network, labels: &mut Labels, request: &Request) -> Result<String, Refusal> {
-    let places = places_of(network, &request.points)?;
+    let places = places_of(network, request)?;
     let (mut whole, mut legs, mut line) = ((0, 0), Vec::new(), Vec::new());
     for (number, pair) in places.windows(2).enumerate() {
         let route = least_route(network, labels, pair[0], pair[1]).ok_or_else(|| ("NoRoute", format!("leg {number}")))?;
         whole = plus(whole, route.cost);
         let points = leg_points(network, &route.walk, pair[0], pair[1]);
         line.extend(&points[usize::from(number > 0)..]);
-        legs.push(leg_text(network, request, &route, pair[0], pair[1]));
+        legs.push(leg_text(network, request, &route, &points, pair[0], pair[1]));
     }
     if request.overview == "simplified" {
         line = simplified(&line, tolerance_of(&line));
@@ -924,9 +1209,10 @@ fn route(network: &Network, labels: &mut Labels, request: &Request) -> Result<St
     Ok(format!("\"routes\":[{{{totals},\"weight_name\":\"duration\",{geometry}\"legs\":[{legs}]}}]{waypoints}"))
 }
 
-fn leg_text(network: &Network, request: &Request, route: &Route, from: Place, to: Place) -> String {
+fn leg_text(network: &Network, request: &Request, route: &Route, points: &[Point], from: Place, to: Place) -> String {
     let mut members = Vec::new();
     let paid = paid_along(network, &route.walk, from, to);
+    let steps = if request.steps { steps_text(network, request, &route.walk, &paid, points) } else { String::new() };
     let list = |of: &dyn Fn(&Cost) -> u64| paid.iter().map(|cost| tenths(of(cost))).collect::<Vec<_>>().join(",");
     for name in ["distance", "duration", "weight", "nodes", "speed"] {
         if request.annotations.iter().any(|asked| asked == name || asked == "true") {
@@ -944,7 +1230,72 @@ fn leg_text(network: &Network, request: &Request, route: &Route, from: Place, to
         }
     }
     let annotation = if members.is_empty() { String::new() } else { format!(",\"annotation\":{{{}}}", members.join(",")) };
-    format!("{{{},\"summary\":\"\",\"steps\":[]{annotation}}}", totals(route.cost))
+    format!("{{{},\"summary\":\"\",\"steps\":[{steps}]{annotation}}}", totals(route.cost))
+}
+
+/// What the driver is told of a leg, step by step. A turn's cost is in the step that holds the vertex behind it.
+fn steps_text(network: &Network, request: &Request, walk: &[u32], paid: &[Cost], points: &[Point]) -> String {
+    let mut begins = vec![(0, "depart", None)];
+    for at in 1..walk.len() {
+        if let Some((kind, modifier)) = maneuver(network, walk[at - 1], walk[at]) {
+            begins.push((at, kind, Some(modifier)));
+        }
+    }
+    let mut told = String::new();
+    for (number, (from, kind, modifier)) in begins.iter().enumerate() {
+        let (from, to) = (*from, begins.get(number + 1).map_or(walk.len(), |next| next.0));
+        let whole = paid[from..to].iter().fold((0, 0), |sum, part| plus(sum, *part));
+        let turned: u64 = (from.max(1)..to).map(|at| penalty(network, walk[at - 1], walk[at])).sum();
+        let before = if from == 0 { 0 } else { vertex_bearing(&network.segments, walk[from - 1] as usize) };
+        let after = vertex_bearing(&network.segments, walk[from] as usize);
+        let modifier = modifier.map_or(String::new(), |modifier| format!(",\"modifier\":\"{}\"", MODIFIERS[modifier].replace('_', " ")));
+        let maneuver = format!("\"bearing_before\":{before},\"bearing_after\":{after},\"type\":\"{kind}\"{modifier}");
+        told += &step_text(network, request, walk[from], plus(whole, (turned, 0)), &points[from..=to], &maneuver);
+        told.push(',');
+    }
+    let (last, end) = (walk[walk.len() - 1], points[points.len() - 1]);
+    let before = vertex_bearing(&network.segments, last as usize);
+    let maneuver = format!("\"bearing_before\":{before},\"bearing_after\":0,\"type\":\"arrive\"");
+    told + &step_text(network, request, last, (0, 0), &[end, end], &maneuver)
+}
+
+/// A step that begins at the first of its points and goes on along a vertex.
+fn step_text(network: &Network, request: &Request, v: u32, cost: Cost, points: &[Point], maneuver: &str) -> String {
+    let (totals, line, name) = (totals(cost), line_text(points, &request.geometries), quoted(name_of(network, v)));
+    let side = if network.left_side { "left" } else { "right" };
+    let place = format!("[{},{}]", degrees(points[0].lon), degrees(points[0].lat));
+    format!(
+        "{{{totals},\"geometry\":{line},\"name\":{name},\"mode\":\"driving\",\"driving_side\":\"{side}\",\
+         \"maneuver\":{{\"location\":{place},{maneuver}}}}}"
+    )
+}
+
+fn name_of(network: &Network, v: u32) -> &str {
+    &network.ways[network.segments[v as usize / 2].way as usize].name
+}
+
+/// What a turn costs.
+fn penalty(network: &Network, d: u32, e: u32) -> u64 {
+    let turns = network.first[d as usize] as usize..network.first[d as usize + 1] as usize;
+    let turn = turns.clone().find(|turn| network.turns[*turn] == e).expect("a turn");
+    u64::from(network.metric.penalties[turn])
+}
+
+/// What the driver is to do at a turn, and the place in `MODIFIERS` of how it bends; None where he just goes on.
+fn maneuver(network: &Network, d: u32, e: u32) -> Option<(&'static str, usize)> {
+    if e == d ^ 1 {
+        return Some(("continue", 4));
+    }
+    let bend = modifier(vertex_bearing(&network.segments, d as usize), vertex_bearing(&network.segments, e as usize));
+    let here = &network.leaving[&ends(&network.segments, d as usize).1];
+    let several = here.iter().filter(|other| **other != d ^ 1).count() >= 2;
+    let same_name = name_of(network, d) == name_of(network, e);
+    match (several, same_name, MODIFIERS[bend]) {
+        (false, true, _) | (true, true, "straight") => None,
+        (false, false, _) | (true, false, "straight" | "slight_right" | "slight_left") => Some(("new name", bend)),
+        (true, true, _) => Some(("continue", bend)),
+        (true, false, _) => Some(("turn", bend)),
+    }
 }
 
 fn totals((duration, length): Cost) -> String {
@@ -963,6 +1314,9 @@ struct Request {
     sources: Vec<usize>,
     destinations: Vec<usize>,
     skip_waypoints: bool,
+    steps: bool,
+    since: u32,
+    wishes: Vec<Wish>,
 }
 
 /// The request of a target, or its first refusal.
@@ -1001,6 +1355,9 @@ fn request(target: &str) -> Result<Request, Refusal> {
         sources: (0..coordinates.len()).collect(),
         destinations: (0..coordinates.len()).collect(),
         skip_waypoints: false,
+        steps: false,
+        since: 0,
+        wishes: vec![Wish::default(); coordinates.len()],
     };
     for option in query.split('&').filter(|_| !query.is_empty()) {
         if option.split_once('=').is_none_or(|(name, value)| !set_option(&mut request, name, value, coordinates.len())) {
@@ -1070,9 +1427,19 @@ fn set_option(request: &mut Request, name: &str, value: &str, count: usize) -> b
         }
         value.split(';').map(|text| text.parse().ok().filter(|i| digits(text) && *i < count)).collect()
     };
+    let wished = |request: &mut Request, set: &dyn Fn(&mut Wish, &str) -> Option<()>| {
+        let entries: Vec<&str> = value.split(';').collect();
+        entries.len() == count && request.wishes.iter_mut().zip(entries).all(|(wish, entry)| set(wish, entry).is_some())
+    };
     let every = ["distance", "duration", "weight", "nodes", "speed"];
     match (request.service.as_str(), name) {
         (_, "skip_waypoints") if ["true", "false"].contains(&value) => request.skip_waypoints = value == "true",
+        (_, "since") if value.bytes().all(|byte| byte.is_ascii_digit()) && value.parse::<u32>().is_ok() => {
+            request.since = value.parse().unwrap_or(0);
+        }
+        (_, "radiuses") => return wished(request, &set_radius),
+        (_, "bearings") => return wished(request, &set_bearing),
+        ("route", "steps") if ["true", "false"].contains(&value) => request.steps = value == "true",
         ("nearest", "number") if digits(value) && value.bytes().any(|byte| byte != b'0') => request.number = value.parse().unwrap_or(0),
         ("route", "overview") if ["simplified", "full", "false"].contains(&value) => request.overview = value.to_string(),
         ("route", "geometries") if ["polyline", "polyline6", "geojson"].contains(&value) => request.geometries = value.to_string(),
@@ -1087,6 +1454,31 @@ fn set_option(request: &mut Request, name: &str, value: &str, count: usize) -> b
         _ => return false,
     }
     true
+}
+
+/// Metres without sign, one digit after the point kept; 2^29 decimetres are as good as no limit.
+fn set_radius(wish: &mut Wish, text: &str) -> Option<()> {
+    wish.radius = None;
+    if !["", "unlimited"].contains(&text) {
+        let (negative, whole, fraction) = decimal(text.as_bytes())?;
+        let size = kept(whole, fraction, 1).unsigned_abs();
+        wish.radius = (size < 1 << 29).then_some(size);
+        return (!negative).then_some(());
+    }
+    Some(())
+}
+
+fn set_bearing(wish: &mut Wish, text: &str) -> Option<()> {
+    wish.bearing = None;
+    if !text.is_empty() {
+        let (value, range) = text.split_once(',')?;
+        let number = |text: &str, most: u32| {
+            let digits = text.bytes().all(|byte| byte.is_ascii_digit());
+            text.parse::<u32>().ok().filter(|number| digits && *number <= most)
+        };
+        wish.bearing = Some((number(value, 360)?, number(range, 180)?));
+    }
+    Some(())
 }
 
 /// A text with its percent escapes read; a `%` without two hexadecimal digits stays.

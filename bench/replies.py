@@ -1,23 +1,36 @@
 #!/usr/bin/env python3
 """Measures and compares replies of all services against the baseline of this folder, in one run.
 
-    bench/replies.py PROGRAM SETTINGS OPL [OPL ..]
+    bench/replies.py [--traffic SPEEDS,TURNS] [--tangles N] [--only-compare] [--baseline FILE] PROGRAM SETTINGS OPL [OPL ..]
 
-PROGRAM is the built road_router. On each map random places are asked for: `nearest` with one and with ten results,
-tables of 100 by 100, routes without a line, with a simplified line, and with a full one and all annotations. Then
-come long roads, of 1,000 to 10,000 segments, whose whole line and annotations are asked for.
+PROGRAM is the built road_router, or a command of several words that runs it, `ask` and what follows left out. On each
+map random places are asked for: `nearest` with one and with ten results, tables of 100 by 100, routes without a
+line, with a simplified line, with a full one and all annotations, and with steps. Then come long roads, of 1,000 to
+10,000 segments: one way, whose whole line and annotations are asked for, and a chain of ways of other names, whose
+steps are asked for.
+
+Then traffic: on each map, and on N small maps made to be hard (20), lines of TRAFFIC with drawn files, good ones in
+all forms of CSV and faulty ones, and with the files that are named, stand between requests of all services. What is
+wrong with a faulty file is known from the drawing, so both have to tell that.
 
 Printed are processor microseconds a request of both (the start-up taken away), the ratio, the bytes of a reply, and
 how many replies were equal byte for byte. Two least walks may differ where costs are the same: such replies are
-compared without their lines and annotations, and counted apart. The status is 1 where any other reply differs.
+compared without their lines, annotations and steps, and counted apart. In every reply the steps of a leg have to
+cost what the leg costs. The status is 1 where any other reply differs. With --only-compare nothing is timed.
 """
+import argparse
 import json
 import os
 import random
+import re
 import resource
+import shlex
 import subprocess
 import sys
 import tempfile
+
+from reading import tangle
+import traffic_rows
 
 HERE = os.path.dirname(os.path.abspath(__file__))
 
@@ -41,13 +54,28 @@ def without_walks(reply):
         route.pop("geometry", None)
         for leg in route["legs"]:
             leg.pop("annotation", None)
+            leg.pop("steps", None)
     return value
+
+
+def steps_add_up(reply):
+    """Whether the steps of each leg cost together what the leg does, and begin where the one before ends."""
+    for leg in (leg for route in json.loads(reply).get("routes", []) for leg in route["legs"] if leg["steps"]):
+        for part in ("distance", "duration", "weight"):
+            if round(10 * sum(step[part] for step in leg["steps"])) != round(10 * leg[part]):
+                return False
+        lines = [step["geometry"] for step in leg["steps"]]
+        if isinstance(lines[0], dict) and any(a["coordinates"][-1] != b["coordinates"][0] for a, b in zip(lines, lines[1:])):
+            return False
+    return True
 
 
 def compare(ours, theirs):
     """How many replies are equal, how many differ in the walk alone, and the first that differs otherwise."""
     equal = ties = 0
     for mine, other in zip(ours, theirs):
+        if not steps_add_up(mine):
+            return equal, ties, (mine, "steps that don't add up")
         if mine == other:
             equal += 1
         elif without_walks(mine) == without_walks(other):
@@ -103,6 +131,9 @@ def on_map(runs, opl):
         ("route without a line", [f"GET /route/v1/car/{pair}?overview=false" for pair in pairs]),
         ("route with a simplified line", [f"GET /route/v1/car/{pair}" for pair in pairs]),
         ("route with all", [f"GET /route/v1/car/{pair}?overview=full&geometries=geojson&annotations=true" for pair in pairs]),
+        ("route with steps", [f"GET /route/v1/car/{pair}?overview=false&steps=true" for pair in pairs]),
+        ("the same in polyline6", [f"GET /route/v1/car/{pair}?overview=false&steps=true&geometries=polyline6" for pair in pairs]),
+        ("route with all and steps", [f"GET /route/v1/car/{pair}?overview=full&geometries=geojson&annotations=true&steps=true" for pair in pairs]),
     ]
     return [measure(name, runs, start, lines) for name, lines in kinds]
 
@@ -119,30 +150,167 @@ def road(segments, folder):
     return opl
 
 
+def chain(segments, folder):
+    """A road that winds northwards, each segment a way of its own name, with a lane to the side at every third node."""
+    opl = os.path.join(folder, f"chain{segments}.opl")
+    chance = random.Random(segments)
+    ways = []
+    with open(opl, "w", encoding="ascii") as out:
+        for number in range(segments + 1):
+            lon = 13 + chance.uniform(-1, 1) * 0.002
+            out.write(f"n{number + 1} x{lon:.6f} y{40 + number * 0.001:.6f}\n")
+            if number % 3 == 1:
+                out.write(f"n{number + 1000001} x{lon + 0.0005:.6f} y{40 + number * 0.001:.6f}\n")
+                ways.append(f"w{number + 1000001} Thighway=residential,name=Lane%20%{number} Nn{number + 1},n{number + 1000001}\n")
+        for number in range(segments):
+            out.write(f"w{number + 1} Thighway=residential,name=Street%20%{number} Nn{number + 1},n{number + 2}\n")
+        out.write("".join(ways))
+    return opl
+
+
 def on_roads(programs, settings, folder):
     fine = []
     for segments in (1000, 2000, 5000, 10000):
-        opl = road(segments, folder)
-        runs = [[program, "ask", opl, settings] for program in programs]
-        start = [min(seconds(words, [])[0] for _ in range(3)) for words in runs]
-        ends = f"13,40;13,{40 + segments * 0.001:.3f}"
-        for name, query in (("without a line", "overview=false"), ("simplified", ""), ("with all", "overview=full&annotations=true")):
-            target = f"GET /route/v1/car/{ends}" + ("?" + query if query else "")
-            fine.append(measure(f"road of {segments} segments, {name}", runs, start, [target] * 20))
+        for opl, kinds in (
+            (road(segments, folder), [("road", "without a line", "overview=false"), ("road", "simplified", ""), ("road", "with all", "overview=full&annotations=true")]),
+            (chain(segments, folder), [("chain", "without a line", "overview=false"), ("chain", "with steps", "overview=false&steps=true"), ("chain", "with steps in geojson", "overview=false&steps=true&geometries=geojson")]),
+        ):
+            runs = [[*program, "ask", opl, settings] for program in programs]
+            start = [min(seconds(words, [])[0] for _ in range(3)) for words in runs]
+            ends = f"13,40;13,{40 + segments * 0.001:.3f}"
+            for what, name, query in kinds:
+                target = f"GET /route/v1/car/{ends}" + ("?" + query if query else "")
+                fine.append(measure(f"{what} of {segments} segments, {name}", runs, start, [target] * 20))
+    return fine
+
+
+# ---- traffic ----
+
+def requests(chance, place, count):
+    """Requests of all services at random places, with what depends on a metric asked for."""
+    lines = []
+    for _ in range(count):
+        a, b, c = place(), place(), place()
+        line = chance.choice(["overview=false", "overview=full", "overview=simplified"])
+        form = chance.choice(["polyline", "polyline6", "geojson"])
+        told = chance.choice(["&steps=true", "&steps=true", "&steps=true&annotations=true", "&annotations=nodes,duration", "", "&steps=false"])
+        bearing = f"{chance.randrange(361)},{chance.choice([0, 10, 45, 90, 180])}"
+        lines.append("GET " + chance.choice([
+            f"/route/v1/car/{a};{b}?{line}&geometries={form}{told}",
+            f"/route/v1/car/{a};{b}?{line}&geometries={form}{told}",
+            f"/route/v1/car/{a};{b};{a};{c}?{line}&geometries={form}{told}",
+            f"/route/v1/car/{a};{a}?{line}&geometries={form}{told}",
+            f"/route/v1/car/{a};{b}?{line}{told}&bearings={bearing};&since={chance.randrange(6)}",
+            f"/nearest/v1/car/{a}?number=3&bearings={bearing}",
+            f"/nearest/v1/car/{a}?radiuses={chance.choice(['0', '5.19', '80', 'unlimited', ''])}&since={chance.randrange(6)}",
+            f"/table/v1/car/{a};{b};{c}?annotations=duration,distance",
+        ]))
+    return lines
+
+
+def traffic_lines(chance, opl, rows, folder, named):
+    """Lines of TRAFFIC, the files behind them, and of each the reply as far as the drawing knows it, as a pattern."""
+    pairs, around = traffic_rows.meetings(opl)
+    lines = [(f"TRAFFIC {' '.join(files)}", b'."code":"Ok","data_version":"\\d+","unmatched":\\d+.') for files in named]
+    for number in range(12):
+        speeds = traffic_rows.speed_rows(chance, pairs, chance.choice([0, 1, rows, rows])) + chance.sample(traffic_rows.SPEED_EDGES, 2)
+        turns = traffic_rows.turn_rows(chance, around, chance.choice([0, 1, rows, rows])) + chance.sample(traffic_rows.TURN_EDGES, 2)
+        wrong = chance.choice(["", "", "speeds", "turns", "both"])
+        texts = [traffic_rows.dressed(chance, speeds), traffic_rows.dressed(chance, turns)]
+        told = b'."code":"Ok","data_version":"\\d+","unmatched":\\d+.'
+        if wrong in ("turns", "both"):
+            texts[1], row, kind = traffic_rows.faulty(chance, turns, traffic_rows.TURN_FAULTS)
+            told = f'."code":"Refused","file":"turns","row":{row},"kind":"{kind}".'.encode()
+        if wrong in ("speeds", "both"):
+            texts[0], row, kind = traffic_rows.faulty(chance, speeds, traffic_rows.SPEED_FAULTS)
+            told = f'."code":"Refused","file":"speeds","row":{row},"kind":"{kind}".'.encode()
+        names = [os.path.join(folder, f"{name}{number}.csv") for name in ("speeds", "turns")]
+        for name, text in zip(names, texts):
+            with open(name, "wb") as out:
+                out.write(text)
+        if not wrong and chance.random() < 0.2:
+            names[chance.randrange(2)] = "-"
+        lines.append((f"TRAFFIC {names[0]} {names[1]}", told))
+    lines += [("TRAFFIC - -", b'."code":"Ok","data_version":"\\d+","unmatched":0.')]
+    lines += [(line, b'."code":"BadRequest".') for line in ("TRAFFIC -", "TRAFFIC", "TRAFFIC - - -", "TRAFFIC  - -", "TRAFFIC -  -", "TRAFFIC - - ", "TRAFFIC -\t-", "traffic - -", " TRAFFIC - -")]
+    chance.shuffle(lines)
+    return lines
+
+
+def on_traffic(name, runs, opl, place, rows, each, seed, named=()):
+    """Compares what both reply to requests between lines of TRAFFIC."""
+    chance = random.Random(seed)
+    with tempfile.TemporaryDirectory() as folder:
+        lines, known = requests(chance, place, each), {}
+        for line, told in traffic_lines(chance, opl, rows, folder, named):
+            known[len(lines)] = told
+            lines += [line, *requests(chance, place, each)]
+        replies = [seconds(words, lines)[1] for words in runs]
+        equal, ties, wrong = compare(*replies)
+        for at, told in known.items():
+            if not re.fullmatch(told.decode(), replies[0][at]):
+                wrong = wrong or (replies[0][at], told.decode())
+        codes = [reply.split('"')[3] for reply in replies[0]]
+        counts = ", ".join(f"{codes.count(code)} {code}" for code in sorted(set(codes)))
+        print(f"{name}: {len(known)} lines of traffic and {len(lines) - len(known)} requests ({counts}); {equal} equal, {ties} of another walk at the same cost")
+        if wrong:
+            at = replies[0].index(wrong[0])
+            keep = tempfile.mkdtemp(prefix="replies-differ-")
+            subprocess.run(["cp", "-R", folder, opl, keep], check=True)
+            with open(os.path.join(keep, "lines.txt"), "w", encoding="utf-8") as out:
+                out.write("".join(line + "\n" for line in lines))
+            print("DIFFERENT at line", at + 1, lines[at], "program", wrong[0][:1500], "baseline", wrong[1][:1500], f"kept in {keep}", sep="\n")
+    return wrong is None
+
+
+def near_nodes(chance, points):
+    def place():
+        lon, lat = chance.choice(points)
+        lon, lat = lon + chance.uniform(-1, 1) * 0.0005, lat + chance.uniform(-1, 1) * 0.0005
+        return f"{max(-180, min(180, lon)):.6f},{max(-90, min(90, lat)):.6f}"
+    return place
+
+
+def on_tangles(programs, settings, count, folder):
+    fine, opl = [], os.path.join(folder, "tangle.opl")
+    for seed in range(count):
+        points = tangle(seed, opl)
+        runs = [[*program, "ask", opl, settings] for program in programs]
+        fine.append(on_traffic(f"tangle {seed}", runs, opl, near_nodes(random.Random(seed), points), 40, 8, seed))
     return fine
 
 
 def main():
-    program, settings, *maps = sys.argv[1:]
+    parser = argparse.ArgumentParser(usage=__doc__.split("\n\n")[1])
+    parser.add_argument("--traffic", action="append", default=[])
+    parser.add_argument("--tangles", type=int, default=20)
+    parser.add_argument("--only-compare", action="store_true")
+    parser.add_argument("--baseline")
+    parser.add_argument("program")
+    parser.add_argument("settings")
+    parser.add_argument("maps", nargs="*")
+    given = parser.parse_args()
+    program, settings = shlex.split(given.program), os.path.abspath(given.settings)
+    named = [[os.path.abspath(name) for name in files.split(",")] for files in given.traffic]
     with tempfile.TemporaryDirectory() as folder:
-        baseline = os.path.join(folder, "baseline")
-        subprocess.run(["rustc", "--edition", "2024", "-C", "opt-level=3", os.path.join(HERE, "baseline.rs"), "-o", baseline], check=True)
-        fine = []
-        for opl in maps:
+        baseline = given.baseline or os.path.join(folder, "baseline")
+        if not given.baseline:
+            subprocess.run(["rustc", "--edition", "2024", "-C", "opt-level=3", os.path.join(HERE, "baseline.rs"), "-o", baseline], check=True)
+        programs, fine = (program, [baseline]), []
+        for opl in map(os.path.abspath, given.maps):
             print(f"== {os.path.basename(opl)}")
-            fine += on_map([[one, "ask", opl, settings] for one in (program, baseline)], opl)
-        print("== roads")
-        fine += on_roads((program, baseline), settings, folder)
+            runs = [[*one, "ask", opl, settings] for one in programs]
+            if not given.only_compare:
+                fine += on_map(runs, opl)
+            (west, east), (south, north) = extent(opl)
+            chance = random.Random(3)
+            place = lambda: f"{chance.uniform(west, east):.6f},{chance.uniform(south, north):.6f}"
+            fine.append(on_traffic("traffic", runs, opl, place, 2000, 20, 1, named))
+        if not given.only_compare:
+            print("== roads")
+            fine += on_roads(programs, settings, folder)
+        print("== small maps made to be hard")
+        fine += on_tangles(programs, settings, given.tangles, folder)
     sys.exit(0 if all(fine) else 1)
 
 

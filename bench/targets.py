@@ -27,7 +27,7 @@ def options(count, last_one):
         "approaches": ";".join(["unrestricted"] * count),
         "hints": ";" * (count - 1),
     }
-    few = "generate_hints=false&skip_waypoints=true&snapping=default&since=0&alternatives=2&overview=false"
+    few = "generate_hints=false&skip_waypoints=true&snapping=default&since=0&alternatives=2&steps=true&annotations=nodes,speed&geometries=geojson&overview=false"
     return "&".join([f"{name}={text}" for name, text in many.items()] + [few, last_one])
 
 
