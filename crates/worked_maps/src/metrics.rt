@@ -4,11 +4,10 @@ ghost use Rattle.std.specs.Prelude.{◌≡◌, ◌*◌, length};
 
 use crate::towns::{add_nodes, add_way, bend, crossing, profile_of};
 use edge_graph::Network;
-use metric_make::{BaseMetric, base, metric};
+use metric_make::{BaseMetric, base};
 use road_base::Object;
 use search_graph::DurLen;
 use std::alloc::{AllocError, Global};
-use traffic_files::{read_speeds, read_turns};
 
 const CAR: &str =
     "name = \"car\"\nvehicle = \"motorcar\"\nu_turn_penalty = 200\n[speeds]\nresidential = 40\n";
@@ -64,27 +63,6 @@ fn costs_of(alloc: Global, objects: &[Object], settings: &str) -> Result<String,
     told(alloc, &network, &metric)
 }
 
-// What the vertices and turns of a map cost under two traffic files, and how many rows match nothing.
-fn costs_under(
-    alloc: Global,
-    objects: &[Object],
-    speeds: &[u8],
-    turns: &[u8],
-) -> Result<String, AllocError> {
-    let Ok(network) = Network::build(alloc, objects, &profile_of(alloc, WITH_PENALTIES)?) else {
-        return Err(AllocError);
-    };
-    let Ok(speeds) = read_speeds(alloc, speeds) else {
-        return Err(AllocError);
-    };
-    let Ok(turns) = read_turns(alloc, turns) else {
-        return Err(AllocError);
-    };
-    let metric = metric(alloc, &network, speeds.as_slice(), turns.as_slice())?;
-    let costs = told(alloc, &network, &metric)?;
-    format!(in alloc; "{costs}| {}", metric.unmatched())
-}
-
 // 1111 decimetres at 40 km/h are 99.99 deciseconds. The turns are 0-2, 2-3 and 3-2; the latter two turn
 // back at the ends.
 #[test]
@@ -120,66 +98,6 @@ fn bends_and_signals_have_their_penalties(rt: HostRuntime) -> Result<(), AllocEr
     assert_eq!(rt;
         bent.as_str(),
         "99/1111 99/1111 99/1111 99/1111 | 0/0 200/0 200/0 0/0 "
-    );
-    Ok(())
-}
-
-// At 1 km/h 1111 decimetres are 3999.6 deciseconds. The street from node 1 to node 2 is one-way, so that a row
-// the other way round matches nothing; nor does a turn back at node 2, of which there is none but from node 3.
-#[test]
-fn the_last_row_for_a_vertex_or_a_turn_decides(rt: HostRuntime) -> Result<(), AllocError> {
-    let alloc = rt.alloc();
-    let map = streets(alloc)?;
-    let cases: [(&[u8], &[u8], &str); 9] = [
-        (b"", b"", "99/1111 - 1/1 1/1 | 0/0 200/0 200/0 | 0"),
-        (b"1,2,1", b"", "3999/1111 - 1/1 1/1 | 0/0 200/0 200/0 | 0"),
-        (
-            b"1,2,0\n1,9,20\n1,2,20",
-            b"",
-            "199/1111 - 1/1 1/1 | 0/0 200/0 200/0 | 1",
-        ),
-        (b"1,2,20\n1,2,0", b"", "- - 1/1 1/1 | 0/0 200/0 200/0 | 0"),
-        (
-            b"2,1,20\n2,1,0",
-            b"",
-            "99/1111 - 1/1 1/1 | 0/0 200/0 200/0 | 2",
-        ),
-        (
-            b"",
-            b"1,2,3,5\n2,3,2,0.7",
-            "99/1111 - 1/1 1/1 | 50/0 7/0 200/0 | 0",
-        ),
-        (
-            b"",
-            b"1,2,3,5\n1,2,3,0\n3,2,1,0.5",
-            "99/1111 - 1/1 1/1 | 0/0 200/0 200/0 | 1",
-        ),
-        (b"1,2,0", b"1,2,3,7", "- - 1/1 1/1 | 70/0 200/0 200/0 | 0"),
-        (
-            b"3,2,1000",
-            b"3,2,3,100000\n1,2,1,0.1",
-            "99/1111 - 1/1 1/1 | 0/0 200/0 1000000/0 | 1",
-        ),
-    ];
-    for (speeds, turns, expected) in cases {
-        let got = costs_under(alloc, &map, speeds, turns)?;
-        assert_eq!(rt; got.as_str(), expected);
-    }
-    Ok(())
-}
-
-// The row's penalty counts in place of the bend's and of the signal's together.
-#[test]
-fn a_row_for_a_turn_replaces_the_signal_too(rt: HostRuntime) -> Result<(), AllocError> {
-    let alloc = rt.alloc();
-    let signal = [("highway", "traffic_signals")];
-    let got = costs_under(alloc, &crossing(alloc, &signal)?, b"", b"1,5,4,1")?;
-    let ways = "99/1111 99/1111 99/1111 99/1111 99/1111 99/1111 99/1111 99/1111 | ";
-    let turns =
-        "37/0 30/0 10/0 200/0 200/0 80/0 37/0 30/0 200/0 30/0 80/0 37/0 37/0 30/0 80/0 230/0 ";
-    assert_eq!(rt;
-        got.as_str(),
-        format!(in alloc; "{ways}{turns}| 0")?.as_str()
     );
     Ok(())
 }
