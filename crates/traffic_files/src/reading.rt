@@ -7,7 +7,7 @@ ghost use Rattle.traffic_files.specs.declared.rows.TrafficFault.TheVariants.{Row
 
 use crate::records::{speed_row, turn_row};
 use crate::rows::{RowFault, RowKind, SpeedRow, TrafficFault, TrafficFile, TurnRow};
-use csv::ReaderBuilder;
+use csv::{ByteRecord, ReaderBuilder};
 use std::alloc::Global;
 
 /// The rows of a speeds file, `from_osm_id,to_osm_id,edge_speed_in_km_h[,rate]` each, in file order.
@@ -24,21 +24,25 @@ pub fn read_speeds(alloc: Global, bytes: &[u8]) -> Result<Vec<SpeedRow>, Traffic
     ensures in_range { IfOk result (λ rows. AreSpeedsInRange rows.items) }
     ensures fault { IfErr result (IsFaultOf (SpeedsRead bytes.now)) }
 {
-    let reader = ReaderBuilder::new()
+    let mut reader = ReaderBuilder::new()
         .has_headers(false)
         .flexible(true)
         .from_reader(alloc, bytes);
+    let mut record = ByteRecord::new(alloc);
     let mut rows = Vec::new(alloc);
-    for record in reader.into_byte_records() {
-        let Ok(record) = record else {
+    'records: for _ in 0..u64::MAX {
+        let Ok(more) = reader.read_byte_record(&mut record) else {
             return Err(TrafficFault::Memory);
         };
+        if !more {
+            return Ok(rows);
+        }
         match speed_row(&record) {
             Ok(row) => rows.push(row)?,
             Err(kind) => return Err(fault(TrafficFile::Speeds, rows.len(), kind)),
         }
     }
-    Ok(rows)
+    Err(TrafficFault::Memory)
 }
 
 /// The rows of a turns file, `from_osm_id,via_osm_id,to_osm_id,penalty_in_seconds[,weight]` each, in file order.
@@ -51,21 +55,25 @@ pub fn read_turns(alloc: Global, bytes: &[u8]) -> Result<Vec<TurnRow>, TrafficFa
     ensures in_range { IfOk result (λ rows. ArePenaltiesInRange rows.items) }
     ensures fault { IfErr result (IsFaultOf (TurnsRead bytes.now)) }
 {
-    let reader = ReaderBuilder::new()
+    let mut reader = ReaderBuilder::new()
         .has_headers(false)
         .flexible(true)
         .from_reader(alloc, bytes);
+    let mut record = ByteRecord::new(alloc);
     let mut rows = Vec::new(alloc);
-    for record in reader.into_byte_records() {
-        let Ok(record) = record else {
+    'records: for _ in 0..u64::MAX {
+        let Ok(more) = reader.read_byte_record(&mut record) else {
             return Err(TrafficFault::Memory);
         };
+        if !more {
+            return Ok(rows);
+        }
         match turn_row(&record) {
             Ok(row) => rows.push(row)?,
             Err(kind) => return Err(fault(TrafficFile::Turns, rows.len(), kind)),
         }
     }
-    Ok(rows)
+    Err(TrafficFault::Memory)
 }
 
 // What is wrong with the row behind this many good ones.
