@@ -2,6 +2,8 @@
 //! answered when. Expected texts are this project's rules.
 
 ghost use Rattle.std.specs.Prelude.{◌≡◌, ◌<◌, All, IfOk, OnOk};
+ghost use Rattle.std.specs.Arc.{arc_value};
+ghost use Rattle.control_port.specs.Controlling.{IsOn};
 ghost use Rattle.road_io.specs.DoorOpening.{IsNewDoor};
 ghost use Rattle.road_io.specs.MemoryStates.{conn_state};
 ghost use Rattle.road_io.specs.Views.{IsFreshConn};
@@ -163,6 +165,18 @@ struct Told {
     spent: bool,
 }
 
+// The metric of these roads by the profile alone.
+fn first_metric(
+    rt: &(impl Threads + Sync),
+    alloc: Global,
+    roads: &Roads,
+) -> Result<Arc<Metric>, AllocError>
+    ensures { IfOk result (λ metric. IsOn roads.now (arc_value metric)) }
+{
+    let base = base(alloc, roads.network())?;
+    Ok(Arc::new(alloc, Metric::make(rt, alloc, roads, base)?)?)
+}
+
 // Serves the town through doors that it opens and puts back.
 fn serve_town<
     N: Doors,
@@ -184,8 +198,7 @@ where
     let network = network(alloc)?;
     let grid = Grid::of(alloc, &network)?;
     let roads = Roads::of(alloc, network, &SERVER_LIMITS)?;
-    let base = base(alloc, roads.network())?;
-    let metric = Arc::new(alloc, Metric::make(rt, alloc, &roads, base)?)?;
+    let metric = first_metric(rt, alloc, &roads)?;
     let (mut desk, mut seats) = open::<Metric, J, R>(rt, alloc, history, metric, 0, 2)?;
     let Ok(room) = Vec::with_capacity(alloc, 2) else {
         desk.end(rt);
