@@ -127,6 +127,7 @@ impl Server {
         let mut labels = Labels::new(self.network.read().unwrap().metric.costs.len());
         while !self.stopped.load(Ordering::SeqCst) {
             let Ok((stream, _)) = listener.accept() else { return };
+            let _ = stream.set_nodelay(true);
             if self.stopped.load(Ordering::SeqCst) {
                 return;
             }
