@@ -1,12 +1,11 @@
 -- Which rows the vertices and turns so far have matched.
 use Rattle.std.proofs.Common.{◌≡◌, ℕ, ◌+◌, All, Bool, true, false, cond, List, [], ◌∷◌, ◌++◌, take, Option, Some, None, sym, ap, ◌∙◌}
 use Rattle.std.specs.Prelude.{ℤ, ◌&&◌, ◌||◌, option_map}
-use Rattle.std.specs.List.{list_any, slice_get}
+use Rattle.std.specs.List.{slice_get}
 use Rattle.std.specs.Option.{ForSome}
 use Rattle.std.specs.Ordering.{int_eq}
 use Rattle.std.proofs.lemmas.List.Folds.{list_any-append, list_any_more}
 use Rattle.std.proofs.lemmas.Option.{get_or_from_slice_get, none-some, same_Some, slice_get_within}
-use Rattle.search_graph.specs.declared.costs.DurLen.{DurLen}
 use Rattle.edge_graph.specs.Vertex.{Vertex}
 use Rattle.metric_make.specs.LastRows.{AreMarked, pair_eq, triple_eq}
 use Rattle.metric_make.specs.MetricOf.{cost_at, cost_under}

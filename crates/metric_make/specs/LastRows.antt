@@ -1,5 +1,5 @@
 -- For private functions: the rows of a file by the nodes that they are for.
-use Rattle.std.specs.Prelude.{◌≡◌, ℤ, Bool, true, ◌&&◌, List, Option, Some, None, if◌then◌else◌, option_map, option_and_then}
+use Rattle.std.specs.Prelude.{◌≡◌, ℤ, Bool, ◌&&◌, List, Option, Some, option_and_then}
 use Rattle.std.specs.HashMap.{HashMap, get}
 use Rattle.std.specs.List.{slice_get}
 use Rattle.std.specs.Ordering.{int_eq}

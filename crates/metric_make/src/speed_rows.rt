@@ -19,7 +19,7 @@ pub(crate) fn last_speeds(alloc: Global, rows: &[SpeedRow]) -> Result<LastSpeeds
     ensures rows { IfOk result (λ last. AreLastSpeeds rows.now last) }
     ensures unmatched { IfOk result (λ last. AreMarked pair_eq (λ q. false) last) }
 {
-    let mut last = HashMap::new(alloc);
+    let mut last = HashMap::with_capacity(alloc, rows.len())?;
     for (i, row) in rows.iter().enumerate() {
         last.insert((row.from, row.to), LastRow::unmatched(i))?;
     }

@@ -19,7 +19,7 @@ pub(crate) fn last_turns(alloc: Global, rows: &[TurnRow]) -> Result<LastTurns, A
     ensures rows { IfOk result (λ last. AreLastTurns rows.now last) }
     ensures unmatched { IfOk result (λ last. AreMarked triple_eq (λ q. false) last) }
 {
-    let mut last = HashMap::new(alloc);
+    let mut last = HashMap::with_capacity(alloc, rows.len())?;
     for (i, row) in rows.iter().enumerate() {
         last.insert((row.from, row.via, row.to), LastRow::unmatched(i))?;
     }

@@ -1,6 +1,6 @@
 //! What the vertices of a network cost.
 
-ghost use Rattle.std.specs.Prelude.{◌≡◌, ℤ, ◌+◌, ◌*◌, ◌^◌, ◌<◌, IfOk, OnOk, Some, All, length, map, take, false, not, option_map, count_by};
+ghost use Rattle.std.specs.Prelude.{◌≡◌, ◌+◌, ◌*◌, ◌^◌, ◌<◌, IfOk, OnOk, Some, All, length, map, take, false, not, option_map, count_by};
 ghost use Rattle.std.specs.List.{slice_get};
 ghost use Rattle.std.specs.Option.{ForSome};
 ghost use Rattle.edge_graph.specs.NetworkView.{vertices_of};

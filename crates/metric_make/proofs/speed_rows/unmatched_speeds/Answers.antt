@@ -1,9 +1,8 @@
 -- A row is counted where the last row for its nodes is not matched.
-use Rattle.std.proofs.Common.{◌≡◌, ℤ, Bool, true, false, Some, get_or, length, pos, arith, ◌∙◌, refl, sym, ap}
+use Rattle.std.proofs.Common.{◌≡◌, ℤ, true, false, Some, get_or, pos, arith, ◌∙◌, sym, ap}
 use Rattle.std.specs.Prelude.{not, ◌&&◌}
 use Rattle.std.specs.List.{slice_get}
 use Rattle.std.specs.Ordering.{int_eq}
-use Rattle.std.proofs.lemmas.List.{take_all}
 use Rattle.std.proofs.lemmas.Option.{slice_get-get_or}
 use Rattle.metric_make.specs.LastRows.{pair_eq}
 use Rattle.metric_make.proofs.LastRowLemmas.{count-step, matched-at, pair_eq-itself}

@@ -1,11 +1,10 @@
-use Rattle.std.proofs.Common.{◌≡◌, ℤ, Bool, cond, false, Some, get_or, pos, ◌∙◌, refl, sym, ap, rules, FitsSigned, w64}
+use Rattle.std.proofs.Common.{◌≡◌, ℤ, cond, false, Some, get_or, pos, ◌∙◌, refl, ap, rules, FitsSigned, w64}
 use Rattle.std.specs.HashMap.{get}
-use Rattle.std.specs.List.{slice_get}
 use Rattle.std.specs.Ordering.{int_eq}
 use Rattle.std.specs.Prelude.{◌&&◌}
 use Rattle.std.proofs.lemmas.Int.{to_z-of_z}
 use Rattle.std.proofs.lemmas.Option.{slice_get-get_or}
-use Rattle.metric_make.specs.LastRows.{triple_eq, row_in}
+use Rattle.metric_make.specs.LastRows.{triple_eq}
 use Rattle.metric_make.proofs.LastRowLemmas.{AreMarked-push, row_in-push}
 use Rattle.traffic_files.specs.declared.rows.TurnRow.{TurnRow}
 use Rattle.metric_make.proofs.turn_rows.last_turns.Goals as goal

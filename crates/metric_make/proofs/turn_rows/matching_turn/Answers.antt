@@ -1,5 +1,5 @@
 -- The entry for the three nodes is marked, where there is one; all rows stay.
-use Rattle.std.proofs.Common.{◌≡◌, ℤ, Option, Some, None, refl, sym, subst, ap, ◌∙◌}
+use Rattle.std.proofs.Common.{◌≡◌, Option, Some, None, refl, sym, subst, ap, ◌∙◌}
 use Rattle.std.specs.HashMap.{get, WritesThrough}
 use Rattle.std.specs.Option.{IsSome}
 use Rattle.std.proofs.lemmas.Int.{to_z-of_z}

@@ -1,7 +1,6 @@
 -- A turn costs what the row for it says, or the two parts of the profile's penalty.
-use Rattle.std.proofs.Common.{◌≡◌, ℕ, ◌<◌, ◌≤◌, ◌*◌, ◌++◌, ◌∷◌, [], List, take, length, ◌∙◌, Some, arith, rules, subst, sym, ap}
+use Rattle.std.proofs.Common.{◌≡◌, ℕ, ◌<◌, ◌≤◌, ◌*◌, List, take, length, ◌∙◌, Some, arith, rules, subst, sym, ap}
 use Rattle.std.specs.List.{slice_get}
-use Rattle.std.specs.Option.{ForSome}
 use Rattle.std.proofs.lemmas.List.{take_all}
 use Rattle.std.proofs.lemmas.List.Elements.{All-push}
 use Rattle.list_lemmas.proofs.Gets.{get_some}
@@ -17,7 +16,6 @@ use Rattle.metric_make.specs.TurnParts.{row_at}
 use Rattle.metric_make.proofs.CostLemmas.{penalty-parts, turn-step}
 use Rattle.metric_make.proofs.LastRowLemmas.{take-push}
 use Rattle.metric_make.proofs.MatchLemmas.{row_at-holds}
-use Rattle.traffic_files.specs.declared.rows.TurnRow.{TurnRow}
 use Rattle.metric_make.proofs.turns.costs_by.Goals as goal
 
 pub cost_under-requires-clause-row : goal.cost_under-requires-clause-row

@@ -1,5 +1,5 @@
 -- A turn has matched the rows for its nodes.
-use Rattle.std.proofs.Common.{◌≡◌, ℕ, ℤ, List, [], ◌∷◌, ◌++◌, arith, rules, sym, ap, ◌∙◌, FitsSigned, w64}
+use Rattle.std.proofs.Common.{◌≡◌, ℤ, arith, rules, sym, ap, ◌∙◌, FitsSigned, w64}
 use Rattle.std.specs.Prelude.{◌||◌}
 use Rattle.std.proofs.lemmas.Int.{to_z-of_z}
 use Rattle.list_lemmas.proofs.Gets.{get_some}

@@ -1,5 +1,5 @@
 -- A vertex that is permitted has matched the rows for its nodes.
-use Rattle.std.proofs.Common.{◌≡◌, ℤ, take, arith, rules, sym, ◌∙◌, FitsSigned, w64}
+use Rattle.std.proofs.Common.{take, arith, rules, ◌∙◌, FitsSigned, w64}
 use Rattle.std.specs.Prelude.{◌||◌}
 use Rattle.std.proofs.lemmas.Int.{to_z-of_z}
 use Rattle.list_lemmas.proofs.Gets.{get_some}
