@@ -1,9 +1,9 @@
 -- What the control door leaves.
-use Rattle.std.proofs.Common.{◌≡◌, ◌∙◌, ◌⊎◌, ◌↔◌, ℕ, true, false, true≢false, List, [], ◌∷◌, ◌++◌, Option, None, Some, IsNone, IfSome, inl, inr, refl, sym, ap, subst, arith}
+use Rattle.std.proofs.Common.{◌≡◌, ◌∙◌, ◌⊎◌, ◌↔◌, ℕ, true, false, true≢false, List, [], ◌∷◌, ◌++◌, Option, None, Some, IsNone, IfSome, inl, inr, refl, sym, subst, arith}
 use Rattle.std.proofs.lemmas.Option.{same_Some}
 use Rattle.control_port.specs.Controlling.{Board}
 use Rattle.customized.specs.Framing.{RoadsView}
-use Rattle.door_service.specs.Leading.{Leads, LedToEnd, LedToStop, TendGives}
+use Rattle.door_service.specs.Leading.{LedToEnd, LedToStop, TendGives}
 use Rattle.door_service.specs.Serving.{Tended}
 use Rattle.door_service.specs.declared.turns.End.{End}
 use Rattle.door_service.specs.declared.turns.End.TheVariants.{Broken, Stopped, UsedUp}

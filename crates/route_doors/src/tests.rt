@@ -135,10 +135,22 @@ fn new_flags(alloc: Global) -> Result<Flags, AllocError> {
 fn doors_of(alloc: Global, flags: &Flags) -> Result<MemDoors<FlagConn<MemConn>>, AllocError> {
     let mut queries = Vec::new(alloc);
     push_door(alloc, &mut queries, NEAREST, &flags.begun, &flags.other)?;
-    push_door(alloc, &mut queries, NEAREST_SINCE, &flags.published, &flags.answered)?;
+    push_door(
+        alloc,
+        &mut queries,
+        NEAREST_SINCE,
+        &flags.published,
+        &flags.answered,
+    )?;
     let mut control = Vec::new(alloc);
     push_conn(alloc, &mut control, PUBLISH, &flags.arrived, &flags.other)?;
-    push_conn(alloc, &mut control, PUBLISH_AND_STOP, &flags.begun, &flags.published)?;
+    push_conn(
+        alloc,
+        &mut control,
+        PUBLISH_AND_STOP,
+        &flags.begun,
+        &flags.published,
+    )?;
     push_conn(alloc, &mut control, PUBLISH, &flags.begun, &flags.other)?;
     let control = QueueDoor::of(alloc, control, Vec::new(alloc))?;
     Ok(MemDoors::of(alloc, queries, control, Vec::new(alloc)))
@@ -183,13 +195,7 @@ fn serve_town<
     G: Gate + Sync,
     J: Naming + Send + Sync,
     R: Threads + Wait + Net<Listener = TcpListener, Stream = TcpStream> + Sync,
->(
-    rt: &R,
-    alloc: Global,
-    gate: &G,
-    doors: &mut N,
-    history: History<Metric>,
-) -> Result<Told, Fail>
+>(rt: &R, alloc: Global, gate: &G, doors: &mut N, history: History<Metric>) -> Result<Told, Fail>
 where
     N::Door: Send,
     <N::Door as Door>::Conn: Send,
@@ -212,7 +218,9 @@ where
             return Err(Fail::from("no doors"));
         }
     };
-    let served = serve(rt, alloc, &roads, &grid, gate, opened, &mut seats, room, &mut desk);
+    let served = serve(
+        rt, alloc, &roads, &grid, gate, opened, &mut seats, room, &mut desk,
+    );
     desk.end(rt);
     let Served {
         connections,
