@@ -1,6 +1,7 @@
 //! How one connection is served, as the loops over doors see it.
 
 ghost use Rattle.std.specs.Prelude.{List};
+ghost use Rattle.std.specs.Thread.{IsSync};
 ghost use mathlib.Core.List.{IsPrefix};
 ghost use Rattle.metric_publish.specs.declared.entry.Entry.{Entry};
 ghost use Rattle.road_io.specs.Views.{IsFreshConn, Transcript};
@@ -58,6 +59,7 @@ pub trait Controlling<V: Drop> {
         desk: &mut P,
         conn: &mut C,
     ) -> Then
+        requires shared { IsSync R.row }
         requires fresh { IsFreshConn (C.state conn.old) }
         requires makes { (x : V) → makes self.now x → P.kin desk.old x }
         ensures rule { rule self.now (P.list desk.old) (C.state conn.new) (P.list desk.new) result }

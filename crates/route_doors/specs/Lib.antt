@@ -1,0 +1,2 @@
+pub mod QueriedLaws
+pub mod RoadDoors
