@@ -3,9 +3,9 @@
 ghost use Rattle.std.specs.Prelude.{◌≡◌, false, IfOk};
 ghost use Rattle.clap.specs.Words.{app_of, rule_of};
 ghost use Rattle.clap.specs.declared.builder.command.Command.TheViews.{out-Command};
-ghost use Rattle.command_words.specs.CommandLine.{file_rule, files_app, road_router};
+ghost use Rattle.command_words.specs.CommandLine.{addresses_app, file_rule, files_app, files_router, option_rule, road_router, serve_app, workers_rule};
 
-use clap::{Arg, ArgAction, Command};
+use clap::{Arg, ArgAction, Command, value_parser};
 use std::alloc::{AllocError, Global};
 
 // A file, which must be named.
@@ -14,6 +14,24 @@ fn file<'a>(alloc: Global, name: &'a str) -> Arg<'a>
     ensures local { result.global ≡ false }
 {
     Arg::new(alloc, name).required(true).action(ArgAction::Set)
+}
+
+// An option of this name with a value.
+fn option<'a>(alloc: Global, name: &'a str) -> Arg<'a>
+    ensures rule { rule_of result ≡ option_rule name.entry.now }
+    ensures local { result.global ≡ false }
+{
+    Arg::new(alloc, name).long(name).action(ArgAction::Set)
+}
+
+// The option for how many workers there are.
+fn workers<'a>(alloc: Global) -> Arg<'a>
+    ensures rule { rule_of result ≡ workers_rule }
+    ensures local { result.global ≡ false }
+{
+    option(alloc, "workers")
+        .default_value("4")
+        .value_parser(value_parser!(u32).range(1..=64))
 }
 
 // A command of this name over a map and settings, by the names of their files.
@@ -26,9 +44,30 @@ fn over_files<'a>(alloc: Global, name: &'a str) -> Result<Command<'a>, AllocErro
         .arg(file(alloc, "settings"))
 }
 
-/// The command line of the program, without the program's name.
-pub fn command_line<'a>(alloc: Global) -> Result<Command<'a>, AllocError>
-    ensures app { IfOk result (λ c. app_of c ≡ road_router) }
+// The command that serves at two addresses.
+fn at_addresses<'a>(alloc: Global) -> Result<Command<'a>, AllocError>
+    ensures app { IfOk result (λ c. app_of c ≡ addresses_app) }
+    ensures local { IfOk result (λ c. (out-Command c).has_globals ≡ false) }
+{
+    over_files(alloc, "serve")?
+        .arg(option(alloc, "listen").required(true))?
+        .arg(option(alloc, "control").required(true))
+}
+
+// The same with what it may be told more.
+fn serving<'a>(alloc: Global) -> Result<Command<'a>, AllocError>
+    ensures app { IfOk result (λ c. app_of c ≡ serve_app) }
+    ensures local { IfOk result (λ c. (out-Command c).has_globals ≡ false) }
+{
+    at_addresses(alloc)?
+        .arg(workers(alloc))?
+        .arg(option(alloc, "segment-speed-file"))?
+        .arg(option(alloc, "turn-penalty-file"))
+}
+
+// The command line of the program, but for serving.
+fn over_lines<'a>(alloc: Global) -> Result<Command<'a>, AllocError>
+    ensures app { IfOk result (λ c. app_of c ≡ files_router) }
     ensures local { IfOk result (λ c. (out-Command c).has_globals ≡ false) }
 {
     Command::new(alloc, "road_router")
@@ -38,4 +77,12 @@ pub fn command_line<'a>(alloc: Global) -> Result<Command<'a>, AllocError>
         .subcommand_required(true)
         .subcommand(over_files(alloc, "check")?)?
         .subcommand(over_files(alloc, "ask")?)
+}
+
+/// The command line of the program, without the program's name.
+pub fn command_line<'a>(alloc: Global) -> Result<Command<'a>, AllocError>
+    ensures app { IfOk result (λ c. app_of c ≡ road_router) }
+    ensures local { IfOk result (λ c. (out-Command c).has_globals ≡ false) }
+{
+    over_lines(alloc)?.subcommand(serving(alloc)?)
 }

@@ -1,11 +1,16 @@
-//! A law of the definitions, for readers.
+//! Laws of the definitions, for readers.
 
-ghost use Rattle.std.specs.Prelude.{◌≡◌, List, [], IsSome};
+ghost use Rattle.std.specs.Prelude.{◌≡◌, List, [], IsSome, Some};
 ghost use Rattle.clap.specs.Words.{Text, fault_of};
 ghost use Rattle.command_words.specs.CommandLine.{road_router};
-ghost use Rattle.command_words.specs.Commands.{command_of};
+ghost use Rattle.command_words.specs.Commands.{Command, HasWorkers, command_of};
 
 /// Words that `clap` takes make a command; so words make none exactly where it refuses them.
 pub fn taken_words_make_a_command()
     ensures { (words : List Text) → fault_of road_router words ≡ [] → IsSome (command_of words) }
+{}
+
+/// Words that make a command which serves make one with 1 to 64 workers.
+pub fn made_servers_have_workers()
+    ensures { (words : List Text) (command : Command) → command_of words ≡ Some command → HasWorkers command }
 {}

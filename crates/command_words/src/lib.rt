@@ -7,8 +7,8 @@ mod command_lines;
 mod laws;
 mod words;
 
-pub use laws::taken_words_make_a_command;
-pub use words::{Words, WordsFault, read_words};
+pub use laws::{made_servers_have_workers, taken_words_make_a_command};
+pub use words::{ServeWords, Words, WordsFault, read_words};
 
 #[cfg(test)]
 mod tests;

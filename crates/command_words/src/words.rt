@@ -1,10 +1,10 @@
 //! The words of the command line.
 
-ghost use Rattle.std.specs.Prelude.{◌≡◌, ◌≢◌, Some, IfOk, IfErr, map, option_map, string_bytes};
+ghost use Rattle.std.specs.Prelude.{◌≡◌, ◌≢◌, codes, Some, IfOk, IfErr, map, option_map, string_bytes};
 ghost use Rattle.std.specs.Option.{option_and_then};
-ghost use Rattle.clap.specs.Words.{FailsBy, fault_of, kind_of, subcommand_of, subcommand_rows_of};
+ghost use Rattle.clap.specs.Words.{FailsBy, fault_of, found_of, kind_of, one_of, rows_of, subcommand_of, subcommand_rows_of};
 ghost use Rattle.command_words.specs.CommandLine.{road_router};
-ghost use Rattle.command_words.specs.Commands.{command_of, command_in, command_named, command_seen};
+ghost use Rattle.command_words.specs.Commands.{HasWorkers, command_of, command_in, command_over, command_seen, number_of, serving_in, serving_of, serving_seen};
 ghost use Rattle.command_words.specs.WordsCause.{IsWordsFault};
 
 use crate::command_lines::command_line;
@@ -13,6 +13,25 @@ use clap::error::ErrorKind;
 use std::alloc::Global;
 use thiserror::Error;
 
+/// What `serve` is told.
+#[derive(Clone, Copy, Debug, PartialEq, Eq)]
+pub struct ServeWords<'a> {
+    /// The name of the file of the map.
+    pub map: &'a str,
+    /// The name of the file of the settings.
+    pub settings: &'a str,
+    /// The address at which queries come in.
+    pub listen: &'a str,
+    /// The address at which the metric is changed and the server stopped.
+    pub control: &'a str,
+    /// How many connections are answered at a time: 1 to 64.
+    pub workers: u32,
+    /// The name of the file of the speed rows of the start.
+    pub speeds: Option<&'a str>,
+    /// The name of the file of the turn rows of the start.
+    pub turns: Option<&'a str>,
+}
+
 /// What the words ask for.
 #[derive(Clone, Copy, Debug, PartialEq, Eq)]
 pub enum Words<'a> {
@@ -20,6 +39,8 @@ pub enum Words<'a> {
     Check(&'a str, &'a str),
     /// To answer lines over the map and the settings in the files of these names.
     Ask(&'a str, &'a str),
+    /// To serve the map at two addresses.
+    Serve(ServeWords<'a>),
 }
 
 /// Why the words were not read.
@@ -43,12 +64,12 @@ fn matches_of<'a>(alloc: Global, words: &'a [String]) -> Result<ArgMatches<'a>, 
 }
 
 // The command of this name over these files, if there is one.
-fn command_named<'a>(
+fn command_over<'a>(
     name: &str,
     map: Option<&'a str>,
     settings: Option<&'a str>,
 ) -> Option<Words<'a>>
-    ensures { option_map command_seen result ≡ command_named name.now (option_map (λ s. s.now) map.entry) (option_map (λ s. s.now) settings.entry) }
+    ensures { option_map command_seen result ≡ command_over name.now (option_map (λ s. s.now) map.entry) (option_map (λ s. s.now) settings.entry) }
 {
     let (Some(map), Some(settings)) = (map, settings) else {
         return None;
@@ -60,22 +81,81 @@ fn command_named<'a>(
     }
 }
 
+// What serves where each of these is there.
+fn serving_of<'a>(
+    map: Option<&'a str>,
+    settings: Option<&'a str>,
+    listen: Option<&'a str>,
+    control: Option<&'a str>,
+    workers: Option<u32>,
+    speeds: Option<&'a str>,
+    turns: Option<&'a str>,
+) -> Option<ServeWords<'a>>
+    ensures { option_map serving_seen result ≡ serving_of (option_map (λ s. s.now) map.entry) (option_map (λ s. s.now) settings.entry)
+        (option_map (λ s. s.now) listen.entry) (option_map (λ s. s.now) control.entry) workers
+        (option_map (λ s. s.now) speeds.entry) (option_map (λ s. s.now) turns.entry) }
+{
+    Some(ServeWords {
+        map: map?,
+        settings: settings?,
+        listen: listen?,
+        control: control?,
+        workers: workers?,
+        speeds,
+        turns,
+    })
+}
+
+// How many workers the matches tell of, if they do.
+fn workers_in(values: &ArgMatches<'_>) -> Option<u32>
+    ensures { result ≡ option_and_then number_of (one_of (codes "workers") (rows_of (found_of values.now))) }
+{
+    values.get_one::<u32>("workers")
+}
+
+// What the matches of `serve` say, if they say enough.
+fn serving_in<'a>(values: &ArgMatches<'a>) -> Option<ServeWords<'a>>
+    ensures { option_map serving_seen result ≡ serving_in (rows_of (found_of values.now)) }
+{
+    serving_of(
+        values.get_str("opl"),
+        values.get_str("settings"),
+        values.get_str("listen"),
+        values.get_str("control"),
+        workers_in(values),
+        values.get_str("segment-speed-file"),
+        values.get_str("turn-penalty-file"),
+    )
+}
+
+// The command of this name with these values, if there is one.
+fn command_named<'a>(name: &str, values: &ArgMatches<'a>) -> Option<Words<'a>>
+    ensures { option_map command_seen result ≡ command_in name.now (rows_of (found_of values.now)) }
+{
+    if name == "serve" {
+        Some(Words::Serve(serving_in(values)?))
+    } else {
+        command_over(name, values.get_str("opl"), values.get_str("settings"))
+    }
+}
+
 // What the matches ask for.
 fn command_in<'a>(matches: &ArgMatches<'a>) -> Option<Words<'a>>
     ensures { option_map command_seen result ≡ option_and_then (λ p. command_in p.0 p.1) (subcommand_rows_of matches.now) }
 {
     match matches.subcommand() {
-        Some((name, values)) => {
-            command_named(name, values.get_str("opl"), values.get_str("settings"))
-        }
+        Some((name, values)) => command_named(name, values),
         None => None,
     }
 }
 
-/// Reads the words, which stand without the program's name: `clap` takes `check OPL SETTINGS` and
-/// `ask OPL SETTINGS`. What it does not take, and only that, is `Unknown`, a call for help too.
+/// Reads the words, which stand without the program's name: `clap` takes `check OPL SETTINGS`,
+/// `ask OPL SETTINGS` and `serve OPL SETTINGS --listen A --control B`, which may have `--workers N` (a
+/// number from 1 to 64, else 4), `--segment-speed-file F` and `--turn-penalty-file F` beside it. What it
+/// does not take, and only that, is `Unknown`, a call for help too.
 pub fn read_words<'a>(alloc: Global, words: &'a [String]) -> Result<Words<'a>, WordsFault>
     ensures read { IfOk result (λ w. command_of (map string_bytes words.entry.now) ≡ Some (command_seen w)) }
+    ensures workers { IfOk result (λ w. HasWorkers (command_seen w)) }
     ensures unknown { IfErr result (IsWordsFault (map string_bytes words.entry.now)) }
 {
     let matches = match matches_of(alloc, words) {

@@ -1,4 +1,4 @@
--- For private functions: what a fault of two traffic files says, and what comes of a metric that is published.
+-- What a fault of two traffic files says; and, for private functions, what comes of a metric that is published.
 use Rattle.std.specs.Prelude.{◌≡◌, ℕ, List, ⊤}
 use Rattle.customized.specs.Framing.{RoadsView}
 use Rattle.metric_make.specs.MetricOf.{MetricView}

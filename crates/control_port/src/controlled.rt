@@ -34,8 +34,8 @@ impl Controlled {
     }
 }
 
-// The file as a reply names it.
-pub(crate) fn file_text(file: TrafficFile) -> &'static str
+/// The file as a reply names it.
+pub fn file_text(file: TrafficFile) -> &'static str
     ensures { result.now ≡ file_text file }
 {
     match file {
@@ -44,8 +44,8 @@ pub(crate) fn file_text(file: TrafficFile) -> &'static str
     }
 }
 
-// The kind of a fault as a reply names it.
-pub(crate) fn kind_text(kind: RowKind) -> &'static str
+/// The kind of a fault as a reply names it.
+pub fn kind_text(kind: RowKind) -> &'static str
     ensures { result.now ≡ kind_text kind }
 {
     match kind {

@@ -100,8 +100,9 @@ fn publish_base<R: Threads + Sync, P: Publishing<Metric, R>>(
     }
 }
 
-// What the vertices and turns of a network cost under the rows of two traffic files.
-fn base_of_files(
+/// What the vertices and turns of a network cost under the rows of two traffic files, of which the speeds file is read
+/// first. `Row` is their first faulty row.
+pub fn base_of_files(
     alloc: Global,
     network: &Network,
     speeds: &[u8],

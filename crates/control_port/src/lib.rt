@@ -13,8 +13,8 @@ mod numbers;
 mod replies;
 
 pub use asking::{Announced, ControlHead, MOST_BYTES};
-pub use controlled::Controlled;
-pub use controls::control;
+pub use controlled::{Controlled, file_text, kind_text};
+pub use controls::{base_of_files, control};
 pub use replies::{BodyRoom, ReplyRoom};
 
 #[cfg(test)]

@@ -34,9 +34,9 @@ pub fn read_named<'a, F: Files>(
     name: Option<&'a str>,
     files: &mut F,
 ) -> Result<Vec<u8>, Unread<'a>>
-    ensures read { IfOk result (λ bytes. AreRead (F.view files.old) (F.view files.new) (named (option_map (λ n. n.now) name) bytes.items)) }
-    ensures bare { IfOk result (λ bytes. IsBare (option_map (λ n. n.now) name) bytes.items) }
-    ensures unread { IfErr result (λ u. IsLeft (F.view files.old) (F.view files.new) (listed (option_map (λ n. n.now) name)) u.name.now u.fault) }
+    ensures read { IfOk result (λ bytes. AreRead (F.view files.old) (F.view files.new) (named (option_map (λ n. n.now) name.entry) bytes.items)) }
+    ensures bare { IfOk result (λ bytes. IsBare (option_map (λ n. n.now) name.entry) bytes.items) }
+    ensures unread { IfErr result (λ u. IsLeft (F.view files.old) (F.view files.new) (listed (option_map (λ n. n.now) name.entry)) u.name.now u.fault) }
 {
     match name {
         Some(name) => read_file(alloc, name, files),
@@ -54,12 +54,11 @@ pub fn read_both<'a, F: Files>(
     ensures read { IfOk result (λ both. AreRead (F.view files.old) (F.view files.new) ((map.now, both.0.items) ∷ (settings.now, both.1.items) ∷ [])) }
     ensures unread { IfErr result (λ u. IsLeft (F.view files.old) (F.view files.new) (map.now ∷ settings.now ∷ []) u.name.now u.fault) }
 {
-    let map_bytes = match read_file(alloc, map, files) {
-        Ok(bytes) => bytes,
-        Err(unread) => return Err(unread),
-    };
-    match read_file(alloc, settings, files) {
-        Ok(settings_bytes) => Ok((map_bytes, settings_bytes)),
+    match read_file(alloc, map, files) {
+        Ok(map_bytes) => match read_file(alloc, settings, files) {
+            Ok(settings_bytes) => Ok((map_bytes, settings_bytes)),
+            Err(unread) => Err(unread),
+        },
         Err(unread) => Err(unread),
     }
 }
