@@ -9,5 +9,5 @@ returns-in-Err-clause-unread g c =
 
 pub returns-in-Err-read_file-clause-unread : goal.returns-in-Err-read_file-clause-unread
 returns-in-Err-read_file-clause-unread g c =
-    left_then (g.F.Files.view c.args.files.now) (g.F.Files.view c.read_file.new.files) (g.F.Files.view c.read_file-2.new.files) ((c.args.map.now, c.in-Ok.map_bytes.items) ∷ []) (c.args.settings.now ∷ []) c.in-Err-read_file.unread.name.now c.in-Err-read_file.unread.fault
+    left_then (g.F.Files.view c.args.files.now) (g.F.Files.view c.read_file.new.files) (g.F.Files.view c.read_file-in-Ok.new.files) ((c.args.map.now, c.in-Ok.map_bytes.items) ∷ []) (c.args.settings.now ∷ []) c.in-Err-read_file.unread.name.now c.in-Err-read_file.unread.fault
     c.in-Ok.ensures.read c.in-Err-read_file.ensures.unread
