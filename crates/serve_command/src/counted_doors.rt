@@ -12,7 +12,7 @@ use std::net::Net;
 pub trait CountedDoors: Doors {
     /// Whether this door has counted a fault.
     fn has_fault(door: &Self::Door) -> bool
-        ensures { IsTrue result ↔ (0 < (Self.Doors.Door.view door.now).faults) };
+        ensures { IsTrue result ↔ (0 < (Self.Door.view door.now).faults) };
 }
 
 impl CountedDoors for NoDoors {
@@ -35,7 +35,7 @@ impl<'a, N: Net> CountedDoors for TcpDoors<'a, N> {
 
 /// Whether one of these doors has counted a fault.
 pub fn any_fault<N: CountedDoors>(queries: &[N::Door], control: &N::Door) -> bool
-    ensures { IsTrue result ↔ (0 < faults_of (door_set (map N.Doors.Door.view queries.now) (N.Doors.Door.view control.now))) }
+    ensures { IsTrue result ↔ (0 < faults_of (door_set (map N.Door.view queries.now) (N.Door.view control.now))) }
 {
     for door in queries {
         if N::has_fault(door) {

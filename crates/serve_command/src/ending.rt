@@ -31,10 +31,10 @@ pub struct Told {
 /// Gives the doors back that were served.
 pub fn take_back<N: CountedDoors>(doors: &mut N, served: Served<N::Door, N::Closer>) -> Told
     requires out { length served.doors.queries.items + 1 ≤ (N.Doors.view doors.old).out }
-    ensures back { BackGives (N.Doors.view doors.old) (door_set (map N.Doors.Door.view served.doors.queries.items) (N.Doors.Door.view served.doors.control)) (N.Doors.view doors.new) }
+    ensures back { BackGives (N.Doors.view doors.old) (door_set (map N.Door.view served.doors.queries.items) (N.Door.view served.doors.control)) (N.Doors.view doors.new) }
     ensures numbers { (result.connections ≡ served.connections) × (result.metric ≡ served.metric) }
     ensures short { result.short ≡ served.short }
-    ensures rose { IsTrue result.rose ↔ (0 < faults_of (door_set (map N.Doors.Door.view served.doors.queries.items) (N.Doors.Door.view served.doors.control))) }
+    ensures rose { IsTrue result.rose ↔ (0 < faults_of (door_set (map N.Door.view served.doors.queries.items) (N.Door.view served.doors.control))) }
 {
     let Served {
         connections,
@@ -59,7 +59,7 @@ pub fn take_back<N: CountedDoors>(doors: &mut N, served: Served<N::Door, N::Clos
 /// Gives the doors back as they were opened.
 pub fn hand_back<N: CountedDoors>(doors: &mut N, opened: Opened<N::Door, N::Closer>)
     requires out { length opened.queries.items + 1 ≤ (N.Doors.view doors.old).out }
-    ensures { BackGives (N.Doors.view doors.old) (door_set (map N.Doors.Door.view opened.queries.items) (N.Doors.Door.view opened.control)) (N.Doors.view doors.new) }
+    ensures { BackGives (N.Doors.view doors.old) (door_set (map N.Door.view opened.queries.items) (N.Door.view opened.control)) (N.Doors.view doors.new) }
 {
     let Opened {
         queries,

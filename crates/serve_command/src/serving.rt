@@ -1,6 +1,6 @@
 //! All that the command does, over what is handed in.
 
-ghost use Rattle.std.specs.Prelude.{◌≡◌, ◌∷◌, [], ◌<◌, ◌≤◌, ◌+◌, ◌^◌, All, length, map};
+ghost use Rattle.std.specs.Prelude.{◌≡◌, ◌⊎◌, ◌∷◌, [], ◌<◌, ◌≤◌, ◌+◌, ◌^◌, All, length, map};
 ghost use Rattle.std.specs.Arc.{arc_value};
 ghost use Rattle.std.specs.Vec.{vec_len, vec_capacity};
 ghost use Rattle.command_words.specs.Commands.{serving_seen};
@@ -8,6 +8,7 @@ ghost use Rattle.metric_publish.specs.Calls.{Each};
 ghost use Rattle.metric_publish.specs.History.{entry};
 ghost use Rattle.control_port.specs.Controlling.{IsOn};
 ghost use Rattle.road_io.specs.DoorOpening.{IsNewDoor};
+ghost use Rattle.road_io.specs.Faults.{FilesRose, OutputRose, Rose};
 ghost use Rattle.road_io.specs.Outside.{outside};
 ghost use Rattle.road_io.specs.Views.{InputView};
 ghost use Rattle.serve_command.specs.InnerEnds.{EndsOpened, EndsOver, EndsStarted};
@@ -65,8 +66,8 @@ where
     requires few { vec_len opened.queries < 2 ^ 32 }
     requires empty { room.items ≡ [] }
     requires room { vec_len opened.queries ≤ vec_capacity room }
-    requires new { All IsNewDoor (map N.Doors.Door.view opened.queries.items) }
-    requires control_new { IsNewDoor (N.Doors.Door.view opened.control) }
+    requires new { All IsNewDoor (map N.Door.view opened.queries.items) }
+    requires control_new { IsNewDoor (N.Door.view opened.control) }
     requires ends { start.now.grid ≡ all_ends start.now.roads.network.segments }
     requires on { IsOn start.now.roads (arc_value start.now.metric) }
     requires seats_begin { Each seats.old.items (λ s. s.seen.token.log ≡ entry 0 (arc_value start.now.metric) ∷ []) }
@@ -327,6 +328,7 @@ where
     requires workers { 0 < what.now.workers }
     ensures ends { (input : InputView) → EndsServe result (serving_seen what.now) (outside (F.view files.old) input (O.view output.old))
         (outside (F.view files.new) input (O.view output.new)) (N.Doors.view doors.old) (N.Doors.view doors.new) }
+    ensures outside { result ≡ Status.Outside → FilesRose (F.view files.old) (F.view files.new) ⊎ (OutputRose (O.view output.old) (O.view output.new) ⊎ Rose (N.Doors.view doors.old).faults (N.Doors.view doors.new).faults) }
 {
     match read_start(alloc, what, files) {
         Ok(read) => serve_over(rt, alloc, what, read, gate, doors, output),
