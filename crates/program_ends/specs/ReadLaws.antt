@@ -9,7 +9,8 @@ use Rattle.road_io.specs.Views.{FilesView}
 use Rattle.road_io.specs.declared.failures.FileFault.{FileFault}
 use Rattle.program_ends.specs.FileReads.{AreBegun, AreContents, AreRead, FileBytes, IsFailed, IsLeft, names_of}
 
-names_append : (xs ys : List FileBytes) → names_of (xs ++ ys) ≡ names_of xs ++ names_of ys
+-- the names of files behind files
+pub names_append : (xs ys : List FileBytes) → names_of (xs ++ ys) ≡ names_of xs ++ names_of ys
 names_append [] ys = refl
 names_append (x ∷ xs) ys = ap (λ (l : List (List ℕ)). x.0 ∷ l) (names_append xs ys)
 

@@ -13,6 +13,8 @@ mod endings;
 mod row_tests;
 mod running;
 #[cfg(test)]
+mod serve_tests;
+#[cfg(test)]
 mod step_tests;
 #[cfg(test)]
 mod tests;

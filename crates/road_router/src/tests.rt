@@ -103,7 +103,7 @@ pub(crate) fn named(
     Ok((Text::copy_of(alloc, name)?, Vec::from_slice(alloc, bytes)?))
 }
 
-fn words(alloc: Global, all: &[&str]) -> Result<Vec<String>, AllocError> {
+pub(crate) fn words(alloc: Global, all: &[&str]) -> Result<Vec<String>, AllocError> {
     let mut words = Vec::new(alloc);
     for word in all {
         words.push(String::from_str(alloc, word)?)?;

@@ -47,7 +47,8 @@ front_of_both_lines r old mid now connections metric one two is_one is_two first
     (subst (λ (t : List ℕ). AppendsFront mid now (line (codes "metric ") t)) is_two last))
     second
 
-closes_then : (before mid after : OutputView) (lines more : List ℕ) → Appends before.written mid.written lines → mid.faults ≡ before.faults → Closes mid after more → Closes before after (lines ++ more)
+-- a text behind another
+pub closes_then : (before mid after : OutputView) (lines more : List ℕ) → Appends before.written mid.written lines → mid.faults ≡ before.faults → Closes mid after more → Closes before after (lines ++ more)
 closes_then before mid after lines more put steady (inl whole) = inl (appends_then before.written mid.written after.written lines more put whole)
 closes_then before mid after lines more put steady (inr part) =
     inr (subst (λ (n : ℕ). Rose n after.faults) steady part.0, appends_front_then before.written mid.written after.written lines more put part.1)

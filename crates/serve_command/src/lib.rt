@@ -14,5 +14,3 @@ mod serving;
 pub use counted_doors::CountedDoors;
 pub use serving::serve;
 
-#[cfg(test)]
-mod tests;

@@ -4,7 +4,7 @@ ghost use Rattle.std.specs.Prelude.{◌≡◌, ◌∷◌, [], ◌++◌, codes, I
 ghost use Rattle.std.specs.Arc.{arc_value};
 ghost use Rattle.std.specs.Fmt.{decimal};
 ghost use Rattle.command_words.specs.Commands.{serving_seen};
-ghost use Rattle.control_port.specs.Controlling.{IsBaseOf};
+ghost use Rattle.control_port.specs.Controlling.{IsBaseOf, IsOn};
 ghost use Rattle.edge_graph.specs.NetworkView.{graph_of};
 ghost use Rattle.map_loading.specs.Loading.{load_of};
 ghost use Rattle.metric_publish.specs.History.{entry};
@@ -117,6 +117,7 @@ fn start_of<R: Threads + Sync>(
     ensures network { IfOk result (λ s. s.roads.network ≡ network) }
     ensures grid { IfOk result (λ s. s.grid ≡ all_ends s.roads.network.segments) }
     ensures metric { IfOk result (λ s. IsFirstMetric s.roads speeds.now turns.now (arc_value s.metric)) }
+    ensures on { IfOk result (λ s. IsOn s.roads (arc_value s.metric)) }
     ensures fault { IfErr result (IsRowFault speeds.now turns.now) }
 {
     let base = start_costs(alloc, &network, speeds, turns)?;
@@ -141,6 +142,7 @@ pub fn prepare<R: Threads + Sync>(
     turns: &[u8],
 ) -> Result<Start, LoadFault>
     ensures opening { IfOk result (λ s. IsOpening (start_bytes map.items settings.now speeds.now turns.now) s.roads (entry 0 (arc_value s.metric) ∷ [])) }
+    ensures on { IfOk result (λ s. IsOn s.roads (arc_value s.metric)) }
     ensures grid { IfOk result (λ s. s.grid ≡ all_ends s.roads.network.segments) }
     ensures fault { IfErr result (IsStartFault (start_bytes map.items settings.now speeds.now turns.now)) }
 {

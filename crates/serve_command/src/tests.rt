@@ -1,1 +1,0 @@
-//! What no clause says: that a run succeeds with ample memory.
