@@ -11,6 +11,9 @@
 //!     baseline mirror OPL SETTINGS    the same, with rows of traffic applied in the program's way: the rows are
 //!                                     kept by their nodes, and each vertex and each turn looks for its own
 //!     baseline check OPL SETTINGS     prints the counts of the program's `check`
+//!     baseline serve OPL SETTINGS LISTEN CONTROL WORKERS      serves over HTTP (`serve_plain.rs`)
+
+mod serve_plain;
 
 use std::cmp::Reverse;
 use std::collections::{BinaryHeap, HashMap, HashSet};
@@ -120,8 +123,8 @@ struct Metric {
 
 fn main() {
     let words: Vec<String> = std::env::args().skip(1).collect();
-    let [command, map, settings] = words.as_slice() else {
-        panic!("usage: baseline ask|mirror|check OPL SETTINGS");
+    let [command, map, settings, more @ ..] = words.as_slice() else {
+        panic!("usage: baseline ask|mirror|check|serve OPL SETTINGS ..");
     };
     let settings = read_settings(&std::fs::read_to_string(settings).expect("settings"));
     let map = read_map(&std::fs::read(map).expect("map"), &settings);
@@ -131,6 +134,7 @@ fn main() {
         "ask" => answer_lines(&mut network, metric_of),
         "mirror" => answer_lines(&mut network, mirrored_metric_of),
         "check" => check(counts, &network),
+        "serve" => serve_plain::serve(network, more),
         _ => panic!("no such command"),
     }
 }

@@ -1,285 +1,203 @@
--- Where `clap` takes the words, they name a command: each file has a value, and the name is one of the two.
-use Rattle.std.proofs.Common.{◌≡◌, ◌<◌, ◌++◌, ◌&&◌, ◌||◌, zero, suc, ℕ, Bool, true, false, not, List, [], ◌∷◌, codes, length, is_some, Option, Some, None, refl, sym, subst, option_map, option_and_then, arith}
+-- Where `clap` takes the words, they name a command: what must be given has a value, the workers are 1 to 64, and
+-- the name is one of the three.
+use Rattle.std.proofs.Common.{◌≡◌, ◌∙◌, ◌≤◌, ◌&&◌, ◌||◌, ℕ, Bool, true, false, not, List, [], ◌∷◌, ap, arith, codes, is_some, Option, Some, None, refl, subst}
 use Rattle.std.specs.Option.{option_map_or}
-use Rattle.std.specs.Prelude.{find, fold, slice_get, if◌then◌else◌}
-use Rattle.std.specs.Str.{bytes_eq, chars}
-use Rattle.clap.specs.Faults.{defaults_fault, bundle_step_fault, check_fault, flag_word_fault, flags_fault, level_fault, other_fault, positional_fault, settle_fault, step_fault, turn_fault, use_fault, walk_fault, word_fault, entered_fault, stray_fault, bundle_fault}
-use Rattle.clap.specs.Kinds.{Kinds, check_kinds, or_else}
-use Rattle.clap.specs.Lexer.{long_of, short_of}
-use Rattle.clap.specs.Simple.{Shape, built, built_leaf, entered, inherited, label_of, rows_at, with_index, filled, names_of}
+use Rattle.std.specs.Prelude.{find, fold, option_map, option_and_then, pos, slice_get}
+use Rattle.std.specs.List.{list_any}
+use Rattle.std.specs.Str.{bytes_eq}
+use Rattle.clap.specs.Faults.{check_fault, defaults_fault, entered_fault, level_fault, settle_fault, walk_fault}
+use Rattle.clap.specs.Kinds.{check_kinds, values_kinds}
+use Rattle.clap.specs.Simple.{Shape, built, built_leaf, entered, inherited, label_of, names_of, rows_at}
 use Rattle.clap.specs.Takes.{is_given}
-use Rattle.clap.specs.Walk.{Held, Outcome, Row, Rule, Step, Text, Waiting, Walk, plain, after_flag, after_step, answers_to, arg_by_id, arg_by_index, at_row, bundle_met, bundle_step, default_rows, finished, first_of, has_row, long_or_other, more_values, next, trailing, subcommand, value}
-use Rattle.clap.specs.Walk.{idle, option, positional, nothing_held, option_word, plain_word, pushed, rows_after, settled, settled_rows, short_or_plain, subcommand_met, subcommand_or_other, to_positional, used, used_by_id, walk, walk_from, walked, walked_from, with_default, with_values, reading_by, without, word_met, is_pending, takes_several}
-use Rattle.clap.specs.Words.{fault_of}
-use Rattle.clap.specs.Facts.{explicit_source}
-use Rattle.clap.specs.declared.parser.matches.ValueSource.{ValueSource}
-use Rattle.clap.specs.declared.parser.matches.ValueSource.TheVariants.{DefaultValue}
+use Rattle.clap.specs.Values.{read_as}
+use Rattle.clap.specs.Walk.{Row, Rule, Text, answers_to, finished, first_of, has_row, nothing_held, one_of, row_text, rows_after, settled, walk, walk_from, with_default}
+use Rattle.clap.specs.Words.{App, fault_of}
 use Rattle.clap.specs.declared.builder.value_parser.Reading.{Reading}
-use Rattle.command_words.specs.CommandLine.{file_rule, files_app, plain_app, road_router}
-use Rattle.command_words.specs.Commands.{Ask, Check, Command, command_in, command_named, command_of}
+use Rattle.clap.specs.declared.builder.value_parser.Reading.TheVariants.{WithoutMinus}
+use Rattle.clap.specs.declared.builder.value_parser.ValueParser.TheVariants as vp
+use Rattle.command_words.specs.CommandLine.{files_app, plain_app, road_router, serve_app}
+use Rattle.command_words.specs.Commands.{Ask, Check, Command, HasWorkers, Serve, command_in, command_of, command_over, number_of, serving_of}
+use Rattle.command_words.proofs.Fits.{AreFit, IsFit, default-fits, default-found, given-first, no-default, numbers-pass, one_value, others-suit, row-found, use-fits}
+use Rattle.command_words.proofs.Numbers.{workers-read}
+use Rattle.command_words.proofs.RowWalks.{AllIn, Holds, Keeps, checks-pass, find-holds, neither, rows-kept}
 
--- each of a list, and what an option holds
-abbrev AllIn : {X : Type 0} → (X → Type 0) → List X → Type 0
-AllIn P [] = Unit {0}
-AllIn P (x ∷ xs) = P x × AllIn P xs
+-- a subcommand as `clap` builds it
+abbrev leaf : App → Shape
+leaf a = built_leaf (inherited plain_app.top a.top)
 
-abbrev Holds : {X : Type 0} → (X → Type 0) → Option X → Type 0
-Holds P None = Unit {0}
-Holds P (Some x) = P x
+-- what must be given is
+abbrev IsMet : List Row → Rule → Type 0
+IsMet rows a = a.required ≡ true → is_given a.id rows ≡ true
 
-find-holds : {X : Type 0} (P : X → Type 0) (p : X → Bool) (xs : List X) → AllIn P xs → Holds P (find p xs)
-find-holds P p [] all = tt
-find-holds P p (x ∷ xs) all = go (p x) (find-holds P p xs all.1)
+none-lacking : (rows : List Row) (rules : List Rule) → list_any (λ a. a.required && not (is_given a.id rows)) rules ≡ false → AllIn (IsMet rows) rules
+none-lacking rows [] e = tt
+none-lacking rows (a ∷ rest) e = go a.required (is_given a.id rows) refl e (none-lacking rows rest)
   where
-    go : (t : Bool) → Holds P (find p xs) → Holds P (if t then Some x else find p xs)
-    go true rest = all.0
-    go false rest = rest
+    go : (needed given : Bool) → is_given a.id rows ≡ given → ((needed && not given) || list_any (λ a. a.required && not (is_given a.id rows)) rest) ≡ false
+        → (list_any (λ a. a.required && not (is_given a.id rows)) rest ≡ false → AllIn (IsMet rows) rest)
+        → ((needed ≡ true → is_given a.id rows ≡ true) × AllIn (IsMet rows) rest)
+    go true true is e others = (λ needed. is, others e)
+    go true false is e others = absurd (cc)
+    go false given is e others = (λ needed. absurd (cc), others e)
 
-append-all : {X : Type 0} (P : X → Type 0) (xs ys : List X) → AllIn P xs → AllIn P ys → AllIn P (xs ++ ys)
-append-all P [] ys one two = two
-append-all P (x ∷ xs) ys one two = (one.0, append-all P xs ys one.1 two)
+no-wants : (help wants : Bool) → check_kinds help false wants ≡ [] → wants ≡ false
+no-wants true wants e = absurd (cc)
+no-wants false true e = absurd (cc)
+no-wants false false e = refl
 
--- nothing is refused only where neither part refuses
-neither : (one two : Kinds) → or_else one two ≡ [] → (one ≡ []) × (two ≡ [])
-neither [] two e = (refl, e)
-neither (k ∷ ks) two e = absurd (cc)
+-- the rows of a subcommand whose words are not refused
+record Taken (s : Shape) (rows : List Row) : Type 0 where
+  fit : AllIn IsFit rows
+  met : AllIn (IsMet rows) s.rules
 
--- each row has a value
-abbrev HasValue : Row → Type 0
-HasValue r = 0 < length r.values
+module _ (id : Text) (index : Option ℕ) (other : bytes_eq id (codes "workers") ≡ false) where
+  -- a file, and an option with no default
+  file-keeps : (s : Shape) → s.args_override_self ≡ false → Keeps IsFit s [] (one_value id None index [] vp.String true)
+  file-keeps s once = record {
+    uses = rw once (use-fits id None index [] vp.String true (λ v vs e. others-suit id _ other v vs));
+    default = default-fits id None index [] vp.String true (λ v vs e. others-suit id _ other v vs) refl;
+  }
 
-longer : (xs ys : List Text) → 0 < length ys → 0 < length (xs ++ ys)
-longer [] ys h = h
-longer (x ∷ xs) ys h = omega arith
+  option-keeps : (required : Bool) (s : Shape) → s.args_override_self ≡ false → Keeps IsFit s [] (one_value id (Some id) index [] vp.String required)
+  option-keeps required s once = record {
+    uses = rw once (use-fits id (Some id) index [] vp.String required (λ v vs e. others-suit id _ other v vs));
+    default = default-fits id (Some id) index [] vp.String required (λ v vs e. others-suit id _ other v vs) refl;
+  }
 
-at_row-all : (id : Text) (change : Row → List Row) (missing rows : List Row)
-    → ((r : Row) → HasValue r → AllIn HasValue (change r)) → AllIn HasValue missing → AllIn HasValue rows → AllIn HasValue (at_row id change missing rows)
-at_row-all id change missing [] changed absent all = absent
-at_row-all id change missing (r ∷ rs) changed absent all =
-    go (bytes_eq r.id id) (at_row-all id change missing rs changed absent all.1)
+abbrev workers : Rule
+workers = one_value (codes "workers") (Some (codes "workers")) None (codes "4" ∷ []) (vp.Signed (pos 1) (pos 64)) false
+
+workers-keeps : (s : Shape) → s.args_override_self ≡ false → Keeps IsFit s [] workers
+workers-keeps s once = record {
+  uses = rw once (use-fits (codes "workers") (Some (codes "workers")) None (codes "4" ∷ []) (vp.Signed (pos 1) (pos 64)) false suits);
+  default = default-fits (codes "workers") (Some (codes "workers")) None (codes "4" ∷ []) (vp.Signed (pos 1) (pos 64)) false suits refl;
+}
   where
-    go : (t : Bool) → AllIn HasValue (at_row id change missing rs) → AllIn HasValue (if t then change r ++ rs else r ∷ at_row id change missing rs)
-    go true rest = append-all HasValue (change r) rs (changed r all.0) all.1
-    go false rest = (all.0, rest)
+    suits : (v : Text) (vs : List Text) → values_kinds false (vp.Signed (pos 1) (pos 64)) (v ∷ vs) ≡ [] → AreFit (codes "workers") WithoutMinus (v ∷ vs)
+    suits v vs e = (omega arith, λ is. (refl, numbers-pass (v ∷ vs) e))
 
-with_values-all : (id : Text) (how : Reading) (s : ValueSource) (values : List Text) (rows : List Row)
-    → 0 < length values → AllIn HasValue rows → AllIn HasValue (with_values id how s values rows)
-with_values-all id how s values rows some all =
-    at_row-all id (more_values s values) _ rows (λ r has. (longer r.values values some, tt)) (some, tt) all
-
-without-all : (id : Text) (rows : List Row) → AllIn HasValue rows → AllIn HasValue (without id rows)
-without-all id rows all = at_row-all id (λ _. []) [] rows (λ r has. tt) tt all
-
--- the arguments of a command over files: its map and its settings, in this order
-abbrev rule : ℕ → Text → Rule
-rule i name = with_index i (filled (file_rule name))
-
-abbrev rules : List Rule
-rules = rule 1 (codes "opl") ∷ rule 2 (codes "settings") ∷ []
-
--- a use that is not refused leaves a value in each row
-abbrev LeavesValues : Rule → Type 0
-LeavesValues a = (values : List Text) (rows : List Row) → use_fault false a values rows ≡ [] → AllIn HasValue rows → AllIn HasValue (used a values rows)
-
-file-leaves : (i : ℕ) (name : Text) → LeavesValues (rule i name)
-file-leaves i name [] rows e all = absurd (cc)
-file-leaves i name (v ∷ vs) rows e all = with_values-all name _ _ (v ∷ vs) (without name rows) (omega arith) (without-all name rows all)
-
-rules-leave : AllIn LeavesValues rules
-rules-leave = (file-leaves 1 (codes "opl"), (file-leaves 2 (codes "settings"), tt))
-
-used-all : (o : Option Rule) (values : List Text) (rows : List Row) → Holds LeavesValues o
-    → option_map_or (λ a. use_fault false a values rows) o [] ≡ [] → AllIn HasValue rows → AllIn HasValue (used_by_id o values rows)
-used-all None values rows leaves e all = all
-used-all (Some a) values rows leaves e all = leaves values rows e all
-
--- what stands between two words: each row has a value, and no character of a bundle is to be passed over
-record Sound (h : Held) : Type 0 where
-  rows : AllIn HasValue h.rows
-  skip : h.skip ≡ 0
-
-settled-all : (pending : Option (Text × List Text)) (rows : List Row)
-    → option_map_or (λ p. option_map_or (λ a. use_fault false a p.1 rows) (arg_by_id rules p.0) []) pending [] ≡ []
-    → AllIn HasValue rows → AllIn HasValue (settled_rows rules pending rows)
-settled-all None rows e all = all
-settled-all (Some p) rows e all = used-all (arg_by_id rules p.0) p.1 rows (find-holds LeavesValues (λ a. bytes_eq a.id p.0) rules rules-leave) e all
-
-settled-sound : (h : Held) → Sound h → settle_fault rules false h ≡ [] → Sound (settled rules h)
-settled-sound h sound e = record { rows = settled-all h.pending h.rows e sound.rows; skip = sound.skip }
-
--- a word that goes to a file
-value-sound : (o : Option Rule) (stray : Kinds) (word : Text) (w : Walk) (h : Held) → Sound h
-    → option_map_or (λ a. positional_fault rules false a h) o stray ≡ [] → Sound (to_positional rules o word w h).held
-value-sound None stray word w h sound e = sound
-value-sound (Some a) stray word w h sound e = go (is_pending a h.pending && takes_several a) e
-  where
-    go : (t : Bool) → (if t then [] else settle_fault rules false h) ≡ [] → Sound (pushed a.id word (if t then h else settled rules h))
-    go true e = record { rows = sound.rows; skip = sound.skip }
-    go false e = let s = settled-sound h sound e in record { rows = s.rows; skip = s.skip }
-
--- a word that is no flag
-option-sound : (o : Option Rule) (id word : Text) (h : Held) → Sound h → Sound (option_word o id word h).0
-option-sound None id word h sound = sound
-option-sound (Some a) id word h sound = record { rows = sound.rows; skip = sound.skip }
-
-plain-sound : (waiting : Waiting) (word : Text) (h : Held) → Sound h → Sound (plain_word rules waiting word h).0
-plain-sound idle word h sound = sound
-plain-sound (option id) word h sound = option-sound (arg_by_id rules id) id word h sound
-plain-sound positional word h sound = sound
-
--- there are no flags, so a bundle that is not refused has no characters
-no-character : (o : Option ℕ) (flags : Text) (so_far : Outcome) (h : Held) (refusals : Text → ℕ → Held → Kinds) (more : Text → ℕ → Outcome → Held → Held × Outcome)
-    → bundle_step_fault rules false o flags 0 h refusals ≡ [] → bundle_step rules o flags 0 so_far h more ≡ (h, so_far)
-no-character None flags so_far h refusals more e = refl
-no-character (Some x) flags so_far h refusals more e = absurd (cc)
-
-no-bundle : (k skip : ℕ) (flags : Text) (so_far : Outcome) (h : Held) → skip ≡ 0
-    → flags_fault rules false k flags skip h ≡ [] → bundle_met rules k flags skip so_far h ≡ (h, so_far)
-unfolding flags_fault bundle_met
-no-bundle zero skip flags so_far h none e = refl
-no-bundle (suc k) zero flags so_far h none e =
-    no-character (slice_get (chars flags) 0) flags so_far h (flags_fault rules false k) (bundle_met rules k) e
-no-bundle (suc k) (suc skip) flags so_far h none e = absurd (omega arith)
-
-short-sound : (o : Option Text) (waiting : Waiting) (word : Text) (h : Held) → Sound h
-    → option_map_or (λ flags. bundle_fault rules false flags h) o [] ≡ [] → Sound (short_or_plain rules waiting word o h).0
-short-sound None waiting word h sound e = plain-sound waiting word h sound
-short-sound (Some flags) waiting word h sound e =
-    let unskipped : Held = record h { skip = 0 } in
-    let is = no-bundle (length flags) h.skip flags plain unskipped sound.skip e in
-    subst (λ (met : Held × Outcome). Sound (after_flag rules waiting word met.0 met.1).0) (sym is)
-    (plain-sound waiting word unskipped (record { rows = sound.rows; skip = refl }))
-
-other-sound : (o : Option (Text × Option Text)) (waiting : Waiting) (word : Text) (h : Held) → Sound h
-    → flag_word_fault rules false o word h ≡ [] → Sound (long_or_other rules waiting word o h).0
-other-sound (Some p) waiting word h sound e = absurd (cc)
-other-sound None waiting word h sound e = short-sound (short_of word) waiting word h sound e
-
--- the command of this name over files, as `clap` builds it
-abbrev leaf : Text → Shape
-leaf name = built_leaf (inherited plain_app.top (files_app name).top)
+-- the map and the settings
+files-keep : (s : Shape) → s.args_override_self ≡ false
+    → AllIn (Keeps IsFit s []) (one_value (codes "opl") None (Some 1) [] vp.String true ∷ one_value (codes "settings") None (Some 2) [] vp.String true ∷ [])
+files-keep s once = (file-keeps (codes "opl") (Some 1) refl s once, (file-keeps (codes "settings") (Some 2) refl s once, tt))
 
 module _ (name : Text) where
-  met-sound : (o : Option Text) (waiting : Waiting) (position : ℕ) (word : Text) (h : Held) → Sound h
-      → other_fault (leaf name) o word h ≡ [] → Sound (subcommand_or_other rules o waiting position word h).0
-  met-sound (Some found) waiting position word h sound e = sound
-  met-sound None waiting position word h sound e = go (bytes_eq word (45 ∷ 45 ∷ [])) e
-    where
-      go : (t : Bool) → (if t then [] else flag_word_fault rules false (long_of word) word h) ≡ []
-          → Sound (if t then (h, trailing position) else long_or_other rules waiting word (long_of word) h).0
-      go true e = sound
-      go false e = other-sound (long_of word) waiting word h sound e
+  files-taken : (words : List Text) → level_fault (leaf (files_app name)) [] nothing_held words false [] ≡ [] → Taken (leaf (files_app name)) (rows_after (leaf (files_app name)).rules [] words)
+  files-taken words e = record {
+    fit = rows-kept IsFit (leaf (files_app name)) [] (files-keep (leaf (files_app name)) refl) words false [] e;
+    met = none-lacking (rows_after (leaf (files_app name)).rules [] words) (leaf (files_app name)).rules (no-wants false _ (checks-pass IsFit (leaf (files_app name)) [] words false [] e));
+  }
 
-  word-sound : (is_trailing : Bool) (waiting : Waiting) (position : ℕ) (word : Text) (h : Held) → Sound h
-      → word_fault (leaf name) [] is_trailing waiting word h ≡ [] → Sound (word_met rules [] is_trailing waiting position word h).0
-  word-sound true waiting position word h sound e = sound
-  word-sound false waiting position word h sound e = met-sound (subcommand_met [] waiting word) waiting position word h sound e
+serve-taken : (words : List Text) → level_fault (leaf serve_app) [] nothing_held words false [] ≡ [] → Taken (leaf serve_app) (rows_after (leaf serve_app).rules [] words)
+serve-taken words e = record {
+  fit = rows-kept IsFit (leaf serve_app) [] (
+    file-keeps (codes "opl") (Some 1) refl (leaf serve_app) refl,
+    (
+      file-keeps (codes "settings") (Some 2) refl (leaf serve_app) refl,
+      (
+        option-keeps (codes "listen") None refl true (leaf serve_app) refl,
+        (
+          option-keeps (codes "control") None refl true (leaf serve_app) refl,
+          (
+            workers-keeps (leaf serve_app) refl,
+            (
+              option-keeps (codes "segment-speed-file") None refl false (leaf serve_app) refl,
+              (option-keeps (codes "turn-penalty-file") None refl false (leaf serve_app) refl, tt),
+            ),
+          ),
+        ),
+      ),
+    ),
+  ) words false [] e;
+  met = none-lacking (rows_after (leaf serve_app).rules [] words) (leaf serve_app).rules (no-wants false _ (checks-pass IsFit (leaf serve_app) [] words false [] e));
+}
 
-  step-sound : (step : Step) (word : Text) (w : Walk) (h : Held) → Sound h
-      → step_fault (leaf name) w.position h step ≡ [] → Sound (after_step rules word w h step).held
-  step-sound (next waiting) word w h sound e = sound
-  step-sound (trailing position) word w h sound e = sound
-  step-sound (subcommand found) word w h sound e = sound
-  step-sound value word w h sound e = value-sound (arg_by_index rules w.position) (stray_fault (leaf name)) word w h sound e
+-- the workers have a row, whose value is a number from 1 to 64
+abbrev HasNumber : List Row → Type 0
+HasNumber rows = (n : ℕ) × (option_and_then number_of (one_of (codes "workers") rows) ≡ Some n) × (1 ≤ n) × (n ≤ 64)
 
-  turn-sound : (stopped : Option (Text × List Text)) (w : Walk) (word : Text) → Sound w.held
-      → (let met = word_met rules [] w.is_trailing w.waiting w.position word w.held in
-      if is_some stopped then [] else or_else (word_fault (leaf name) [] w.is_trailing w.waiting word w.held) (step_fault (leaf name) w.position met.0 met.1)) ≡ []
-      → Sound (walked_from rules [] stopped w word).held
-  turn-sound (Some p) w word sound e = sound
-  turn-sound None w word sound e =
-      let met = word_met rules [] w.is_trailing w.waiting w.position word w.held in
-      let both = neither (word_fault (leaf name) [] w.is_trailing w.waiting word w.held) (step_fault (leaf name) w.position met.0 met.1) e in
-      step-sound met.1 word w met.0 (word-sound w.is_trailing w.waiting w.position word w.held sound both.0) both.1
+first-number : (how : Reading) (values : List Text) → AreFit (codes "workers") how values
+    → (n : ℕ) × (option_and_then number_of (option_map (read_as how) (slice_get values 0)) ≡ Some n) × (1 ≤ n) × (n ≤ 64)
+first-number how [] fit = absurd (omega arith)
+first-number how (v ∷ vs) fit =
+    let own = fit.1 refl in
+    let read = workers-read v own.1.0 in
+    (read.0, rw own.0 read.1, read.2, read.3)
 
-  walk-sound : (words : List Text) (w : Walk) → Sound w.held → walk_fault (leaf name) [] w words ≡ [] → Sound (fold (walked rules []) w words).held
-  unfolding walk_fault walked
-  walk-sound [] w sound e = sound
-  walk-sound (word ∷ words) w sound e =
-      let both = neither (turn_fault (leaf name) [] w word) (walk_fault (leaf name) [] (walked rules [] w word) words) e in
-      walk-sound words (walked rules [] w word) (turn-sound w.stopped w word sound both.0) both.1
+row-number : (rows : List Row) → ((r : Row) × (find (λ r. bytes_eq r.id (codes "workers")) rows ≡ Some r) × (r.id ≡ codes "workers") × IsFit r) → HasNumber rows
+row-number rows found =
+    let read = first-number found.0.reading found.0.values (subst (λ (id : Text). AreFit id found.0.reading found.0.values) found.2 found.3) in
+    (read.0, ap (λ (o : Option Row). option_and_then number_of (option_and_then row_text o)) found.1 ∙ read.1, read.2, read.3)
 
--- defaults are values too
-default-all : (a : Rule) (rows : List Row) → AllIn HasValue rows → AllIn HasValue (with_default rows a)
-default-all a rows all = go (has_row a.id rows)
-  where
-    given : (values : List Text) → AllIn HasValue (default_rows a.id (reading_by a) values rows)
-    given [] = all
-    given (v ∷ vs) = with_values-all a.id (reading_by a) DefaultValue (v ∷ vs) rows (omega arith) all
+abbrev speeds : Rule
+speeds = one_value (codes "segment-speed-file") (Some (codes "segment-speed-file")) None [] vp.String false
 
-    go : (t : Bool) → AllIn HasValue (if t then rows else default_rows a.id (reading_by a) a.defaults rows)
-    go true = all
-    go false = given a.defaults
+abbrev turns : Rule
+turns = one_value (codes "turn-penalty-file") (Some (codes "turn-penalty-file")) None [] vp.String false
 
--- a file that is given has a value
-given-value : (o : Option Row) → Holds HasValue o → option_map_or (λ r. explicit_source r.source) o false ≡ true
-    → is_some (option_and_then (λ r. slice_get r.values 0) o) ≡ true
-given-value None has e = absurd (cc)
-given-value (Some r) has e = go r.values has
-  where
-    go : (values : List Text) → 0 < length values → is_some (slice_get values 0) ≡ true
-    go [] some = absurd (omega arith)
-    go (v ∷ vs) some = refl
+abbrev files_and_addresses : List Rule
+files_and_addresses = one_value (codes "opl") None (Some 1) [] vp.String true ∷ one_value (codes "settings") None (Some 2) [] vp.String true
+    ∷ one_value (codes "listen") (Some (codes "listen")) None [] vp.String true ∷ one_value (codes "control") (Some (codes "control")) None [] vp.String true ∷ []
 
--- where nothing required is missing, both files are given
-both-given : (help one two : Bool) → check_kinds help false ((true && not one) || ((true && not two) || false)) ≡ [] → (one ≡ true) × (two ≡ true)
-both-given true one two e = absurd (cc)
-both-given false true true e = (refl, refl)
-both-given false true false e = absurd (cc)
-both-given false false two e = absurd (cc)
+-- whatever stood before the defaults of the last three
+workers-there : (rows : List Row) → has_row (codes "workers") (with_default (with_default (with_default rows workers) speeds) turns) ≡ true
+workers-there rows =
+    ap (has_row (codes "workers")) (no-default turns (with_default (with_default rows workers) speeds) refl ∙ no-default speeds (with_default rows workers) refl)
+    ∙ default-found workers (codes "4") [] rows refl refl
 
--- both files have values
-abbrev AreNamed : List Row → Type 0
-AreNamed rows = (is_some (first_of (codes "opl") rows) ≡ true) × (is_some (first_of (codes "settings") rows) ≡ true)
-
-rows-named : (rows : List Row) → AllIn HasValue rows → (one : is_given (codes "opl") rows ≡ true) → (two : is_given (codes "settings") rows ≡ true) → AreNamed rows
-rows-named rows all one two = (
-  given-value (find (λ r. bytes_eq r.id (codes "opl")) rows) (find-holds HasValue (λ r. bytes_eq r.id (codes "opl")) rows all) one,
-  given-value (find (λ r. bytes_eq r.id (codes "settings")) rows) (find-holds HasValue (λ r. bytes_eq r.id (codes "settings")) rows all) two,
-)
-
-start-sound : Sound nothing_held
-start-sound = record { rows = tt; skip = refl }
-
-leaf-named : (name : Text) (words : List Text) → level_fault (leaf name) [] nothing_held words false [] ≡ [] → AreNamed (rows_after rules [] words)
-leaf-named name words e =
-    let end = (walk rules [] nothing_held words).held in
-    let rows = finished rules end in
-    let walks = neither (walk_fault (leaf name) [] (walk_from nothing_held) words) _ e in
-    let settles = neither (settle_fault rules false end) _ walks.1 in
-    let checks = neither (defaults_fault (settled rules end).rows rules) (check_fault (leaf name) rows false) settles.1 in
-    let held = walk-sound name words (walk_from nothing_held) start-sound walks.0 in
-    let sound = settled-sound end held settles.0 in
-    let all = default-all (rule 2 (codes "settings")) _ (default-all (rule 1 (codes "opl")) (settled rules end).rows sound.rows) in
-    let given = both-given false (is_given (codes "opl") rows) (is_given (codes "settings") rows) checks.1 in
-    rows-named rows all given.0 given.1
-
--- a command of this name over both files
-command-check : (map settings : Option Text) → is_some map ≡ true → is_some settings ≡ true → (c : Command) × (command_named (codes "check") map settings ≡ Some c)
-command-check (Some map) (Some settings) one two = (Check map settings, refl)
+-- a command over both files
+command-check : (map settings : Option Text) → is_some map ≡ true → is_some settings ≡ true → (c : Command) × (command_over (codes "check") map settings ≡ Some c) × HasWorkers c
+command-check (Some map) (Some settings) one two = (Check map settings, refl, tt)
 command-check None settings one two = absurd (cc)
 command-check (Some map) None one two = absurd (cc)
 
-command-ask : (map settings : Option Text) → is_some map ≡ true → is_some settings ≡ true → (c : Command) × (command_named (codes "ask") map settings ≡ Some c)
-command-ask (Some map) (Some settings) one two = (Ask map settings, refl)
+command-ask : (map settings : Option Text) → is_some map ≡ true → is_some settings ≡ true → (c : Command) × (command_over (codes "ask") map settings ≡ Some c) × HasWorkers c
+command-ask (Some map) (Some settings) one two = (Ask map settings, refl, tt)
 command-ask None settings one two = absurd (cc)
 command-ask (Some map) None one two = absurd (cc)
 
+-- one that serves at both addresses
+command-serve : (map settings listen control : Option Text) (workers : Option ℕ) (speeds turns : Option Text)
+    → is_some map ≡ true → is_some settings ≡ true → is_some listen ≡ true → is_some control ≡ true → ((n : ℕ) × (workers ≡ Some n) × (1 ≤ n) × (n ≤ 64))
+    → (c : Command) × (option_map Serve (serving_of map settings listen control workers speeds turns) ≡ Some c) × HasWorkers c
+command-serve (Some map) (Some settings) (Some listen) (Some control) workers speeds turns one two three four n =
+    (Serve (record { map = map; settings = settings; listen = listen; control = control; workers = n.0; speeds = speeds; turns = turns }), rw n.1 refl, (n.2, n.3))
+command-serve None settings listen control workers speeds turns one two three four n = absurd (cc)
+command-serve (Some map) None listen control workers speeds turns one two three four n = absurd (cc)
+command-serve (Some map) (Some settings) None control workers speeds turns one two three four n = absurd (cc)
+command-serve (Some map) (Some settings) (Some listen) None workers speeds turns one two three four n = absurd (cc)
+
 -- a subcommand whose words are not refused is one of the program's commands
 abbrev Named : Shape → Type 0
-Named s = (words : List Text) → level_fault s [] nothing_held words false [] ≡ [] → (c : Command) × (command_in s.name (rows_after s.rules [] words) ≡ Some c)
+Named s = (words : List Text) → level_fault s [] nothing_held words false [] ≡ [] → (c : Command) × (command_in s.name (rows_after s.rules [] words) ≡ Some c) × HasWorkers c
 
-check-named : Named (leaf (codes "check"))
-check-named words e = let named = leaf-named (codes "check") words e in command-check _ _ named.0 named.1
+check-named : Named (leaf (files_app (codes "check")))
+check-named words e =
+    let taken = files-taken (codes "check") words e in
+    command-check _ _ (given-first (codes "opl") _ taken.fit (taken.met.0 refl)) (given-first (codes "settings") _ taken.fit (taken.met.1.0 refl))
 
-ask-named : Named (leaf (codes "ask"))
-ask-named words e = let named = leaf-named (codes "ask") words e in command-ask _ _ named.0 named.1
+ask-named : Named (leaf (files_app (codes "ask")))
+ask-named words e =
+    let taken = files-taken (codes "ask") words e in
+    command-ask _ _ (given-first (codes "opl") _ taken.fit (taken.met.0 refl)) (given-first (codes "settings") _ taken.fit (taken.met.1.0 refl))
+
+serve-named : Named (leaf serve_app)
+serve-named words e =
+    let taken = serve-taken words e in
+    let met = taken.met in
+    let rows = rows_after (leaf serve_app).rules [] words in
+    let start = settled (leaf serve_app).rules (walk (leaf serve_app).rules [] nothing_held words).held in
+    let before = fold with_default start.rows files_and_addresses in
+    command-serve _ _ _ _ _ (first_of (codes "segment-speed-file") rows) (first_of (codes "turn-penalty-file") rows)
+    (given-first (codes "opl") rows taken.fit (met.0 refl)) (given-first (codes "settings") rows taken.fit (met.1.0 refl))
+    (given-first (codes "listen") rows taken.fit (met.1.1.0 refl)) (given-first (codes "control") rows taken.fit (met.1.1.1.0 refl))
+    (row-number rows (row-found (codes "workers") rows taken.fit (workers-there before)))
 
 abbrev leaves : List Shape
-leaves = leaf (codes "check") ∷ leaf (codes "ask") ∷ []
+leaves = leaf (files_app (codes "check")) ∷ leaf (files_app (codes "ask")) ∷ leaf serve_app ∷ []
 
 leaves-named : AllIn Named leaves
-leaves-named = (check-named, (ask-named, tt))
+leaves-named = (check-named, (ask-named, (serve-named, tt)))
 
 abbrev top : Shape
 top = (built road_router).top
@@ -287,19 +205,19 @@ top = (built road_router).top
 shape-named : (words : List Text) (o : Option Shape) (rows : List Row) → Holds Named o
     → check_fault top rows (is_some (option_map (λ s. rows_at s words) o)) ≡ []
     → option_map_or (λ s. level_fault s [] nothing_held words false []) o [] ≡ []
-    → (c : Command) × (option_and_then (λ p. command_in p.0 p.1) (option_map (λ s. rows_at s words) o) ≡ Some c)
+    → (c : Command) × (option_and_then (λ p. command_in p.0 p.1) (option_map (λ s. rows_at s words) o) ≡ Some c) × HasWorkers c
 shape-named words None rows named e below = absurd (cc)
 shape-named words (Some s) rows named e below = named words below
 
 stop-named : (stop : Option (Text × List Text)) (rows : List Row)
     → check_fault top rows (is_some (entered (built road_router) stop)) ≡ [] → entered_fault (built road_router) stop ≡ []
-    → (c : Command) × (option_and_then (λ p. command_in p.0 p.1) (entered (built road_router) stop) ≡ Some c)
+    → (c : Command) × (option_and_then (λ p. command_in p.0 p.1) (entered (built road_router) stop) ≡ Some c) × HasWorkers c
 stop-named None rows e below = absurd (cc)
 stop-named (Some p) rows e below =
     shape-named p.1 (find (λ s. answers_to p.0 (label_of s)) leaves) rows (find-holds Named (λ s. answers_to p.0 (label_of s)) leaves leaves-named) e below
 
--- where `clap` takes the words, they name a command
-pub named : (words : List Text) → fault_of road_router words ≡ [] → (c : Command) × (command_of words ≡ Some c)
+-- where `clap` takes the words, they name a command, and one that serves has 1 to 64 workers
+pub named : (words : List Text) → fault_of road_router words ≡ [] → (c : Command) × (command_of words ≡ Some c) × HasWorkers c
 unfolding command_of
 named words e =
     let walked_words = walk top.rules (names_of (built road_router)) nothing_held words in
@@ -308,4 +226,4 @@ named words e =
     let settles = neither (settle_fault top.rules top.args_override_self walked_words.held) _ below.1 in
     let checks = neither (defaults_fault (settled top.rules walked_words.held).rows top.rules) _ settles.1 in
     let found = stop-named walked_words.stopped (finished top.rules walked_words.held) checks.1 below.0 in
-    (found.0, rw e found.1)
+    (found.0, rw e found.1, found.2)
