@@ -1,9 +1,8 @@
 -- What may stand on a board of one road network.
-use Rattle.std.proofs.Common.{◌≡◌, ◌∙◌, List, [], ◌∷◌, sym, ap}
+use Rattle.std.proofs.Common.{◌≡◌, ◌∙◌, [], ◌∷◌, sym}
 use Rattle.control_port.specs.Controlling.{Board, IsOn}
 use Rattle.customized.specs.Exact.{Customized, ShareRoads}
 use Rattle.customized.specs.Framing.{RoadsView}
-use Rattle.edge_graph.specs.NetworkView.{NetworkView}
 use Rattle.metric_publish.specs.History.{IsKin}
 use Rattle.route_doors.specs.RoadDoors.{BeginsOn}
 

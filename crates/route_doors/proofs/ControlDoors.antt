@@ -1,9 +1,9 @@
 -- What the control door leaves.
-use Rattle.std.proofs.Common.{◌≡◌, ◌∙◌, ◌⊎◌, ◌↔◌, ℕ, true, false, true≢false, List, [], ◌∷◌, ◌++◌, Option, None, Some, IsNone, IfSome, inl, inr, refl, sym, ap, subst, arith}
+use Rattle.std.proofs.Common.{◌≡◌, ◌∙◌, ◌⊎◌, ◌↔◌, ℕ, true, false, true≢false, List, [], ◌∷◌, ◌++◌, Option, None, Some, IsNone, IfSome, inl, inr, refl, sym, subst, arith}
 use Rattle.std.proofs.lemmas.Option.{same_Some}
 use Rattle.control_port.specs.Controlling.{Board}
 use Rattle.customized.specs.Framing.{RoadsView}
-use Rattle.door_service.specs.Leading.{Leads, LedToEnd, LedToStop, TendGives}
+use Rattle.door_service.specs.Leading.{LedToEnd, LedToStop, TendGives}
 use Rattle.door_service.specs.Serving.{Tended}
 use Rattle.door_service.specs.declared.turns.End.{End}
 use Rattle.door_service.specs.declared.turns.End.TheVariants.{Broken, Stopped, UsedUp}
@@ -63,7 +63,7 @@ module _ (roads : RoadsView) where
   spent_end first last old now closer left count Broken new gives =
       (λ none. inr (subst (λ (n : ℕ). Rose n now.faults) new.faults gives.1), λ cause. gives.2)
   spent_end first last old now closer left count UsedUp new gives =
-      (λ none. absurd (subst IsNone gives.2 none), λ cause. elim cause [ inl unended ↦ absurd (true≢false (sym gives.0.ends.ended ∙ unended)) | inr rose ↦ absurd (omega (arith, rose, gives.1, new.faults)) ])
+      (λ none. absurd (true≢false (subst IsNone gives.2 none)), λ cause. elim cause [ inl unended ↦ absurd (true≢false (sym gives.0.ends.ended ∙ unended)) | inr rose ↦ absurd (omega (arith, rose, gives.1, new.faults)) ])
 
   pub spent : {K : Type 0} (first last : Board) (old now : DoorView) (closer : K) (left : Option K) → IsNewDoor old → Tended (IsControlling roads) first last old now (Some closer) left → IsNone left ↔ ((now.ended ≡ false) ⊎ Rose 0 now.faults)
   spent first last old now closer left new tended = spent_end first last old now closer left tended.0 tended.1 new tended.2
@@ -71,9 +71,9 @@ module _ (roads : RoadsView) where
   -- and handed back else
   kept_end : {K : Type 0} (first last : Board) (old now : DoorView) (closer : K) (left : Option K) (count : ℕ) (end : End) → TendGives (IsControlling roads) first last old now (Some closer) left count end → IfSome left (λ k. k ≡ closer)
   kept_end first last old now closer None count end gives = tt
-  kept_end first last old now closer (Some k) count Stopped gives = absurd gives.1
+  kept_end first last old now closer (Some k) count Stopped gives = absurd (true≢false gives.1)
   kept_end first last old now closer (Some k) count UsedUp gives = same_Some _ _ gives.2
-  kept_end first last old now closer (Some k) count Broken gives = absurd gives.2
+  kept_end first last old now closer (Some k) count Broken gives = absurd (true≢false gives.2)
 
   pub kept : {K : Type 0} (first last : Board) (old now : DoorView) (closer : K) (left : Option K) → Tended (IsControlling roads) first last old now (Some closer) left → IfSome left (λ k. k ≡ closer)
   kept first last old now closer left tended = kept_end first last old now closer left tended.0 tended.1 tended.2

@@ -1,6 +1,6 @@
 -- What serving leaves of its doors, whose query connections are answered under metrics of one road network, and whose
 -- control connections publish such metrics.
-use Rattle.std.specs.Prelude.{◌≡◌, ◌⊎◌, ℕ, true, false, List, [], ◌∷◌, ◌++◌, length, All, Option, None, Some, ⊤}
+use Rattle.std.specs.Prelude.{◌≡◌, ◌⊎◌, true, false, List, [], ◌∷◌, ◌++◌, length, All, Option, None, Some, ⊤}
 use mathlib.Core.List.{IsPrefix}
 use Rattle.control_port.specs.Controlling.{Board, IsOn}
 use Rattle.customized.specs.Framing.{RoadsView}

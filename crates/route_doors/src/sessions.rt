@@ -1,7 +1,5 @@
 //! The sessions of query doors and of the control door.
 
-ghost use Rattle.std.specs.Prelude.{◌≡◌};
-
 use customized::{Metric, Roads};
 use door_service::{Controlling, Querying, Then};
 use metric_publish::meaning::{Publishing, Reading};

@@ -2,6 +2,8 @@
 //! answered when. Expected texts are this project's rules.
 
 ghost use Rattle.std.specs.Prelude.{◌≡◌, ◌<◌, All, IfOk, OnOk};
+ghost use Rattle.std.specs.Arc.{arc_value};
+ghost use Rattle.control_port.specs.Controlling.{IsOn};
 ghost use Rattle.road_io.specs.DoorOpening.{IsNewDoor};
 ghost use Rattle.road_io.specs.MemoryStates.{conn_state};
 ghost use Rattle.road_io.specs.Views.{IsFreshConn};
@@ -133,10 +135,22 @@ fn new_flags(alloc: Global) -> Result<Flags, AllocError> {
 fn doors_of(alloc: Global, flags: &Flags) -> Result<MemDoors<FlagConn<MemConn>>, AllocError> {
     let mut queries = Vec::new(alloc);
     push_door(alloc, &mut queries, NEAREST, &flags.begun, &flags.other)?;
-    push_door(alloc, &mut queries, NEAREST_SINCE, &flags.published, &flags.answered)?;
+    push_door(
+        alloc,
+        &mut queries,
+        NEAREST_SINCE,
+        &flags.published,
+        &flags.answered,
+    )?;
     let mut control = Vec::new(alloc);
     push_conn(alloc, &mut control, PUBLISH, &flags.arrived, &flags.other)?;
-    push_conn(alloc, &mut control, PUBLISH_AND_STOP, &flags.begun, &flags.published)?;
+    push_conn(
+        alloc,
+        &mut control,
+        PUBLISH_AND_STOP,
+        &flags.begun,
+        &flags.published,
+    )?;
     push_conn(alloc, &mut control, PUBLISH, &flags.begun, &flags.other)?;
     let control = QueueDoor::of(alloc, control, Vec::new(alloc))?;
     Ok(MemDoors::of(alloc, queries, control, Vec::new(alloc)))
@@ -163,19 +177,25 @@ struct Told {
     spent: bool,
 }
 
+// The metric of these roads by the profile alone.
+fn first_metric(
+    rt: &(impl Threads + Sync),
+    alloc: Global,
+    roads: &Roads,
+) -> Result<Arc<Metric>, AllocError>
+    ensures { IfOk result (λ metric. IsOn roads.now (arc_value metric)) }
+{
+    let base = base(alloc, roads.network())?;
+    Ok(Arc::new(alloc, Metric::make(rt, alloc, roads, base)?)?)
+}
+
 // Serves the town through doors that it opens and puts back.
 fn serve_town<
     N: Doors,
     G: Gate + Sync,
     J: Naming + Send + Sync,
     R: Threads + Wait + Net<Listener = TcpListener, Stream = TcpStream> + Sync,
->(
-    rt: &R,
-    alloc: Global,
-    gate: &G,
-    doors: &mut N,
-    history: History<Metric>,
-) -> Result<Told, Fail>
+>(rt: &R, alloc: Global, gate: &G, doors: &mut N, history: History<Metric>) -> Result<Told, Fail>
 where
     N::Door: Send,
     <N::Door as Door>::Conn: Send,
@@ -184,8 +204,7 @@ where
     let network = network(alloc)?;
     let grid = Grid::of(alloc, &network)?;
     let roads = Roads::of(alloc, network, &SERVER_LIMITS)?;
-    let base = base(alloc, roads.network())?;
-    let metric = Arc::new(alloc, Metric::make(rt, alloc, &roads, base)?)?;
+    let metric = first_metric(rt, alloc, &roads)?;
     let (mut desk, mut seats) = open::<Metric, J, R>(rt, alloc, history, metric, 0, 2)?;
     let Ok(room) = Vec::with_capacity(alloc, 2) else {
         desk.end(rt);
@@ -199,7 +218,9 @@ where
             return Err(Fail::from("no doors"));
         }
     };
-    let served = serve(rt, alloc, &roads, &grid, gate, opened, &mut seats, room, &mut desk);
+    let served = serve(
+        rt, alloc, &roads, &grid, gate, opened, &mut seats, room, &mut desk,
+    );
     desk.end(rt);
     let Served {
         connections,
