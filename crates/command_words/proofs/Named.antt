@@ -1,13 +1,12 @@
 -- Where `clap` takes the words, they name a command: what must be given has a value, the workers are 1 to 64, and
 -- the name is one of the three.
-use Rattle.std.proofs.Common.{◌≡◌, ◌∙◌, ◌≤◌, ◌&&◌, ◌||◌, ℕ, Bool, true, false, not, List, [], ◌∷◌, ap, arith, codes, is_some, Option, Some, None, refl, subst, sym}
+use Rattle.std.proofs.Common.{◌≡◌, ◌∙◌, ◌≤◌, ◌&&◌, ◌||◌, ℕ, Bool, true, false, not, List, [], ◌∷◌, ap, arith, codes, is_some, Option, Some, None, refl, subst}
 use Rattle.std.specs.Option.{option_map_or}
 use Rattle.std.specs.Prelude.{find, fold, option_map, option_and_then, pos, slice_get}
 use Rattle.std.specs.List.{list_any}
 use Rattle.std.specs.Str.{bytes_eq}
 use Rattle.clap.specs.Faults.{check_fault, defaults_fault, entered_fault, level_fault, settle_fault, walk_fault}
 use Rattle.clap.specs.Kinds.{check_kinds, values_kinds}
-use Rattle.clap.specs.Lexer.{without_minus}
 use Rattle.clap.specs.Simple.{Shape, built, built_leaf, entered, inherited, label_of, names_of, rows_at}
 use Rattle.clap.specs.Takes.{is_given}
 use Rattle.clap.specs.Values.{read_as}
@@ -17,8 +16,8 @@ use Rattle.clap.specs.declared.builder.value_parser.Reading.{Reading}
 use Rattle.clap.specs.declared.builder.value_parser.Reading.TheVariants.{WithoutMinus}
 use Rattle.clap.specs.declared.builder.value_parser.ValueParser.TheVariants as vp
 use Rattle.command_words.specs.CommandLine.{files_app, plain_app, road_router, serve_app}
-use Rattle.command_words.specs.Commands.{Ask, Check, Command, HasWorkers, Serve, Serving, command_in, command_of, command_over, number_of, serving_in, serving_of}
-use Rattle.command_words.proofs.Fits.{AreFit, IsFit, IsNumber, default-fits, default-found, given-first, no-default, numbers-pass, one_value, others-suit, row-found, use-fits}
+use Rattle.command_words.specs.Commands.{Ask, Check, Command, HasWorkers, Serve, command_in, command_of, command_over, number_of, serving_of}
+use Rattle.command_words.proofs.Fits.{AreFit, IsFit, default-fits, default-found, given-first, no-default, numbers-pass, one_value, others-suit, row-found, use-fits}
 use Rattle.command_words.proofs.Numbers.{workers-read}
 use Rattle.command_words.proofs.RowWalks.{AllIn, Holds, Keeps, checks-pass, find-holds, neither, rows-kept}
 

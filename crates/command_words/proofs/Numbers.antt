@@ -1,6 +1,6 @@
 -- What number a text stands for, as `u32` reads it.
 use Rattle.std.proofs.Common.{◌≡◌, ◌≤◌, ◌<◌, ◌^◌, ◌&&◌, ℕ, Bool, true, false, List, [], ◌∷◌, length, Option, Some, None, refl, sym, ◌∙◌, arith, true≢false}
-use Rattle.std.specs.Prelude.{Ok, Err, Result, nat_lt, pos, if◌then◌else◌}
+use Rattle.std.specs.Prelude.{nat_lt, pos, if◌then◌else◌}
 use Rattle.std.specs.List.{list_all}
 use Rattle.std.specs.Char.{digit_value}
 use Rattle.std.specs.Str.Parse.{AllDigits, IsNumeral, ParsesUnsigned, digits_value, without_leading_plus}

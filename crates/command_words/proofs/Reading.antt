@@ -1,5 +1,5 @@
 -- What is read of the matches is what their rows say.
-use Rattle.std.proofs.Common.{◌≡◌, ◌∙◌, ℕ, List, Option, Some, None, refl, sym, codes}
+use Rattle.std.proofs.Common.{◌≡◌, ℕ, Option, Some, None, refl, codes}
 use Rattle.std.specs.Prelude.{Result, false, option_and_then, if◌then◌else◌}
 use Rattle.std.specs.Str.{bytes_eq}
 use Rattle.std.specs.Str.Parse.{ParsesUnsigned}

@@ -19,7 +19,8 @@ pub record Serving : Type 0 where
   pub speeds : Option (List ℕ)
   pub turns : Option (List ℕ)
 
--- to count what is in a map, or to answer lines over it, or to serve it; a map and settings go by the names of their files
+-- to count what is in a map, or to answer lines over it, or to serve it; a map and settings go by the names of
+-- their files
 pub data Command : Type 0 where
   Check : (map settings : List ℕ) → Command
   Ask : (map settings : List ℕ) → Command

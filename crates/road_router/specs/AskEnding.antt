@@ -8,8 +8,8 @@ use Rattle.road_base.specs.declared.program_status.Status.TheVariants as status
 use Rattle.road_io.specs.Outside.{Outside, NoneRose, outside}
 use Rattle.road_io.specs.Putting.{Closes}
 use Rattle.road_io.specs.Views.{FilesView, OutputView}
-use Rattle.road_router.specs.FileReads.{IsLoaded}
-use Rattle.road_router.specs.StoppedEarly.{IsExhausted, IsUnread, Refuses, cannot_read}
+use Rattle.road_router.specs.MapReads.{IsLoaded, MapRefused, both_names}
+use Rattle.program_ends.specs.StoppedEarly.{IsExhausted, IsUnread, cannot_read}
 
 abbrev pub long_line : List ℕ
 long_line = codes "input too long\n"
@@ -48,7 +48,7 @@ pub record Answering (ended : Publication → Outside → Outside → Type 0) (b
 abbrev pub EndsAsk : Status → Outside → Outside → List ℕ → List ℕ → Type 0
 EndsAsk status.Ok before after map settings = NoneRose before after × Answering EndsTold before after map settings
 EndsAsk status.Outside before after map settings =
-    IsUnread before after map settings ⊎ (Answering EndsFailed before after map settings ⊎ Answering EndsUnread before after map settings)
+    IsUnread before after (both_names map settings) ⊎ (Answering EndsFailed before after map settings ⊎ Answering EndsUnread before after map settings)
 EndsAsk status.Words before after map settings = ⊥
-EndsAsk status.Refused before after map settings = Refuses before after map settings ⊎ Answering IsLong before after map settings
-EndsAsk status.Memory before after map settings = IsExhausted before after map settings
+EndsAsk status.Refused before after map settings = MapRefused before after map settings ⊎ Answering IsLong before after map settings
+EndsAsk status.Memory before after map settings = IsExhausted before after (both_names map settings)

@@ -13,14 +13,15 @@ use Rattle.road_base.specs.declared.osm_objects.Object.{Object}
 use Rattle.road_base.specs.declared.program_status.Status.{Status}
 use Rattle.road_base.specs.declared.program_status.Status.TheVariants as status
 use Rattle.road_io.specs.Told.{AppendsFront}
-use Rattle.road_router.specs.FileReads.{AreRead}
-use Rattle.road_router.specs.StoppedEarly.{IsExhausted, IsUnread, Refuses}
+use Rattle.road_router.specs.MapReads.{MapRefused, both_files, both_names}
+use Rattle.program_ends.specs.FileReads.{AreRead}
+use Rattle.program_ends.specs.StoppedEarly.{IsExhausted, IsUnread}
 
 -- the files of the words were read, and hold a map and settings, whose counts these are
 pub record IsCounted (before after : FilesView) (map settings text : List ℕ) : Type 0 where
   pub map_bytes : List ℕ
   pub settings_bytes : List ℕ
-  pub read : AreRead before after map settings map_bytes settings_bytes
+  pub read : AreRead before after (both_files map settings map_bytes settings_bytes)
   pub objects : List Object
   pub are_objects : opl_objects map_bytes ≡ Ok objects
   pub network : NetworkView
@@ -37,8 +38,8 @@ CountedFront before after map settings = (text : List ℕ) × IsCounted before.f
 abbrev pub EndsCheck : Status → Outside → Outside → List ℕ → List ℕ → Type 0
 EndsCheck status.Ok before after map settings = NoneRose before after × Counted before after map settings
 EndsCheck status.Outside before after map settings =
-    IsUnread before after map settings
+    IsUnread before after (both_names map settings)
     ⊎ (OutputRose before.output after.output × CountedFront before after map settings)
 EndsCheck status.Words before after map settings = ⊥
-EndsCheck status.Refused before after map settings = Refuses before after map settings
-EndsCheck status.Memory before after map settings = IsExhausted before after map settings
+EndsCheck status.Refused before after map settings = MapRefused before after map settings
+EndsCheck status.Memory before after map settings = IsExhausted before after (both_names map settings)

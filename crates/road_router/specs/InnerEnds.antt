@@ -6,24 +6,17 @@ use Rattle.edge_graph.specs.NetworkView.{NetworkView}
 use Rattle.road_io.specs.Faults.{OutputRose}
 use Rattle.road_io.specs.Outside.{Outside}
 use Rattle.road_io.specs.Putting.{Closes}
-use Rattle.road_io.specs.Views.{FilesView, OutputView}
+use Rattle.road_io.specs.Views.{OutputView}
 use Rattle.line_session.specs.Publication.{Publication, opening}
 use Rattle.map_loading.specs.Counting.{check_text, counts_of}
-use Rattle.map_loading.specs.Loading.{load_of, memory_line}
+use Rattle.map_loading.specs.Loading.{load_of}
+use Rattle.program_ends.specs.StoppedEarly.{memory_line}
 use Rattle.opl_read.specs.Objects.{opl_objects}
 use Rattle.road_base.specs.declared.osm_objects.Object.{Object}
 use Rattle.road_base.specs.declared.program_status.Status.{Status}
 use Rattle.road_base.specs.declared.program_status.Status.TheVariants as status
-use Rattle.road_io.specs.declared.failures.FileFault.{FileFault}
-use Rattle.road_io.specs.declared.failures.FileFault.TheVariants as file
 use Rattle.road_io.specs.Told.{AppendsFront}
 use Rattle.road_router.specs.AskEnding.{EndsFailed, EndsTold, EndsUnread, IsLong}
-use Rattle.road_router.specs.FileReads.{AreBegun, IsFailed}
-
--- of the two files the one of this name was not read, with this fault
-pub record IsLeft (before after : FilesView) (map settings name : List ℕ) (fault : FileFault) : Type 0 where
-  pub failed : fault ≡ file.Failed → IsFailed before after map settings name
-  pub memory : fault ≡ file.Memory → AreBegun before after map settings
 
 -- the end of answering lines from a publication on, by the status
 abbrev pub EndsFrom : Status → Publication → Outside → Outside → Type 0

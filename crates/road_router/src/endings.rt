@@ -7,12 +7,16 @@ ghost use Rattle.road_io.specs.Outside.{outside};
 ghost use Rattle.road_base.specs.StatusCode.{code_of};
 ghost use Rattle.road_router.specs.Ending.{EndsRun, EndsWordless};
 
-use crate::running::{end_exhausted, run};
+use crate::running::run;
+use program_ends::end_exhausted;
 use road_base::Status;
-use road_io::{Doors, Files, Gate, Sink, Source};
+use road_io::{Door, Files, Gate, Sink, Source};
+use serve_command::CountedDoors;
 use std::alloc::{AllocError, Global};
 use std::io::Eprint;
+use std::net::{Net, TcpListener, TcpStream};
 use std::process::{ExitCode, Termination};
+use std::sync::Wait;
 use std::thread::Threads;
 
 /// How a run ended. Only a run makes one, so what `main` answers is how its run ended.
@@ -30,7 +34,14 @@ impl Termination for Ended {
 }
 
 /// Runs on the words as they were read. Where there was no memory for them, it ends for that.
-pub fn run_to_end<R: Threads + Sync, F: Files, I: Source, O: Sink, N: Doors, G: Gate>(
+pub fn run_to_end<
+    F: Files,
+    I: Source,
+    O: Sink,
+    N: CountedDoors,
+    G: Gate + Sync,
+    R: Threads + Wait + Net<Listener = TcpListener, Stream = TcpStream> + Sync,
+>(
     rt: &R,
     alloc: Global,
     words: Result<Vec<String>, AllocError>,
@@ -40,11 +51,13 @@ pub fn run_to_end<R: Threads + Sync, F: Files, I: Source, O: Sink, N: Doors, G: 
     doors: &mut N,
     gate: &G,
 ) -> Ended
+where
+    N::Door: Send,
+    <N::Door as Door>::Conn: Send,
     ensures ends { MatchResult words (λ all. EndsRun (command_of (map string_bytes all.items)) result.status (outside (F.view files.old) (I.view input.old) (O.view output.old))
-        (outside (F.view files.new) (I.view input.new) (O.view output.new)))
+        (outside (F.view files.new) (I.view input.new) (O.view output.new)) (N.Doors.view doors.old) (N.Doors.view doors.new))
         (λ _. EndsWordless result.status (outside (F.view files.old) (I.view input.old) (O.view output.old))
-        (outside (F.view files.new) (I.view input.new) (O.view output.new))) }
-    ensures doors { N.view doors.new ≡ N.view doors.old }
+        (outside (F.view files.new) (I.view input.new) (O.view output.new)) (N.Doors.view doors.old) (N.Doors.view doors.new)) }
 {
     let status = match words {
         Ok(words) => run(

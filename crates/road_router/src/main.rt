@@ -1,5 +1,5 @@
-//! Walnutkiln's program: reads a map and the settings of a vehicle, and counts what is in them, or answers
-//! lines of standard input: targets under the last published metric, traffic files by publishing theirs.
+//! Walnutkiln's program: reads a map and the settings of a vehicle, and counts what is in them, answers lines of
+//! standard input (targets under the last published metric, traffic files by publishing theirs), or serves over HTTP.
 //!
 //! `running::run` does all that the program does over what is handed in, and its contract is the program's
 //! theorem: `specs/Ending` says what stands in the output, by the status, and what each status comes from.
@@ -13,6 +13,8 @@ mod endings;
 mod row_tests;
 mod running;
 #[cfg(test)]
+mod serve_tests;
+#[cfg(test)]
 mod step_tests;
 #[cfg(test)]
 mod tests;
@@ -21,8 +23,8 @@ mod traffic_tests;
 mod typed_words;
 
 use endings::{Ended, run_to_end};
-use road_io::{NoDoors, OpenGate};
-use road_real::{Reading, SystemFiles, Writing};
+use road_io::OpenGate;
+use road_real::{Reading, SystemFiles, TcpDoors, Writing};
 use std::io;
 use typed_words::typed_words_of;
 
@@ -34,7 +36,7 @@ fn main(rt: HostRuntime) -> Ended {
         &mut SystemFiles::of(&rt),
         &mut Reading::of(rt.reader()),
         &mut Writing::of(io::writer(&rt)),
-        &mut NoDoors::new(),
+        &mut TcpDoors::of(&rt),
         &OpenGate,
     )
 }

@@ -4,13 +4,15 @@ use crate::tests::{Case, named, run_over};
 use road_base::Text;
 use road_io::{MemFiles, MemSink};
 use std::alloc::{AllocError, Global};
+use std::net::{Net, TcpListener, TcpStream};
+use std::sync::Wait;
 use std::thread::Threads;
 
 const PUBLISHED: &str = "{\"code\":\"Ok\",\"data_version\":\"1\",\"unmatched\":0}\n";
 
 // What a run puts whose one line names a file of these rows.
 fn reply_to(
-    rt: &(impl Threads + Sync),
+    rt: &(impl Threads + Wait + Net<Listener = TcpListener, Stream = TcpStream> + Sync),
     alloc: Global,
     rows: &[u8],
     line: &[u8],

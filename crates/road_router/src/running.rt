@@ -1,84 +1,35 @@
 //! All that the program does, over what is handed in.
 
-ghost use Rattle.std.specs.Prelude.{◌≡◌, ◌⊎◌, ◌≤◌, map, string_bytes, IfOk, IfErr, OnOk, OnErr};
-ghost use Rattle.std.specs.Io.KnownBytes.{Appends};
+ghost use Rattle.std.specs.Prelude.{◌≡◌, ◌⊎◌, map, string_bytes};
+ghost use Rattle.road_io.specs.Faults.{FilesRose, InputRose, OutputRose, Rose};
 ghost use Rattle.road_io.specs.Outside.{outside};
-ghost use Rattle.road_io.specs.Putting.{Closes};
 ghost use Rattle.road_io.specs.Views.{InputView};
-ghost use Rattle.road_io.specs.Faults.{FilesRose, HasCause, InputRose, OutputRose};
-ghost use Rattle.road_io.specs.Told.{AppendsFront};
 ghost use Rattle.command_words.specs.Commands.{command_of};
 ghost use Rattle.map_loading.specs.Counting.{check_text};
+ghost use Rattle.map_loading.specs.Loading.{load_of};
 ghost use Rattle.road_router.specs.AskEnding.{EndsAsk};
 ghost use Rattle.road_router.specs.CheckEnding.{EndsCheck};
 ghost use Rattle.road_router.specs.Ending.{EndsRun};
-ghost use Rattle.road_router.specs.FileReads.{AreRead};
-ghost use Rattle.road_router.specs.InnerEnds.{EndsCountOver, EndsFrom, EndsOver, EndsPut, IsLeft};
-ghost use Rattle.road_router.specs.StoppedEarly.{cannot_read};
-ghost use Rattle.map_loading.specs.Loading.{load_of, memory_line};
+ghost use Rattle.road_router.specs.InnerEnds.{EndsCountOver, EndsFrom, EndsOver, EndsPut};
 
 use command_words::{Words, WordsFault, read_words};
 use line_session::{Published, Stop, answer_lines};
 use map_loading::{LoadFault, Loaded, check_text, load};
-use road_base::{Status, Text};
-use road_io::{Doors, Failed, FileFault, Files, Gate, Sink, Source, put_all};
+use program_ends::{close, end_exhausted, end_refused, end_unread, read_both};
+use road_base::Status;
+use road_io::{Door, FileFault, Files, Gate, Sink, Source, put_all};
+use serve_command::{CountedDoors, serve};
 use std::alloc::Global;
+use std::net::{Net, TcpListener, TcpStream};
+use std::sync::Wait;
 use std::thread::Threads;
 
 /// The usage line.
 const USAGE: &[u8] =
     b"usage: road_router check OPL SETTINGS | ask OPL SETTINGS | serve OPL SETTINGS --listen A --control B [--workers N] [--segment-speed-file F] [--turn-penalty-file F] | town N | drill N\n";
 
-/// The line for want of memory outside of a reply.
-const MEMORY: &[u8] = b"out of memory\n";
-
 /// The line for an input of 2^63 bytes or more.
 const LONG: &[u8] = b"input too long\n";
-
-// Puts the line on which a run ends. Where the output fails, the status stays.
-fn close<O: Sink>(output: &mut O, line: &[u8])
-    ensures put { Closes (O.view output.old) (O.view output.new) line.now }
-    ensures later { (O.view output.old).faults ≤ (O.view output.new).faults }
-{
-    match put_all(output, line) {
-        Ok(()) => (),
-        Err(_) => (),
-    }
-}
-
-// Puts the line on a file that could not be read.
-fn put_unread<O: Sink>(output: &mut O, name: &str) -> Result<(), Failed>
-    ensures all { OnOk result (Appends (O.view output.old).written (O.view output.new).written (cannot_read name.now)) }
-    ensures part { OnErr result (AppendsFront (O.view output.old).written (O.view output.new).written (cannot_read name.now)) }
-    ensures cause { HasCause (O.view output.old).faults (O.view output.new).faults result }
-{
-    put_all(output, b"cannot read ")?;
-    put_all(output, name.as_bytes())?;
-    put_all(output, b"\n")
-}
-
-/// Ends a run for which there was no memory.
-pub fn end_exhausted<O: Sink>(output: &mut O) -> Status
-    ensures status { result ≡ Status.Memory }
-    ensures put { Closes (O.view output.old) (O.view output.new) memory_line }
-{
-    close(output, MEMORY);
-    Status::Memory
-}
-
-// Ends a run for a file that could not be read, or for which there was no memory.
-fn end_unread<O: Sink>(output: &mut O, name: &str, fault: FileFault) -> Status
-    ensures failed { fault ≡ FileFault.Failed → (result ≡ Status.Outside) × Closes (O.view output.old) (O.view output.new) (cannot_read name.now) }
-    ensures memory { fault ≡ FileFault.Memory → (result ≡ Status.Memory) × Closes (O.view output.old) (O.view output.new) memory_line }
-{
-    match fault {
-        FileFault::Failed => {
-            let _ = put_unread(output, name);
-            Status::Outside
-        }
-        FileFault::Memory => end_exhausted(output),
-    }
-}
 
 // Answers the lines of the input from a publication on, and puts the line on which that ends.
 fn answer<R: Threads + Sync, F: Files, I: Source, O: Sink>(
@@ -102,45 +53,6 @@ fn answer<R: Threads + Sync, F: Files, I: Source, O: Sink>(
             Status::Refused
         }
         Err(Stop::Memory) => end_exhausted(output),
-    }
-}
-
-// Ends a run whose data are refused on this line.
-fn end_refused<O: Sink>(output: &mut O, line: Text) -> Status
-    ensures status { result ≡ Status.Refused }
-    ensures put { Closes (O.view output.old) (O.view output.new) line }
-{
-    close(output, line.as_bytes());
-    Status::Refused
-}
-
-/// The file that was not read, and why.
-#[derive(Clone, Copy)]
-struct Unread<'a> {
-    name: &'a str,
-    fault: FileFault,
-}
-
-// Reads the files of a map and settings, in this order.
-fn read_files<'a, F: Files>(
-    alloc: Global,
-    map: &'a str,
-    settings: &'a str,
-    files: &mut F,
-) -> Result<(Vec<u8>, Vec<u8>), Unread<'a>>
-    ensures read { IfOk result (λ both. AreRead (F.view files.old) (F.view files.new) map.now settings.now both.0.items both.1.items) }
-    ensures unread { IfErr result (λ u. IsLeft (F.view files.old) (F.view files.new) map.now settings.now u.name.now u.fault) }
-{
-    let map_bytes = match files.read(alloc, map) {
-        Ok(bytes) => bytes,
-        Err(fault) => return Err(Unread { name: map, fault }),
-    };
-    match files.read(alloc, settings) {
-        Ok(settings_bytes) => Ok((map_bytes, settings_bytes)),
-        Err(fault) => Err(Unread {
-            name: settings,
-            fault,
-        }),
     }
 }
 
@@ -182,7 +94,7 @@ pub fn ask<R: Threads + Sync, F: Files, I: Source, O: Sink>(
     ensures ends { EndsAsk result (outside (F.view files.old) (I.view input.old) (O.view output.old))
         (outside (F.view files.new) (I.view input.new) (O.view output.new)) map.now settings.now }
 {
-    match read_files(alloc, map, settings, files) {
+    match read_both(alloc, map, settings, files) {
         Ok((map, settings)) => {
             ask_over(rt, alloc, map, settings.as_slice(), files, input, output)
         }
@@ -227,7 +139,7 @@ pub fn check<F: Files, O: Sink>(
     ensures ends { (input : InputView) → EndsCheck result (outside (F.view files.old) input (O.view output.old))
         (outside (F.view files.new) input (O.view output.new)) map.now settings.now }
 {
-    match read_files(alloc, map, settings, files) {
+    match read_both(alloc, map, settings, files) {
         Ok((map, settings)) => check_over(alloc, map, settings.as_slice(), output),
         Err(unread) => end_unread(output, unread.name, unread.fault),
     }
@@ -236,8 +148,15 @@ pub fn check<F: Files, O: Sink>(
 /// All that the program does: reads the words, does what they ask for over what is handed in, and answers
 /// how it ended. The words stand without the program's name.
 ///
-/// So far there are two commands, `check` and `ask`. Neither the doors nor the gate are touched.
-pub fn run<R: Threads + Sync, F: Files, I: Source, O: Sink, N: Doors, G: Gate>(
+/// There are three commands, `check`, `ask` and `serve`. Doors and gate are touched by `serve` alone, which may wait.
+pub fn run<
+    F: Files,
+    I: Source,
+    O: Sink,
+    N: CountedDoors,
+    G: Gate + Sync,
+    R: Threads + Wait + Net<Listener = TcpListener, Stream = TcpStream> + Sync,
+>(
     rt: &R,
     alloc: Global,
     words: &[String],
@@ -247,14 +166,17 @@ pub fn run<R: Threads + Sync, F: Files, I: Source, O: Sink, N: Doors, G: Gate>(
     doors: &mut N,
     gate: &G,
 ) -> Status
+where
+    N::Door: Send,
+    <N::Door as Door>::Conn: Send,
     ensures ends { EndsRun (command_of (map string_bytes words.now)) result (outside (F.view files.old) (I.view input.old) (O.view output.old))
-        (outside (F.view files.new) (I.view input.new) (O.view output.new)) }
-    ensures outside { result ≡ Status.Outside → FilesRose (F.view files.old) (F.view files.new) ⊎ (InputRose (I.view input.old) (I.view input.new) ⊎ OutputRose (O.view output.old) (O.view output.new)) }
-    ensures doors { N.view doors.new ≡ N.view doors.old }
+        (outside (F.view files.new) (I.view input.new) (O.view output.new)) (N.Doors.view doors.old) (N.Doors.view doors.new) }
+    ensures outside { result ≡ Status.Outside → FilesRose (F.view files.old) (F.view files.new) ⊎ (InputRose (I.view input.old) (I.view input.new) ⊎ (OutputRose (O.view output.old) (O.view output.new) ⊎ Rose (N.Doors.view doors.old).faults (N.Doors.view doors.new).faults)) }
 {
     match read_words(alloc, words) {
         Ok(Words::Check(map, settings)) => check(alloc, map, settings, files, output),
         Ok(Words::Ask(map, settings)) => ask(rt, alloc, map, settings, files, input, output),
+        Ok(Words::Serve(what)) => serve(rt, alloc, &what, files, output, doors, gate),
         Err(WordsFault::Unknown) => {
             close(output, USAGE);
             Status::Words

@@ -4,6 +4,8 @@ use crate::running::run;
 use road_base::{Status, Text};
 use road_io::{MemFiles, MemSink, MemSource, NoDoors, OpenGate};
 use std::alloc::{AllocError, Global};
+use std::net::{Net, TcpListener, TcpStream};
+use std::sync::Wait;
 use std::thread::Threads;
 
 pub(crate) const TOWN: &[u8] =
@@ -101,7 +103,7 @@ pub(crate) fn named(
     Ok((Text::copy_of(alloc, name)?, Vec::from_slice(alloc, bytes)?))
 }
 
-fn words(alloc: Global, all: &[&str]) -> Result<Vec<String>, AllocError> {
+pub(crate) fn words(alloc: Global, all: &[&str]) -> Result<Vec<String>, AllocError> {
     let mut words = Vec::new(alloc);
     for word in all {
         words.push(String::from_str(alloc, word)?)?;
@@ -118,7 +120,7 @@ fn files_of(alloc: Global, case: Case<'_>) -> Result<MemFiles, AllocError> {
 }
 
 pub(crate) fn run_over(
-    rt: &(impl Threads + Sync),
+    rt: &(impl Threads + Wait + Net<Listener = TcpListener, Stream = TcpStream> + Sync),
     alloc: Global,
     case: Case<'_>,
     all: &[&str],
@@ -145,7 +147,7 @@ pub(crate) fn run_over(
 }
 
 fn run_words(
-    rt: &(impl Threads + Sync),
+    rt: &(impl Threads + Wait + Net<Listener = TcpListener, Stream = TcpStream> + Sync),
     alloc: Global,
     case: Case<'_>,
     all: &[&str],
@@ -155,7 +157,7 @@ fn run_words(
 }
 
 fn ask(
-    rt: &(impl Threads + Sync),
+    rt: &(impl Threads + Wait + Net<Listener = TcpListener, Stream = TcpStream> + Sync),
     alloc: Global,
     case: Case<'_>,
 ) -> Result<(Status, MemSink), AllocError> {
@@ -367,7 +369,7 @@ fn a_map_without_roads_has_no_place(rt: HostRuntime) -> Result<(), AllocError> {
 
 // Whether the run is done and what it puts has this text in it.
 pub(crate) fn shows(
-    rt: &(impl Threads + Sync),
+    rt: &(impl Threads + Wait + Net<Listener = TcpListener, Stream = TcpStream> + Sync),
     alloc: Global,
     case: Case<'_>,
     expected: &str,

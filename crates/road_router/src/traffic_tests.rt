@@ -5,6 +5,8 @@ use crate::tests::{Case, LINE, REPLY, SOUTH_TO_WEST, named, run_over, star};
 use road_base::{Status, Text};
 use road_io::{MemFiles, MemSink};
 use std::alloc::{AllocError, Global};
+use std::net::{Net, TcpListener, TcpStream};
+use std::sync::Wait;
 use std::thread::Threads;
 
 const TRAFFIC: [(&str, &[u8]); 8] = [
@@ -38,7 +40,7 @@ fn files_of(alloc: Global, case: Case<'_>) -> Result<MemFiles, AllocError> {
 }
 
 fn ask(
-    rt: &(impl Threads + Sync),
+    rt: &(impl Threads + Wait + Net<Listener = TcpListener, Stream = TcpStream> + Sync),
     alloc: Global,
     case: Case<'_>,
 ) -> Result<(Status, MemSink, MemFiles), AllocError> {
@@ -50,7 +52,7 @@ fn ask(
 
 // Whether the run is done, and what it puts begins with these lines, of which the last may be cut short.
 fn begins(
-    rt: &(impl Threads + Sync),
+    rt: &(impl Threads + Wait + Net<Listener = TcpListener, Stream = TcpStream> + Sync),
     alloc: Global,
     case: Case<'_>,
     lines: &[&str],

@@ -1,12 +1,11 @@
 -- The line on which answering ends stands behind what was told.
 use Rattle.std.proofs.Common.{ℕ, List, ap, inl, inr, refl, subst, sym}
-use Rattle.map_loading.specs.Loading.{memory_line}
+use Rattle.program_ends.specs.StoppedEarly.{cannot_read, memory_line}
 use Rattle.road_base.specs.declared.program_status.Status.{Status}
 use Rattle.road_io.specs.Outside.{Outside, outside}
 use Rattle.road_io.specs.Putting.{Closes}
 use Rattle.road_io.specs.Views.{OutputView}
 use Rattle.road_router.specs.InnerEnds.{EndsFrom}
-use Rattle.road_router.specs.StoppedEarly.{cannot_read}
 use Rattle.road_router.proofs.running.answer.Goals as goal
 
 pub returns-in-Ok : goal.returns-in-Ok
@@ -21,7 +20,7 @@ returns-in-Err-Output g c = inl (c.answer_lines.new.published, inr (rw c.in-Err-
 -- a file of a traffic line
 pub returns-in-Err-File : goal.returns-in-Err-File
 returns-in-Err-File g c =
-    let told = c.end_unread.ensures.failed refl in
+    let told = c.end_unread.ensures in
     let before = outside (g.F.Files.view c.args.files.now) (g.I.Source.view c.args.input.now) (g.O.Sink.view c.args.output.now) in
     let after = outside (g.F.Files.view c.answer_lines.new.files) (g.I.Source.view c.answer_lines.new.input) (g.O.Sink.view c.end_unread.new.output) in
     subst (λ (code : Status). EndsFrom code c.args.published.now before after) (sym told.0)

@@ -7,7 +7,7 @@ use Rattle.road_router.proofs.running.check.Goals as goal
 pub returns-in-Ok : goal.returns-in-Ok
 returns-in-Ok g c = record {
   ends = λ input.
-      check_of_read c.check_over.result (g.F.Files.view c.args.files.now) (g.F.Files.view c.read_files.new.files) input (g.O.Sink.view c.args.output.now) (g.O.Sink.view c.check_over.new.output) c.args.map.now c.args.settings.now c.in-Ok.map.items c.in-Ok.settings.items
+      check_of_read c.check_over.result (g.F.Files.view c.args.files.now) (g.F.Files.view c.read_both.new.files) input (g.O.Sink.view c.args.output.now) (g.O.Sink.view c.check_over.new.output) c.args.map.now c.args.settings.now c.in-Ok.map.items c.in-Ok.settings.items
       c.in-Ok.ensures.read
       (subst (λ (bytes : List ℕ). EndsCountOver c.check_over.result c.in-Ok.map.items bytes (g.O.Sink.view c.args.output.now) (g.O.Sink.view c.check_over.new.output)) c.as_slice.ensures.value c.check_over.ensures);
 }

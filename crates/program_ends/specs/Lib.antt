@@ -1,0 +1,4 @@
+pub mod Ends
+pub mod FileReads
+pub mod ReadLaws
+pub mod StoppedEarly

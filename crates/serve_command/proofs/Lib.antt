@@ -1,0 +1,4 @@
+mod LineLaws
+mod Rounds
+mod StartLaws
+mod WholeLaws

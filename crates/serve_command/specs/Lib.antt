@@ -1,0 +1,3 @@
+pub mod InnerEnds
+pub mod ServeEnding
+pub mod Start
