@@ -7,3 +7,6 @@ mod places;
 
 pub use changes::changed;
 pub use places::Changed;
+
+#[cfg(test)]
+mod tests;
