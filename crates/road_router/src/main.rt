@@ -10,6 +10,8 @@
 mod edge_tests;
 mod endings;
 #[cfg(test)]
+mod loopback_tests;
+#[cfg(test)]
 mod row_tests;
 mod running;
 #[cfg(test)]
