@@ -92,8 +92,13 @@ fn a_connection_is_served_under_the_metric_of_the_start(rt: HostRuntime) -> Resu
     let query = door(alloc, Vec::new(alloc))?;
     let (status, output, doors) = serve(&rt, alloc, query, b"")?;
     assert_eq!(rt; status, Status::Ok);
-    assert_eq!(rt; output.as_bytes(), b"ready\nconnections 1\nmetric 0\n".as_slice());
-    assert!(rt; matches!(doors.returned(), [set] if matches!(set.queries(), [one] if one.finished().len() == 1)));
+    assert_eq!(rt;
+        output.as_bytes(),
+        b"ready\nconnections 1\nmetric 0\n".as_slice()
+    );
+    assert!(rt;
+        matches!(doors.returned(), [set] if matches!(set.queries(), [one] if one.finished().len() == 1))
+    );
     Ok(())
 }
 
@@ -103,7 +108,10 @@ fn a_door_that_fails_is_told(rt: HostRuntime) -> Result<(), AllocError> {
     let query = door(alloc, vec![in alloc; 1_u64]?)?;
     let (status, output, _doors) = serve(&rt, alloc, query, b"")?;
     assert_eq!(rt; status, Status::Outside);
-    assert_eq!(rt; output.as_bytes(), b"ready\nconnections 0\nmetric 0\n".as_slice());
+    assert_eq!(rt;
+        output.as_bytes(),
+        b"ready\nconnections 0\nmetric 0\n".as_slice()
+    );
     Ok(())
 }
 
