@@ -140,7 +140,7 @@ check_causes : (first last : FilesView) (input : InputView) (before after : Outp
     → EndsCheck status.Outside (outside first input before) (outside last input after) map settings
     → FilesRose first last ⊎ (InputRose input input ⊎ (OutputRose before after ⊎ Rose doors doors))
 check_causes first last input before after map settings doors (inl unread) = inl unread.failed.rose
-check_causes first last input before after map settings doors (inr counted) = inr (inr (inl counted.0))
+check_causes first last input before after map settings doors (inr rest) = inr (inr (inl rest.0))
 
 pub check_outside : (code : Status) (first last : FilesView) (input : InputView) (before after : OutputView) (map settings : List ℕ) (doors : ℕ)
     → EndsCheck code (outside first input before) (outside last input after) map settings

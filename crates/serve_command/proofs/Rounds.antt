@@ -93,14 +93,17 @@ started_served status.Outside words roads first last before ready after old new 
       last = last;
       round = round;
       served = came.whole lines.0;
-      cause = elim lines.1 [ inl failed ↦ inl (
-        subst (λ (n : ℕ). Rose n after.faults) steady failed.0,
-        appends_front_then before.written ready.written after.written ready_line (last_lines (connections_of given) (last_number last)) put failed.1,
-      ) | inr whole ↦ inr (
-        round.rose (came.faults.0 whole.0),
-        whole.1 ∙ steady,
-        appends_then before.written ready.written after.written ready_line (last_lines (connections_of given) (last_number last)) put whole.2,
-      ) ];
+      cause = elim lines.1 [
+        | inl failed ↦ inl (
+          subst (λ (n : ℕ). Rose n after.faults) steady failed.0,
+          appends_front_then before.written ready.written after.written ready_line (last_lines (connections_of given) (last_number last)) put failed.1,
+        )
+        | inr whole ↦ inr (
+          round.rose (came.faults.0 whole.0),
+          whole.1 ∙ steady,
+          appends_then before.written ready.written after.written ready_line (last_lines (connections_of given) (last_number last)) put whole.2,
+        )
+      ];
     }))
 started_served status.Words words roads first last before ready after old new given short rose round put steady came lines = absurd lines
 started_served status.Refused words roads first last before ready after old new given short rose round put steady came lines = absurd lines

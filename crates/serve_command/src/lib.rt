@@ -13,4 +13,3 @@ mod serving;
 
 pub use counted_doors::CountedDoors;
 pub use serving::serve;
-

@@ -9,15 +9,15 @@ use Rattle.road_router.proofs.running.run.Goals as goal
 
 pub returns-in-Ok-Check-clause-outside : goal.returns-in-Ok-Check-clause-outside
 returns-in-Ok-Check-clause-outside g c =
-    check_outside c.check.result (g.F.Files.view c.args.files.now) (g.F.Files.view c.check.new.files) (g.I.Source.view c.args.input.now) (g.O.Sink.view c.args.output.now) (g.O.Sink.view c.check.new.output) c.in-Ok-Check.map.now c.in-Ok-Check.settings.now (g.N.CountedDoors.Doors.view c.args.doors.now).faults (c.check.ensures.ends (g.I.Source.view c.args.input.now))
+    check_outside c.check.result (g.F.Files.view c.args.files.now) (g.F.Files.view c.check.new.files) (g.I.Source.view c.args.input.now) (g.O.Sink.view c.args.output.now) (g.O.Sink.view c.check.new.output) c.in-Ok-Check.map.now c.in-Ok-Check.settings.now (g.N.Doors.view c.args.doors.now).faults (c.check.ensures.ends (g.I.Source.view c.args.input.now))
 
 pub returns-in-Ok-Ask-clause-outside : goal.returns-in-Ok-Ask-clause-outside
 returns-in-Ok-Ask-clause-outside g c =
-    ask_outside c.ask.result (outside (g.F.Files.view c.args.files.now) (g.I.Source.view c.args.input.now) (g.O.Sink.view c.args.output.now)) (outside (g.F.Files.view c.ask.new.files) (g.I.Source.view c.ask.new.input) (g.O.Sink.view c.ask.new.output)) c.in-Ok-Ask.map.now c.in-Ok-Ask.settings.now (g.N.CountedDoors.Doors.view c.args.doors.now).faults c.ask.ensures.ends
+    ask_outside c.ask.result (outside (g.F.Files.view c.args.files.now) (g.I.Source.view c.args.input.now) (g.O.Sink.view c.args.output.now)) (outside (g.F.Files.view c.ask.new.files) (g.I.Source.view c.ask.new.input) (g.O.Sink.view c.ask.new.output)) c.in-Ok-Ask.map.now c.in-Ok-Ask.settings.now (g.N.Doors.view c.args.doors.now).faults c.ask.ensures.ends
 
 pub returns-in-Err-Unknown-clause-ends : goal.returns-in-Err-Unknown-clause-ends
 returns-in-Err-Unknown-clause-ends g c =
     let before = outside (g.F.Files.view c.args.files.now) (g.I.Source.view c.args.input.now) (g.O.Sink.view c.args.output.now) in
     let after = outside (g.F.Files.view c.args.files.now) (g.I.Source.view c.args.input.now) (g.O.Sink.view c.close.new.output) in
     let none = (rw c.in-Err-Unknown.field-0-is at c.in-Err-Unknown.ensures.unknown).1 in
-    inl (subst (λ (command : Option Command). EndsOn command status.Words before after (g.N.CountedDoors.Doors.view c.args.doors.now) (g.N.CountedDoors.Doors.view c.args.doors.now)) (sym none) (record { status = refl; files = refl; input = refl; put = c.close.ensures.put }, refl))
+    inl (subst (λ (command : Option Command). EndsOn command status.Words before after (g.N.Doors.view c.args.doors.now) (g.N.Doors.view c.args.doors.now)) (sym none) (record { status = refl; files = refl; input = refl; put = c.close.ensures.put }, refl))
