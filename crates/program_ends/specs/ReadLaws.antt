@@ -1,5 +1,5 @@
 -- How the reads of files add up.
-use Rattle.std.specs.Prelude.{◌≡◌, ℕ, List, [], ◌∷◌, ◌++◌, map, Option, refl}
+use Rattle.std.specs.Prelude.{◌≡◌, ℕ, List, [], ◌∷◌, ◌++◌, Option, refl}
 use Rattle.std.proofs.Common.{sym, ap, subst, ◌∙◌, append_assoc, append-nil}
 use Rattle.road_io.specs.Faults.{Rose}
 use Rattle.road_io.specs.FailedNames.{AppendsNames}

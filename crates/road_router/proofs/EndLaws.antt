@@ -1,5 +1,5 @@
 -- What the parts of a run say, put together.
-use Rattle.std.proofs.Common.{◌≡◌, ℕ, List, ◌⊎◌, inl, inr, Ok, Err, refl, ap, sym, ◌∙◌, subst}
+use Rattle.std.proofs.Common.{◌≡◌, ℕ, List, ◌⊎◌, inl, inr, Ok, Err, refl, sym, ◌∙◌, subst}
 use Rattle.road_io.specs.Faults.{FilesRose, InputRose, OutputRose, Rose}
 use Rattle.road_io.specs.Outside.{Outside, outside}
 use Rattle.road_io.specs.Putting.{Closes}
@@ -14,9 +14,9 @@ use Rattle.map_loading.specs.Counting.{check_text, counts_of}
 use Rattle.map_loading.specs.Loading.{load_of}
 use Rattle.program_ends.specs.FileReads.{AreBegun, AreRead}
 use Rattle.program_ends.specs.ReadLaws.{begun_all}
-use Rattle.program_ends.specs.StoppedEarly.{EndsUnbegun, IsExhausted, IsUnread, memory_line}
+use Rattle.program_ends.specs.StoppedEarly.{EndsUnbegun}
 use Rattle.road_router.specs.AskEnding.{Answering, EndsAsk, EndsFailed, EndsTold, EndsUnread, IsLong}
-use Rattle.road_router.specs.CheckEnding.{CountedFront, EndsCheck, IsCounted}
+use Rattle.road_router.specs.CheckEnding.{EndsCheck, IsCounted}
 use Rattle.road_router.specs.InnerEnds.{EndsCountOver, EndsFrom, EndsOver, EndsPut, answered, count_exhausted, count_refused, counted, exhausted, refused}
 use Rattle.road_router.specs.MapReads.{MapRefused, both_files, both_names}
 

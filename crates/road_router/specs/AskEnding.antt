@@ -1,5 +1,5 @@
 -- How a run ends that answers the lines of its input (this project's rule), by its status.
-use Rattle.std.specs.Prelude.{◌≡◌, ℕ, ◌⊎◌, List, codes}
+use Rattle.std.specs.Prelude.{ℕ, ◌⊎◌, List, codes}
 use Rattle.edge_graph.specs.NetworkView.{NetworkView}
 use Rattle.line_session.specs.Publication.{Publication, opening}
 use Rattle.line_session.specs.Stopping.{FileFailed, InputFailed, OutputFailed, ToldAll, TookTooMuch}

@@ -1,6 +1,6 @@
 -- Serves this crate's own functions alone, and is no part of what `run` promises: how the steps of a run
 -- end, each by what it knows itself.
-use Rattle.std.specs.Prelude.{◌≡◌, ℕ, ◌⊎◌, List, [], Result, Ok, Err}
+use Rattle.std.specs.Prelude.{◌≡◌, ℕ, ◌⊎◌, List, Result, Ok, Err}
 use Rattle.std.specs.Io.KnownBytes.{Appends}
 use Rattle.edge_graph.specs.NetworkView.{NetworkView}
 use Rattle.road_io.specs.Faults.{OutputRose}

@@ -1,5 +1,5 @@
 -- The line on which answering ends stands behind what was told.
-use Rattle.std.proofs.Common.{ℕ, List, ap, inl, inr, refl, subst, sym}
+use Rattle.std.proofs.Common.{ℕ, List, ap, inl, inr, subst, sym}
 use Rattle.program_ends.specs.StoppedEarly.{cannot_read, memory_line}
 use Rattle.road_base.specs.declared.program_status.Status.{Status}
 use Rattle.road_io.specs.Outside.{Outside, outside}
