@@ -62,6 +62,8 @@ start() {
     addresses=$("$scratch/serve_load" ports 2)
     listen=$(echo "$addresses" | sed -n 1p)
     control=$(echo "$addresses" | sed -n 2p)
+    # What a server before it printed is not to be taken for its own.
+    : > "$scratch/$1.out"
     if [ "$1" = plain ]; then
         timeout 600 "$scratch/baseline" serve "$map" "$settings" "$listen" "$control" "$2" > "$scratch/$1.out" &
     else
