@@ -46,15 +46,7 @@ impl<'a, C: Cost, P: Parts> Over<'a, C, P> {
         ensures yes { OnTrue result (ShareCell self.now.frame.now.cells (P.level self.now.parts.now self.now.frame.now) u v) }
         ensures no { OnFalse result (¬ ShareCell self.now.frame.now.cells (P.level self.now.parts.now self.now.frame.now) u v) }
     {
-        self.frame.known();
-        self.parts.known(self.frame);
-        let level = self.parts.level(self.frame, u);
-        if level == 0 {
-            return false;
-        }
-        let one = self.frame.cell(level, u);
-        let other = self.frame.cell(level, v);
-        one.number == other.number
+        self.parts.share(self.frame, u, v)
     }
 }
 

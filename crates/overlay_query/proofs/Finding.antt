@@ -10,7 +10,7 @@ use Rattle.search_graph.specs.Digraph.{Weighting, IsOpen}
 use Rattle.search_graph.specs.Walks.{NoneBetween}
 use Rattle.search_graph.specs.Weighted.{IsWeighting}
 use Rattle.search_graph.specs.WeightLaws.{small_is_weighting}
-use Rattle.step_search.specs.Paths.{AreStarts, IsPathTo, IsLeastPath, NoPathTo}
+use Rattle.step_search.specs.Paths.{AreStarts, IsPathTo, IsLeastPath, NoPathTo, IsBeyond}
 use Rattle.step_search.specs.ArcSpace.{arc_space}
 use Rattle.step_search.specs.ArcLaws.{move_from_hop, hop_from_move}
 use Rattle.step_search.specs.TargetLaws.{NoneBetween-from_path, path_parts, rest_units, IsLeastWalk-from_path}
@@ -20,6 +20,7 @@ use Rattle.cell_frame.specs.Borders.{Framed}
 use Rattle.cell_frame.specs.Cliqued.{Rows}
 use Rattle.cell_frame.specs.Free.{free_level}
 use Rattle.cell_frame.specs.Parts.{ShareCell, part_cut}
+use Rattle.overlay_query.proofs.Beyond.{IsBeyond-whole}
 use Rattle.overlay_query.specs.Query.{IsQuery, IsAsked, IsCostWith, query_space}
 
 all_contains : (P : ℕ → Type 0) (xs : List ℕ) (x : ℕ) → All P xs → Contains xs x → P x
@@ -69,6 +70,10 @@ module _ {C : Type 0} {ops : CostOps C} (laws : CostLaws ops) (f : Framed) (w : 
     -- where no path leads to its vertex, no walk leads to the target
     pub NoneBetween-query : NoPathTo ops (query_space ops f w terminals) starts t.vertex → NoneBetween ops f.graph w starts t
     NoneBetween-query none = NoneBetween-from_path laws f.graph w starts t (NoPathTo-whole laws K query.lawful.cut (query_space ops f w terminals) query.lawful.over (arc_space ops f.graph w) whole starts t.vertex are_alone none)
+
+    -- where each path to its vertex costs a limit or more over the parts, so does each over the graph
+    pub IsBeyond-query : (limit : C) → IsBeyond ops (query_space ops f w terminals) starts t.vertex limit → IsBeyond ops (arc_space ops f.graph w) starts t.vertex limit
+    IsBeyond-query limit beyond = IsBeyond-whole laws K query.lawful.cut (query_space ops f w terminals) query.lawful.over (arc_space ops f.graph w) whole starts t.vertex are_alone limit beyond
 
     -- where a path leads to it, its vertex is open
     pub query_closed : (walk : List ℕ) (r : C) → IsPathTo ops (query_space ops f w terminals) starts t.vertex walk r → slice_get w.vertex t.vertex ≡ Some None → ⊥

@@ -1,4 +1,5 @@
 pub mod Answers
+pub mod Best
 pub mod Packed
 pub mod PackLaws
 pub mod Query

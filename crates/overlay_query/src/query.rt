@@ -1,6 +1,6 @@
 //! The query.
 
-ghost use Rattle.std.specs.Prelude.{◌≡◌, ℕ, ◌<◌, All, length, Some, IfOk, OnOk};
+ghost use Rattle.std.specs.Prelude.{◌≡◌, ℕ, ◌<◌, List, All, length, Some, IfOk, OnOk};
 ghost use Rattle.std.specs.List.{slice_get, Contains};
 ghost use Rattle.search_graph.specs.declared.ends.Start.{Start};
 ghost use Rattle.search_graph.specs.declared.ends.Target.{Target};
@@ -19,10 +19,10 @@ use cell_frame::{Cliques, Frame, Over, Parts};
 use plain_search::SearchFault;
 use search_graph::{Cost, Start, Target, Weights};
 use std::alloc::{AllocError, Global};
-use step_search::{Reached, Search};
+use step_search::Search;
 
 // All starts and all targets.
-fn terminals<C: Cost>(
+pub(crate) fn terminals<C: Cost>(
     alloc: Global,
     starts: &[Start<C>],
     targets: &[Target<C>],
@@ -34,26 +34,26 @@ fn terminals<C: Cost>(
 }
 
 // What a walk to the target costs: what its path does, with the target's cost in place of the vertex's.
-fn cost_with<C: Cost>(
+pub(crate) fn cost_with<C: Cost>(
     over: &Over<C, TerminalCells>,
     starts: &[Start<C>],
     target: Target<C>,
-    path: &Reached<C>,
+    path: C,
 ) -> C
     requires query { IsQuery C.ops over.now.frame.now over.now.weights.now over.now.cliques.now over.now.parts.now.vertices.items starts.now }
     requires target { IsAsked C.ops over.now.frame.now over.now.parts.now.vertices.items target }
-    requires path { IsLeastPath C.ops (query_space C.ops over.now.frame.now over.now.weights.now over.now.parts.now.vertices.items) starts.now target.vertex path.now.walk.items path.now.cost }
-    ensures { IsCostWith C.ops over.now.frame.now.graph over.now.weights.now starts.now target path.now.cost result }
+    requires path { (walk : List ℕ) × IsLeastPath C.ops (query_space C.ops over.now.frame.now over.now.weights.now over.now.parts.now.vertices.items) starts.now target.vertex walk path }
+    ensures { IsCostWith C.ops over.now.frame.now.graph over.now.weights.now starts.now target path result }
 {
     let _ = starts;
     match over.weights.vertex(target.vertex) {
-        None => path.cost,
-        Some(cost) => path.cost.minus(cost).plus(target.cost),
+        None => path,
+        Some(cost) => path.minus(cost).plus(target.cost),
     }
 }
 
 // The cheapest walk to one target, of a search that has begun.
-fn find<C: Cost>(
+pub(crate) fn find<C: Cost>(
     alloc: Global,
     over: &Over<C, TerminalCells>,
     search: &mut Search<C>,
@@ -71,7 +71,7 @@ fn find<C: Cost>(
     match search.answer(alloc, over, starts, target.vertex)? {
         None => Ok(None),
         Some(path) => {
-            let cost = cost_with(over, starts, target, &path);
+            let cost = cost_with(over, starts, target, path.cost);
             let hops = pack(alloc, over.frame, over.parts, &path.walk)?;
             let packed = PackedWalk {
                 first: path.walk[0],

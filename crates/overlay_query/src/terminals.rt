@@ -1,43 +1,66 @@
 //! The parts of a query, with the cells of its terminals looked up beforehand.
 
-ghost use Rattle.std.specs.Prelude.{◌≡◌, ℕ, ◌<◌, ◌≤◌, All, length, IfOk};
-ghost use Rattle.std.specs.List.{Contains};
+ghost use Rattle.std.specs.Prelude.{◌≡◌, ℕ, ◌<◌, ◌≤◌, All, length, IfOk, Some};
+ghost use Rattle.std.specs.List.{Contains, slice_get};
 ghost use Rattle.cell_frame.specs.Free.{has_terminal, free_level};
-ghost use Rattle.overlay_query.specs.TerminalCells.{AreCellsAt, AreTerminalCells};
+ghost use Rattle.overlay_query.specs.TerminalCells.{AreMarksAt, AreTerminalCells};
 
 use cell_frame::{Frame, Parts, Terminals};
-use search_graph::Numbers;
 use std::alloc::{AllocError, Global};
+use std::marker::Model;
 
 /// The parts of a query, as `cell_frame::Terminals` has them: at each vertex its highest cell that holds no terminal, or
-/// else the vertex alone. A search asks for them at each vertex and arc that it meets, so the cells of the terminals are
-/// looked up once, before it begins.
+/// else the vertex alone. A search asks for them at each vertex and arc that it meets, so the cells that hold a terminal
+/// are marked once, before it begins: a byte for each cell.
 #[derive(Drop)]
 pub struct TerminalCells {
     /// the terminals
     pub vertices: Vec<u32>,
-    /// the numbers of their cells, ascending, level by level from the lowest
-    pub levels: Vec<Numbers>,
+    /// whether each cell holds a terminal, by its number, level by level from the lowest
+    pub levels: Vec<CellMarks>,
 }
 
-// The numbers of the terminals' cells at a level, ascending.
-fn cells_at(
+/// Whether each cell of a level holds a terminal. Contracts see the list, by the cells' numbers.
+#[derive(Drop)]
+pub struct CellMarks {
+    marks: Vec<bool>,
+}
+
+impl Model for CellMarks {
+    ghost use Rattle.std.specs.Prelude.{List, Bool};
+
+    ghost Value = { List Bool };
+
+    ghost view = { λ m. m.marks.items };
+}
+
+impl CellMarks {
+    // Whether the cell of this number holds a terminal.
+    fn get(&self, number: u32) -> bool
+        requires { number < length self.now }
+        ensures { slice_get self.now number ≡ Some result }
+    {
+        self.marks[number as usize]
+    }
+}
+
+// Whether each cell of a level holds one of the vertices.
+fn marks_at(
     alloc: Global,
     frame: &Frame,
     level: u32,
     vertices: &[u32],
-) -> Result<Numbers, AllocError>
+) -> Result<CellMarks, AllocError>
     requires above { 1 ≤ level }
     requires below { level ≤ length frame.now.cells.levels }
     requires inside { All (λ t. t < frame.now.graph.vertices) vertices.now }
-    ensures { IfOk result (AreCellsAt frame.now.cells vertices.now level) }
+    ensures { IfOk result (AreMarksAt frame.now.cells vertices.now level) }
 {
-    let mut numbers = Vec::with_capacity(alloc, vertices.len())?;
+    let mut marks = vec![in alloc; false; frame.count(level) as usize]?;
     for vertex in vertices {
-        numbers.push(frame.cell(level, *vertex).number)?;
+        marks[frame.cell(level, *vertex).number as usize] = true;
     }
-    numbers.sort_unstable();
-    Ok(Numbers::of(numbers))
+    Ok(CellMarks { marks })
 }
 
 impl TerminalCells {
@@ -49,8 +72,8 @@ impl TerminalCells {
     {
         let mut levels = Vec::with_capacity(alloc, frame.levels() as usize)?;
         for below in 0..frame.levels() {
-            let numbers = cells_at(alloc, frame, below + 1, vertices.as_slice())?;
-            levels.push(numbers)?;
+            let marks = marks_at(alloc, frame, below + 1, vertices.as_slice())?;
+            levels.push(marks)?;
         }
         Ok(TerminalCells { vertices, levels })
     }
@@ -73,12 +96,7 @@ impl TerminalCells {
         requires vertex { v < frame.now.graph.vertices }
         ensures { result ≡ has_terminal frame.now.cells self.now.vertices.items level v }
     {
-        let number = frame.cell(level, v).number;
-        let numbers = self.levels[level as usize - 1].as_slice();
-        match numbers.binary_search(&number) {
-            Ok(_) => true,
-            Err(_) => false,
-        }
+        self.levels[level as usize - 1].get(frame.cell(level, v).number)
     }
 }
 
@@ -107,6 +125,19 @@ impl Parts for TerminalCells {
             level -= 1;
         }
         0
+    }
+
+    fn share(&self, frame: &Frame, u: u32, v: u32) -> bool {
+        frame.known();
+        for below in 0..frame.levels() {
+            let one = frame.cell(below + 1, u);
+            let other = frame.cell(below + 1, v);
+            if one.number == other.number {
+                let held = self.has_terminal(frame, below + 1, u);
+                return !held;
+            }
+        }
+        false
     }
 
     fn known(&self, frame: &Frame) {

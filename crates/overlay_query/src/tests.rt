@@ -6,7 +6,7 @@ ghost use Rattle.search_graph.specs.Durations.{durlen_ops};
 ghost use Rattle.search_graph.specs.Weighted.{AreSmall};
 ghost use Rattle.cell_frame.specs.Cliqued.{AreExact};
 
-use crate::{Hop, PackedFound, least};
+use crate::{Hop, PackedFound, cheapest, least, least_costs};
 use cell_customize::customize;
 use cell_frame::{Cell, Cliques, Frame};
 use cell_partition::cells;
@@ -121,6 +121,22 @@ fn a_walk_leaps_over_the_street_without_a_terminal(rt: HostRuntime) -> Result<()
     Ok(())
 }
 
+#[test]
+fn the_second_of_two_targets_is_the_cheapest(rt: HostRuntime) -> Result<(), Fail> {
+    let frame = two_streets(&rt, rt.alloc())?;
+    let weights = street_weights(rt.alloc(), frame.graph())?;
+    let cliques = customize(rt.alloc(), &frame, &weights)?;
+    let starts = [start(3, cost(49, 555))];
+    let targets = [target(3, cost(50, 556)), target(2, cost(50, 556))];
+    let found = cheapest(rt.alloc(), &frame, &weights, &cliques, &starts, &targets)?;
+    let hops = [by_arc(1), by_cell(0, 1, 0), by_arc(2)];
+    check(&rt, &found, cost(497, 3333), 3, &hops);
+    let costs = least_costs(rt.alloc(), &frame, &weights, &cliques, &starts, &targets)?;
+    let want = [Some(cost(796, 4444)), Some(cost(497, 3333))];
+    assert_eq!(rt; costs.as_slice(), want.as_slice());
+    Ok(())
+}
+
 // What the vertices of the ring cost; 6 is closed.
 fn ring_vertices(alloc: Global) -> Result<CostList<DurLen>, AllocError>
     ensures { IfOk result (λ costs. (length costs ≡ 8) × All (λ o. ForSome o (λ x. durlen_ops.units x 1)) costs) }
@@ -217,6 +233,28 @@ fn a_walk_has_a_shortcut_of_each_level(rt: HostRuntime) -> Result<(), Fail> {
         by_arc(0),
     ];
     check(&rt, &found[0], cost(91, 13), 1, &hops);
+    Ok(())
+}
+
+#[test]
+fn no_walk_leads_to_a_closed_vertex(rt: HostRuntime) -> Result<(), Fail> {
+    let frame = ring(&rt, rt.alloc())?;
+    let weights = ring_weights(rt.alloc(), frame.graph())?;
+    let cliques = customize(rt.alloc(), &frame, &weights)?;
+    let starts = [start(1, cost(5, 0))];
+    let closed = [target(6, cost(2, 2))];
+    let none = cheapest(rt.alloc(), &frame, &weights, &cliques, &starts, &closed)?;
+    assert!(rt; none.is_none());
+    let targets = [
+        target(6, cost(2, 2)),
+        target(0, cost(2, 2)),
+        target(6, cost(2, 2)),
+    ];
+    let found = cheapest(rt.alloc(), &frame, &weights, &cliques, &starts, &targets)?;
+    assert!(rt; found.is_some());
+    let costs = least_costs(rt.alloc(), &frame, &weights, &cliques, &starts, &targets)?;
+    let want = [None, Some(cost(91, 13)), None];
+    assert_eq!(rt; costs.as_slice(), want.as_slice());
     Ok(())
 }
 

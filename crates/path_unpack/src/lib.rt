@@ -20,4 +20,4 @@ mod unpacking;
 mod walks;
 
 pub use unpacking::unpack;
-pub use walks::least_from;
+pub use walks::{cheapest_from, least_from};

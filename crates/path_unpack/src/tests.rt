@@ -6,7 +6,7 @@ ghost use Rattle.search_graph.specs.Durations.{durlen_ops};
 ghost use Rattle.search_graph.specs.Weighted.{AreSmall};
 ghost use Rattle.cell_frame.specs.Cliqued.{AreExact};
 
-use crate::{least_from, unpack};
+use crate::{cheapest_from, least_from, unpack};
 use cell_customize::customize;
 use cell_frame::{Cell, Cliques, Frame};
 use cell_partition::cells;
@@ -155,6 +155,30 @@ fn shortcuts_of_both_levels_are_opened(rt: HostRuntime) -> Result<(), Fail> {
             let walk = unpack(rt.alloc(), &frame, &weights, &cliques, &found.packed)?;
             let want = [4, 5, 6, 7, 9, 0, 1, 2, 3];
             assert_eq!(rt; walk.as_slice(), want.as_slice());
+        }
+    }
+    Ok(())
+}
+
+#[test]
+fn the_nearer_of_two_targets_is_the_cheapest(rt: HostRuntime) -> Result<(), Fail> {
+    let frame = ring(&rt, rt.alloc())?;
+    let weights = weights(rt.alloc(), frame.graph())?;
+    let cliques = customize(rt.alloc(), &frame, &weights)?;
+    let starts = [start(4, cost(5, 0))];
+    let closed = [target(8, cost(2, 2))];
+    let none = cheapest_from(rt.alloc(), &frame, &weights, &cliques, &starts, &closed)?;
+    assert!(rt; none.is_none());
+    let targets = [
+        target(8, cost(2, 2)),
+        target(3, cost(2, 2)),
+        target(5, cost(2, 2)),
+    ];
+    match cheapest_from(rt.alloc(), &frame, &weights, &cliques, &starts, &targets)? {
+        None => panic!(rt; "no walk"),
+        Some(found) => {
+            assert_eq!(rt; found.cost, cost(8, 2));
+            assert_eq!(rt; found.walk.as_slice(), [4, 5].as_slice());
         }
     }
     Ok(())

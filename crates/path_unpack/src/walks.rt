@@ -8,10 +8,11 @@ ghost use Rattle.search_graph.specs.Weighted.{AreSmall};
 ghost use Rattle.plain_search.specs.Answers.{IsFound};
 ghost use Rattle.cell_frame.specs.Cliqued.{AreExact};
 ghost use Rattle.overlay_query.specs.Answers.{IsPackedFound};
+ghost use Rattle.path_unpack.specs.Cheapest.{IsCheapest};
 
 use crate::unpacking::unpack;
 use cell_frame::{Cliques, Frame};
-use overlay_query::{PackedFound, least};
+use overlay_query::{PackedFound, cheapest, least};
 use plain_search::{Found, SearchFault};
 use search_graph::{Cost, Numbers, Start, Target, Weights};
 use std::alloc::Global;
@@ -75,4 +76,34 @@ pub fn least_from<C: Cost>(
         found.push(answer)?;
     }
     Ok(found)
+}
+
+/// Of the cheapest walks from one of the starts to each of the targets one that costs least, or `None` exactly where there is
+/// no walk to any. Where a walk begins and ends at one vertex, it leads round. That walk alone is unpacked.
+///
+/// It answers `Memory` where memory runs out.
+pub fn cheapest_from<C: Cost>(
+    alloc: Global,
+    frame: &Frame,
+    weights: &Weights<C>,
+    cliques: &Cliques<C>,
+    starts: &[Start<C>],
+    targets: &[Target<C>],
+) -> Result<Option<Found<C>>, SearchFault>
+    requires weights { AreSmall C.ops frame.now.graph weights.now }
+    requires cliques { AreExact C.ops frame.now weights.now cliques.now (length frame.now.cells.levels) }
+    requires starts { (s : Start C) → Contains starts.now s → (s.vertex < frame.now.graph.vertices) × C.ops.units s.cost 1 }
+    requires targets { (t : Target C) → Contains targets.now t → (t.vertex < frame.now.graph.vertices) × C.ops.units t.cost 1 }
+    ensures { IfOk result (IsCheapest C.ops frame.now.graph weights.now starts.now targets.now) }
+{
+    match cheapest(alloc, frame, weights, cliques, starts, targets)? {
+        None => Ok(None),
+        Some(nearest) => {
+            let walk = unpack(alloc, frame, weights, cliques, &nearest.packed)?;
+            Ok(Some(Found {
+                cost: nearest.cost,
+                walk: Numbers::of(walk),
+            }))
+        }
+    }
 }

@@ -1,4 +1,5 @@
 -- How the least of walks comes from the least of parts of them.
+use Rattle.std.proofs.lemmas.Cmp.{upto}
 use Rattle.std.proofs.Common.{ℕ, arith, inl, inr, List, Option, Some, None, sym, subst}
 use Rattle.search_graph.specs.declared.costs.DurLen.{DurLen}
 use Rattle.search_graph.specs.Costs.{NoDearer}
@@ -9,9 +10,12 @@ use Rattle.road_places.specs.RoadMetric.{RoadMetric}
 use Rattle.road_places.specs.declared.walks.Route.{Route}
 use Rattle.road_walks.specs.Choosing.{IsLeastOf, IsCheaperOf, Either}
 use Rattle.road_walks.specs.Least.{IsRouteAnswer, most_units}
-use Rattle.road_walks.proofs.CheapestLemmas.{no_dearer-trans}
 use Rattle.road_base.specs.declared.segments.Place.{Place}
 use Rattle.road_places.specs.Permitted.{IsAlongOne, IsByTurns}
+
+-- a cost that is no dearer than another is no dearer than what that is no dearer than
+no_dearer-trans : (a b c : DurLen) → NoDearer durlen_ops a b → NoDearer durlen_ops b c → NoDearer durlen_ops a c
+no_dearer-trans a b c h k = upto durlen_laws.total a b c h k
 
 module _ (P Q : List ℕ → DurLen → Type 0) where
   -- the least of all that P tells, where Q tells nothing

@@ -1,4 +1,3 @@
-pub mod CheapestLemmas
 pub mod LeastLemmas
 pub mod LegLemmas
 pub mod TableLemmas

@@ -1,31 +1,26 @@
 -- The cheapest answer of a search is the least walk by turns.
 use Rattle.std.proofs.Common.{◌≡◌, ℕ, ◌*◌, ◌<◌, inl, inr, List, [], ◌∷◌, length, Option, Some, None, sym, subst, arith}
-use Rattle.std.specs.List.{Contains, slice_get}
+use Rattle.std.specs.List.{Contains}
 use Rattle.std.proofs.lemmas.List.Elements.{Contains-push, Contains-push_cases}
-use Rattle.std.proofs.lemmas.Option.{slice_get_within}
 use Rattle.road_base.specs.declared.segments.Place.{Place}
 use Rattle.search_graph.specs.declared.costs.DurLen.{DurLen}
 use Rattle.search_graph.specs.declared.ends.Start.{Start}
 use Rattle.search_graph.specs.declared.ends.Target.{Target}
-use Rattle.search_graph.specs.Costs.{NoDearer}
 use Rattle.search_graph.specs.Durations.{durlen_ops, durlen_laws}
 use Rattle.search_graph.specs.WeightLaws.{least_walk_units}
 use Rattle.search_graph.specs.Weighted.{AreSmall}
-use Rattle.std.specs.Prelude.{IfSome}
-use Rattle.search_graph.specs.Walks.{IsBetween, IsLeastWalk}
-use Rattle.list_lemmas.proofs.Gets.{Contains_get, get_Contains, get_some}
+use Rattle.std.specs.Prelude.{IfSome, option_map}
+use Rattle.search_graph.specs.Walks.{IsBetween}
 use Rattle.plain_search.specs.declared.found.Found.{Found}
-use Rattle.plain_search.specs.Answers.{IsFound}
+use Rattle.path_unpack.specs.Cheapest.{IsCheapest}
 use Rattle.metric_make.specs.MetricOf.{AreWithinUnit}
 use Rattle.road_places.specs.EndLaws.{start_unit, target_unit}
 use Rattle.road_places.specs.Ends.{AreAll}
 use Rattle.road_places.specs.Places.{IsDirection, IsPlaceOn}
 use Rattle.road_places.specs.Permitted.{IsByTurns, IsStart, IsTarget}
 use Rattle.road_places.specs.RoadMetric.{RoadMetric, turn_graph}
-use Rattle.road_places.specs.declared.walks.Route.{Route}
-use Rattle.road_walks.specs.Choosing.{IsLeastOf, IsCheapestOf, route_of}
+use Rattle.road_walks.specs.Choosing.{IsLeastOf, route_of}
 use Rattle.road_walks.specs.Least.{most_units}
-use Rattle.road_walks.proofs.CheapestLemmas.{no_dearer-trans}
 
 -- a list of one has that one alone
 pub only : (x y : Start DurLen) → Contains (x ∷ []) y → x ≡ y
@@ -74,52 +69,17 @@ module _ (road : RoadMetric) (p q : Place) (starts : List (Start DurLen)) (targe
         is_cost = r.is_cost;
       }
 
-  module _ (found : List (Option (Found DurLen))) (as_many : length found ≡ length targets)
-      (each : (k : ℕ) (t : Target DurLen) (answer : Option (Found DurLen)) → slice_get targets k ≡ Some t → slice_get found k ≡ Some answer → IsFound durlen_ops (turn_graph road.network) road.weights starts t answer) where
-    -- the place in the list of the target of a walk, and the answer there
-    answered : (walk : List ℕ) (d : DurLen) → (b : IsByTurns road p q walk d) → (answer : Option (Found DurLen)) × Contains found answer × IsFound durlen_ops (turn_graph road.network) road.weights starts b.last answer
-    answered walk d b =
-        let at = get_Contains targets b.last (are_targets.every b.last b.ends) in
-        let lt = slice_get_within targets at.0 b.last at.1 in
-        let a = get_some found at.0 (omega (arith, lt, as_many)) in
-        (a.0, Contains_get found at.0 a.0 a.1, each at.0 b.last a.0 at.1 a.1)
+  -- the cheapest walk to the targets is the least walk by turns
+  pub cheapest-least : (found : Option (Found DurLen)) → IsCheapest durlen_ops (turn_graph road.network) road.weights starts targets found → IsLeastOf (IsByTurns road p q) (option_map route_of found)
+  cheapest-least None h = λ walk d b. h b.last (are_targets.every b.last b.ends) walk d (by_turns-to walk d b)
+  cheapest-least (Some f) h = (by_turns-from h.0 h.1 f.walk f.cost h.2.leads, λ walk d b. h.3 b.last walk d (are_targets.every b.last b.ends) (by_turns-to walk d b))
 
-    -- each answer is of a target
-    target-of : (f : Found DurLen) → Contains found (Some f) → (t : Target DurLen) × Contains targets t × IsLeastWalk durlen_ops (turn_graph road.network) road.weights starts t f.walk f.cost
-    target-of f h =
-        let at = get_Contains found (Some f) h in
-        let lt = slice_get_within found at.0 (Some f) at.1 in
-        let t = get_some targets at.0 (omega (arith, lt, as_many)) in
-        (t.0, Contains_get targets at.0 t.0 t.1, each at.0 t.0 (Some f) t.1 at.1)
-
-    none-left : IsCheapestOf found None → (walk : List ℕ) (d : DurLen) → (b : IsByTurns road p q walk d) → (answer : Option (Found DurLen)) → Contains found answer → IsFound durlen_ops (turn_graph road.network) road.weights starts b.last answer → ⊥
-    none-left h walk d b None c f = f walk d (by_turns-to walk d b)
-    none-left h walk d b (Some a) c f = h a c
-
-    no_dearer : (r : Route) → ((a : Found DurLen) → Contains found (Some a) → NoDearer durlen_ops r.cost a.cost)
-        → (walk : List ℕ) (d : DurLen) → (b : IsByTurns road p q walk d) → (answer : Option (Found DurLen)) → Contains found answer → IsFound durlen_ops (turn_graph road.network) road.weights starts b.last answer → NoDearer durlen_ops r.cost d
-    no_dearer r h walk d b None c f = absurd (f walk d (by_turns-to walk d b))
-    no_dearer r h walk d b (Some a) c f = no_dearer-trans r.cost a.cost d (h a c) (f.least walk d (by_turns-to walk d b))
-
-    -- a route of one of the answers goes by turns
-    is-by_turns : (r : Route) (a : Found DurLen) → Contains found (Some a) → r ≡ route_of a → IsByTurns road p q r.walk r.cost
-    is-by_turns r a h e =
-        let t = target-of a h in
-        subst (λ (x : Route). IsByTurns road p q x.walk x.cost) (sym e) (by_turns-from t.0 t.1 a.walk a.cost t.2.leads)
-
-    -- the cheapest of the answers is the least walk by turns
-    pub cheapest-least : (r : Option Route) → IsCheapestOf found r → IsLeastOf (IsByTurns road p q) r
-    cheapest-least None h = λ walk d b. let a = answered walk d b in none-left h walk d b a.0 a.1 a.2
-    cheapest-least (Some r) h = (is-by_turns r h.0.0 h.0.1 h.0.2, λ walk d b. let a = answered walk d b in no_dearer r h.1 walk d b a.0 a.1 a.2)
-
-    -- and it costs no more than the network's vertices allow
-    pub cheapest-bound : AreSmall durlen_ops (turn_graph road.network) road.weights → ((s : Start DurLen) → Contains starts s → durlen_ops.units s.cost 1) → ((t : Target DurLen) → Contains targets t → durlen_ops.units t.cost 1)
-        → (r : Option Route) → IsCheapestOf found r → IfSome r (λ route. durlen_ops.units route.cost (most_units road.network))
-    cheapest-bound small start_units target_units None h = tt
-    cheapest-bound small start_units target_units (Some r) h =
-        let t = target-of h.0.0 h.0.1 in
-        subst (λ (x : Route). durlen_ops.units x.cost (most_units road.network)) (sym h.0.2)
-        (least_walk_units durlen_laws (turn_graph road.network) road.weights small starts t.0 start_units (target_units t.0 t.1) h.0.0.walk h.0.0.cost t.2)
+  -- and it costs no more than the network's vertices allow
+  pub cheapest-bound : AreSmall durlen_ops (turn_graph road.network) road.weights → ((s : Start DurLen) → Contains starts s → durlen_ops.units s.cost 1) → ((t : Target DurLen) → Contains targets t → durlen_ops.units t.cost 1)
+      → (found : Option (Found DurLen)) → IsCheapest durlen_ops (turn_graph road.network) road.weights starts targets found → IfSome (option_map route_of found) (λ route. durlen_ops.units route.cost (most_units road.network))
+  cheapest-bound small start_units target_units None h = tt
+  cheapest-bound small start_units target_units (Some f) h =
+      least_walk_units durlen_laws (turn_graph road.network) road.weights small starts h.0 start_units (target_units h.0 h.1) f.walk f.cost h.2
 
 module _ (road : RoadMetric) (p : Place) (on : IsPlaceOn road.network p) (unit : AreWithinUnit road.weights) where
   direction-within : (v : ℕ) → IsDirection p.segment v → v < 2 * length road.network.segments

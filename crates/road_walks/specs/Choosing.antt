@@ -1,5 +1,5 @@
 -- The crate's own: how the least of walks is chosen from parts of them.
-use Rattle.std.specs.Prelude.{◌≡◌, ℕ, ◌⊎◌, List, Option, Some, None, Contains}
+use Rattle.std.specs.Prelude.{◌≡◌, ℕ, ◌⊎◌, List, Option, Some, None}
 use Rattle.search_graph.specs.declared.costs.DurLen.{DurLen}
 use Rattle.search_graph.specs.Costs.{NoDearer}
 use Rattle.search_graph.specs.Durations.{durlen_ops}
@@ -24,8 +24,3 @@ IsCheaperOf (Some a) (Some b) result = ((result ≡ Some a) × NoDearer durlen_o
 -- a walk that a search found, as a route: its vertices are those of the road
 abbrev pub route_of : Found DurLen → Route
 route_of found = record { cost = found.cost; walk = found.walk }
-
--- of these walks one of the least cost, or none where there is none
-abbrev pub IsCheapestOf : List (Option (Found DurLen)) → Option Route → Type 0
-IsCheapestOf all None = (a : Found DurLen) → ¬ Contains all (Some a)
-IsCheapestOf all (Some route) = ((a : Found DurLen) × Contains all (Some a) × (route ≡ route_of a)) × ((a : Found DurLen) → Contains all (Some a) → NoDearer durlen_ops route.cost a.cost)

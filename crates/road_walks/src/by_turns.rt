@@ -1,8 +1,8 @@
 //! Walks of two or more vertices between two places.
 
-ghost use Rattle.std.specs.Prelude.{◌≡◌, ℕ, ◌<◌, Some, IfOk, IfSome, length};
-ghost use Rattle.std.specs.List.{Contains, slice_get};
-ghost use Rattle.plain_search.specs.Answers.{IsFound};
+ghost use Rattle.std.specs.Prelude.{◌<◌, IfOk, IfSome};
+ghost use Rattle.std.specs.List.{Contains};
+ghost use Rattle.path_unpack.specs.Cheapest.{IsCheapest};
 ghost use Rattle.search_graph.specs.Durations.{durlen_ops};
 ghost use Rattle.road_places.specs.Ends.{AreAll};
 ghost use Rattle.road_places.specs.Permitted.{IsByTurns, IsStart, IsTarget};
@@ -11,9 +11,9 @@ ghost use Rattle.road_places.specs.RoadMetric.{turn_graph};
 ghost use Rattle.road_walks.specs.Choosing.{IsLeastOf};
 ghost use Rattle.road_walks.specs.Least.{most_units};
 
-use crate::cheapest::cheapest;
+use crate::cheapest::route_of;
 use customized::Under;
-use path_unpack::least_from;
+use path_unpack::cheapest_from;
 use plain_search::{Found, SearchFault};
 use road_base::Place;
 use road_places::{Route, starts, targets};
@@ -54,22 +54,21 @@ pub(crate) fn targets_to(
     Ok(targets)
 }
 
-// For each target the least walk over the turns from one of the starts to it, or none.
+// The least walk over the turns from one of the starts to one of the targets, or none.
 fn over_turns(
     alloc: Global,
     under: &Under<'_>,
     starts: &[Start<DurLen>],
     targets: &[Target<DurLen>],
-) -> Result<Vec<Option<Found<DurLen>>>, AllocError>
+) -> Result<Option<Found<DurLen>>, AllocError>
     requires starts { (s : _) → Contains starts.now s → (s.vertex < under.now.frame.graph.vertices) × durlen_ops.units s.cost 1 }
     requires targets { (t : _) → Contains targets.now t → (t.vertex < under.now.frame.graph.vertices) × durlen_ops.units t.cost 1 }
-    ensures one_each { IfOk result (λ found. length found.items ≡ length targets.now) }
-    ensures least { IfOk result (λ found. (k : ℕ) (t : _) (answer : _) → slice_get targets.now k ≡ Some t → slice_get found.items k ≡ Some answer → IsFound durlen_ops (turn_graph under.now.road.network) under.now.road.weights starts.now t answer) }
+    ensures { IfOk result (IsCheapest durlen_ops (turn_graph under.now.road.network) under.now.road.weights starts.now targets.now) }
 {
     let frame = under.frame();
     let base = under.base();
     let cliques = under.cliques();
-    match least_from(alloc, frame, base.weights(), cliques, starts, targets) {
+    match cheapest_from(alloc, frame, base.weights(), cliques, starts, targets) {
         Ok(found) => Ok(found),
         Err(SearchFault::Memory) => Err(AllocError),
     }
@@ -91,5 +90,5 @@ pub(crate) fn by_turns(
     let targets = targets_to(alloc, under, to)?;
     let _small = under.base();
     let found = over_turns(alloc, under, &starts, &targets)?;
-    Ok(cheapest(found))
+    Ok(route_of(found))
 }

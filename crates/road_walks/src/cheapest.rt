@@ -1,7 +1,7 @@
 //! The cheaper of walks.
 
 ghost use Rattle.std.specs.Prelude.{◌≡◌, option_map};
-ghost use Rattle.road_walks.specs.Choosing.{IsCheaperOf, IsCheapestOf, route_of};
+ghost use Rattle.road_walks.specs.Choosing.{IsCheaperOf, route_of};
 
 use plain_search::Found;
 use road_places::{Route, Walk};
@@ -24,19 +24,8 @@ pub(crate) fn cheaper(a: Option<Route>, b: Option<Route>) -> Option<Route>
     }
 }
 
-/// Of all these walks the first that costs least, as a route.
-pub(crate) fn cheapest(found: Vec<Option<Found<DurLen>>>) -> Option<Route>
-    ensures { IsCheapestOf found.items result }
-{
-    let mut best = None;
-    for one in found {
-        best = cheaper(best, route_of(one));
-    }
-    best
-}
-
 // The route of a walk that a search found.
-fn route_of(found: Option<Found<DurLen>>) -> Option<Route>
+pub(crate) fn route_of(found: Option<Found<DurLen>>) -> Option<Route>
     ensures { result ≡ option_map route_of found }
 {
     let found = found?;

@@ -1,12 +1,12 @@
 -- The answer to a target that is settled, or when nothing is left to settle.
-use Rattle.std.proofs.Common.{◌≡◌, ℕ, ◌<◌, inl, inr, Some, None, List, [], ◌∷◌, ◌++◌, reverse, refl, sym, ◌∙◌, ap, subst, arith}
+use Rattle.std.proofs.Common.{◌≡◌, ℕ, ◌<◌, inl, inr, false, Some, None, List, [], ◌∷◌, ◌++◌, reverse, refl, sym, ◌∙◌, ap, subst, arith}
 use Rattle.std.specs.List.{Contains}
 use Rattle.std.proofs.lemmas.Option.{same_Some, none-some}
 use Rattle.search_graph.specs.Costs.{CostOps, CostLaws, NoDearer}
 use Rattle.search_graph.specs.declared.ends.Start.{Start}
 use Rattle.search_graph.specs.OrderLaws.{le_trans}
 use Rattle.step_search.specs.Spaces.{Space}
-use Rattle.step_search.specs.Paths.{IsPathTo, IsLeastPath, NoPathTo}
+use Rattle.step_search.specs.Paths.{IsBeyond, IsPathTo, IsLeastPath, NoPathTo}
 use Rattle.step_search.specs.Labelled.{label_of, settled_of}
 use Rattle.step_search.specs.Progress.{IsTrail}
 use Rattle.step_search.specs.UnderWay.{IsUnderWay, IsDone}
@@ -77,3 +77,15 @@ module _ {C : Type 0} {ops : CostOps C} (laws : CostLaws ops) (S : Space C) (sta
         let m = under_way.front.labelled target l has in
         let t = trail_exists ops S starts search.tree.items under_way.tree l.node m.0 m.1 in
         (reverse t.0 ++ target ∷ [], least_path t.0 (reverse t.0) (reverse t.0 ++ target ∷ []) t.1 refl refl)
+
+-- where each key is at the limit or past it, so is each path to what isn't settled
+pub beyond : {C : Type 0} {ops : CostOps C} (laws : CostLaws ops) (S : Space C) (starts : List (Start C)) (search : Search C) → IsUnderWay ops S starts search → (target : ℕ) (limit : C) → settled_of search.labels target ≡ false →
+    ((k : C) (v : ℕ) → Contains search.queue (k, v) → NoDearer ops limit k) → IsBeyond ops S starts target limit
+beyond {C} {ops} laws S starts search under_way target limit unsettled far walk d p =
+    elim (path_far laws S under_way.space starts under_way.fit search.tree.items under_way.tree (label_of search.labels) (settled_of search.labels) search.queue under_way.front under_way.expanded
+    (λ c. NoDearer ops limit c) (λ c e f g. le_trans laws limit c e f g)
+    (λ v l s h. far l.cost v (under_way.front.queued v l s h))
+    under_way.starts_in target walk d p) [
+      | inl w ↦ le_trans laws limit w.0.cost d (far w.0.cost target (under_way.front.queued target w.0 unsettled w.1)) w.2
+      | inr f ↦ f
+    ]

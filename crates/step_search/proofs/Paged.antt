@@ -52,26 +52,26 @@ page_in pages p r lt = elim (cases_lt p (length pages)) [
 ]
 
 -- one slot is written on the page of v
-module _ {C : Type 0} (pages : List (List (Slot C))) (v : ℕ) (slot : Slot C) (made : v % 256 < length (page_of pages (v / 256))) where
-  written_at : (u : ℕ) → slot_at (set pages (v / 256) (set (page_of pages (v / 256)) (v % 256) slot)) u ≡ changed (slot_at pages) v slot u
+module _ {C : Type 0} (pages : List (List (Slot C))) (v : ℕ) (slot : Slot C) (made : v % 64 < length (page_of pages (v / 64))) where
+  written_at : (u : ℕ) → slot_at (set pages (v / 64) (set (page_of pages (v / 64)) (v % 64) slot)) u ≡ changed (slot_at pages) v slot u
   written_at u =
-      let at : get_or (set pages (v / 256) (set (page_of pages (v / 256)) (v % 256) slot)) (v / 256) [] ≡ set (page_of pages (v / 256)) (v % 256) slot = get_or-set_same pages (v / 256) (set (page_of pages (v / 256)) (v % 256) slot) [] (page_in pages (v / 256) (v % 256) made) in
+      let at : get_or (set pages (v / 64) (set (page_of pages (v / 64)) (v % 64) slot)) (v / 64) [] ≡ set (page_of pages (v / 64)) (v % 64) slot = get_or-set_same pages (v / 64) (set (page_of pages (v / 64)) (v % 64) slot) [] (page_in pages (v / 64) (v % 64) made) in
       elim (same_place v u) [
-        | inl e ↦ ap (λ (x : ℕ). slot_at (set pages (v / 256) (set (page_of pages (v / 256)) (v % 256) slot)) x) (sym e) ∙ ap (λ (p : List (Slot C)). slot_on p (v % 256)) at ∙ get_or-set_same (page_of pages (v / 256)) (v % 256) slot Untouched made ∙ sym (changed-here (slot_at pages) v slot u e)
-        | inr ne ↦ elim (cases_eq (u / 256) (v / 256)) [
+        | inl e ↦ ap (λ (x : ℕ). slot_at (set pages (v / 64) (set (page_of pages (v / 64)) (v % 64) slot)) x) (sym e) ∙ ap (λ (p : List (Slot C)). slot_on p (v % 64)) at ∙ get_or-set_same (page_of pages (v / 64)) (v % 64) slot Untouched made ∙ sym (changed-here (slot_at pages) v slot u e)
+        | inr ne ↦ elim (cases_eq (u / 64) (v / 64)) [
           | inl e ↦
-              let other : u % 256 ≢ v % 256 = λ q. let same : v ≡ u = omega arith in true≢false (sym (eq-eqb v u same) ∙ ne) in
-              ap (λ (x : ℕ). slot_on (page_of (set pages (v / 256) (set (page_of pages (v / 256)) (v % 256) slot)) x) (u % 256)) e ∙ ap (λ (p : List (Slot C)). slot_on p (u % 256)) at ∙ get_or-set_other (page_of pages (v / 256)) (v % 256) (u % 256) slot Untouched other
-              ∙ sym (ap (λ (x : ℕ). slot_on (page_of pages x) (u % 256)) e) ∙ sym (changed-there (slot_at pages) v slot u ne)
-          | inr far ↦ ap (λ (p : List (Slot C)). slot_on p (u % 256)) (get_or-set_other pages (v / 256) (u / 256) (set (page_of pages (v / 256)) (v % 256) slot) [] far) ∙ sym (changed-there (slot_at pages) v slot u ne)
+              let other : u % 64 ≢ v % 64 = λ q. let same : v ≡ u = omega arith in true≢false (sym (eq-eqb v u same) ∙ ne) in
+              ap (λ (x : ℕ). slot_on (page_of (set pages (v / 64) (set (page_of pages (v / 64)) (v % 64) slot)) x) (u % 64)) e ∙ ap (λ (p : List (Slot C)). slot_on p (u % 64)) at ∙ get_or-set_other (page_of pages (v / 64)) (v % 64) (u % 64) slot Untouched other
+              ∙ sym (ap (λ (x : ℕ). slot_on (page_of pages x) (u % 64)) e) ∙ sym (changed-there (slot_at pages) v slot u ne)
+          | inr far ↦ ap (λ (p : List (Slot C)). slot_on p (u % 64)) (get_or-set_other pages (v / 64) (u / 64) (set (page_of pages (v / 64)) (v % 64) slot) [] far) ∙ sym (changed-there (slot_at pages) v slot u ne)
         ]
       ]
 
   -- the same of the page as it is read in its place
-  pub slot_at-written : (page new : List (Slot C)) → page ≡ get_or pages (v / 256) page → new ≡ set page (v % 256) slot → slot_at (set pages (v / 256) new) ≡ changed (slot_at pages) v slot
+  pub slot_at-written : (page new : List (Slot C)) → page ≡ get_or pages (v / 64) page → new ≡ set page (v % 64) slot → slot_at (set pages (v / 64) new) ≡ changed (slot_at pages) v slot
   slot_at-written page new is e =
-      let there : page ≡ page_of pages (v / 256) = is ∙ sym (get_or_default pages (v / 256) [] page (page_in pages (v / 256) (v % 256) made)) in
-      ap (λ (p : List (Slot C)). slot_at (set pages (v / 256) p)) (e ∙ ap (λ (p : List (Slot C)). set p (v % 256) slot) there) ∙ (λ i u. written_at u i)
+      let there : page ≡ page_of pages (v / 64) = is ∙ sym (get_or_default pages (v / 64) [] page (page_in pages (v / 64) (v % 64) made)) in
+      ap (λ (p : List (Slot C)). slot_at (set pages (v / 64) p)) (e ∙ ap (λ (p : List (Slot C)). set p (v % 64) slot) there) ∙ (λ i u. written_at u i)
 
 -- a page with no slots still has none, where a slot of another page is written
 pub empty_stays : {C : Type 0} (pages : List (List (Slot C))) (q r : ℕ) (new : List (Slot C)) → r < length (page_of pages q) → (p : ℕ) → page_of pages p ≡ [] → page_of (set pages q new) p ≡ []
@@ -118,14 +118,14 @@ none_touched pages touched e h p = elim (h.each p) [
 
 -- and no vertex a slot
 pub blank_at : {C : Type 0} (pages : List (List (Slot C))) → ((p : ℕ) → page_of pages p ≡ []) → (v : ℕ) → slot_at pages v ≡ Untouched
-blank_at pages none v = ap (λ (p : List (Slot _)). slot_on p (v % 256)) (none (v / 256))
+blank_at pages none v = ap (λ (p : List (Slot _)). slot_on p (v % 64)) (none (v / 64))
 
 -- where a page is made, all slots are as they were
 pub same_slots : {C : Type 0} (old new : List (List (Slot C))) (q : ℕ) → ((r : ℕ) → slot_on (page_of new q) r ≡ slot_on (page_of old q) r) → ((p : ℕ) → (p ≡ q → ⊥) → page_of new p ≡ page_of old p) → slot_at new ≡ slot_at old
 same_slots {C} old new q here others =
     let at : (v : ℕ) → slot_at new v ≡ slot_at old v =
-    λ v. elim (cases_eq (v / 256) q) [
-      | inl e ↦ ap (λ (p : ℕ). slot_on (page_of new p) (v % 256)) e ∙ here (v % 256) ∙ ap (λ (p : ℕ). slot_on (page_of old p) (v % 256)) (sym e)
-      | inr ne ↦ ap (λ (p : List (Slot C)). slot_on p (v % 256)) (others (v / 256) ne)
+    λ v. elim (cases_eq (v / 64) q) [
+      | inl e ↦ ap (λ (p : ℕ). slot_on (page_of new p) (v % 64)) e ∙ here (v % 64) ∙ ap (λ (p : ℕ). slot_on (page_of old p) (v % 64)) (sym e)
+      | inr ne ↦ ap (λ (p : List (Slot C)). slot_on p (v % 64)) (others (v / 64) ne)
     ] in
     λ i v. at v i

@@ -33,6 +33,10 @@ pub record IsLeastPath {C : Type 0} (ops : CostOps C) (S : Space C) (starts : Li
 abbrev pub NoPathTo : {C : Type 0} → CostOps C → Space C → List (Start C) → ℕ → Type 0
 NoPathTo {C} ops S starts target = (walk : List ℕ) (d : C) → ¬ IsPathTo ops S starts target walk d
 
+-- no walk leads to the target at less than `limit`
+abbrev pub IsBeyond : {C : Type 0} → CostOps C → Space C → List (Start C) → ℕ → C → Type 0
+IsBeyond {C} ops S starts target limit = (walk : List ℕ) (d : C) → IsPathTo ops S starts target walk d → NoDearer ops limit d
+
 -- what a cheapest path to the target costs, and none exactly where there is none
 abbrev pub IsLeastPathCost : {C : Type 0} → CostOps C → Space C → List (Start C) → ℕ → Option C → Type 0
 IsLeastPathCost ops S starts target cost = MatchOption cost (NoPathTo ops S starts target) (λ d. (walk : List ℕ) × IsLeastPath ops S starts target walk d)

@@ -1,5 +1,5 @@
--- Private to this crate: what the queue's contracts cite: a queue as the list of its entries, each a key and a vertex.
-use Rattle.std.specs.Prelude.{◌≡◌, ℕ, ◌+◌, ◌⊎◌, ◌↔◌, List, length}
+-- A queue as the list of its entries, each a key and a vertex.
+use Rattle.std.specs.Prelude.{◌≡◌, ℕ, ◌+◌, ◌<◌, ◌^◌, ◌⊎◌, ◌↔◌, List, length}
 use Rattle.std.specs.List.{Contains}
 use Rattle.std.specs.Ordering.{ordering_then, nat_cmp}
 use Rattle.std.specs.declared.cmp.Ordering.{Ordering}
@@ -23,3 +23,7 @@ entry_cmp cmp x y = ordering_then (cmp y.0.0 x.0.0) (nat_cmp x.1 y.1)
 -- an entry of the heap, read as a key and a vertex
 abbrev pub entry_of : {C : Type 0} → Reverse C × ℕ → C × ℕ
 entry_of e = (e.0.0, e.1)
+
+-- the vertices of the heap's entries fit into four bytes
+abbrev pub AreShort : {C : Type 0} → List (Reverse C × ℕ) → Type 0
+AreShort entries = (e : _) → Contains entries e → e.1 < 2 ^ 32

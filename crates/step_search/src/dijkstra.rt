@@ -1,11 +1,12 @@
 //! The search: a tree of walks, the labels of the vertices, and the queue.
 
-ghost use Rattle.std.specs.Prelude.{◌≡◌, ℕ, ◌<◌, ◌^◌, List, [], true, reverse, length, Some, IfSome, IfNone, IfOk, OnOk};
+ghost use Rattle.std.specs.Prelude.{◌≡◌, ℕ, ◌<◌, ◌^◌, List, [], true, false, reverse, length, Some, IfSome, IfNone, IfOk, OnOk};
 ghost use Rattle.std.specs.Bool.{OnTrue, OnFalse};
 ghost use Rattle.std.specs.List.{Contains, slice_get};
 ghost use Rattle.step_search.specs.Spaces.{HasHop, IsSpace};
-ghost use Rattle.step_search.specs.Paths.{AreStarts, IsAnswer, IsLeastPathCost};
-ghost use Rattle.step_search.specs.Labelled.{label_of, settled_of};
+ghost use Rattle.step_search.specs.Paths.{AreStarts, IsAnswer, IsBeyond, IsLeastPathCost};
+ghost use Rattle.step_search.specs.Labelled.{label_of, settled_of, changed};
+ghost use Rattle.step_search.specs.Queued.{Adds};
 ghost use Rattle.step_search.specs.Progress.{LabelWithin, Expanded, IsBackward, IsFront, IsTrail};
 ghost use Rattle.step_search.specs.Stepping.{Begins, Improves, IsAtWork, IsFresh, IsNearest, IsTaken, NoneSettled, Offers, OnlyFalls, Settles, Skips};
 ghost use Rattle.step_search.specs.UnderWay.{IsUnderWay, IsDone};
@@ -101,6 +102,37 @@ impl<C: Cost> Search<C> {
             }
         }
         Ok(())
+    }
+
+    /// Goes on until `until` is settled, nothing is left to settle, or each path to what isn't settled costs `limit`
+    /// or more. It tells whether `until` is settled or can't be reached; else no path to it costs less than `limit`. It
+    /// ends in the error where memory runs out, and the search is then of no use any more.
+    ///
+    /// `steps` and `starts` are those with which the search began.
+    pub fn run_below<T: Steps<C>>(
+        &mut self,
+        steps: &T,
+        starts: &[Start<C>],
+        until: u32,
+        limit: C,
+    ) -> Result<bool, AllocError>
+        requires ready { T.ready steps.now }
+        requires under_way { IsUnderWay C.ops (T.space steps.now) starts.now self.old }
+        ensures under_way { OnOk result (IsUnderWay C.ops (T.space steps.now) starts.now self.new) }
+        ensures done { IfOk result (λ done. OnTrue done (IsDone self.new until)) }
+        ensures beyond { IfOk result (λ done. OnFalse done (IsBeyond C.ops (T.space steps.now) starts.now until limit)) }
+    {
+        let _ = starts;
+        while !self.labels.is_settled(until) {
+            if self.queue.is_beyond(limit) {
+                return Ok(false);
+            }
+            match self.nearest() {
+                Some(v) => self.settle(steps, v)?,
+                None => return Ok(true),
+            }
+        }
+        Ok(true)
     }
 
     /// A cheapest path to `target`, or `None` exactly where there is none, once the search has run until it.
@@ -308,7 +340,9 @@ impl<C: Cost> Search<C> {
         }
     }
 
-    // Offers to the head of a hop the label that the hop gives it, behind the node at `at` where `paid` is paid.
+    // Offers to the head of a hop the label that the hop gives it, behind the node at `at` where `paid` is paid. Most
+    // offers improve nothing, so they end here, in the loops over arcs and rows.
+    #[inline(always)]
     fn offer(&mut self, at: usize, paid: C, hop: Hop<C>) -> Result<(), AllocError>
         requires fits { C.ops.units (C.ops.plus paid hop.cost) (2 ^ 31) }
         requires fixed { settled_of self.old.labels hop.head ≡ true → LabelWithin C.ops (label_of self.old.labels) hop.head (C.ops.plus paid hop.cost) }
@@ -323,12 +357,26 @@ impl<C: Cost> Search<C> {
         if !self.improves(hop.head, label.cost) {
             return Ok(());
         }
-        self.labels.put(hop.head, label)?;
-        self.queue.push(label.cost, hop.head)?;
+        self.put(hop.head, label)?;
+        Ok(())
+    }
+
+    // Puts the label in place of a dearer one, and queues its vertex.
+    #[inline(never)]
+    fn put(&mut self, v: u32, label: Label<C>) -> Result<(), AllocError>
+        requires { settled_of self.old.labels v ≡ false }
+        ensures label { OnOk result (label_of self.new.labels ≡ changed (label_of self.old.labels) v (Some label)) }
+        ensures queue { OnOk result (Adds self.old.queue self.new.queue (label.cost, v)) }
+        ensures settled { OnOk result (settled_of self.new.labels ≡ settled_of self.old.labels) }
+        ensures tree { OnOk result (self.new.tree.items ≡ self.old.tree.items) }
+    {
+        self.labels.put(v, label)?;
+        self.queue.push(label.cost, v)?;
         Ok(())
     }
 
     // Whether `cost` is less than what the vertex's label costs, or it has none.
+    #[inline(always)]
     fn improves(&self, v: u32, cost: C) -> bool
         ensures yes { OnTrue result (Improves C.ops (label_of self.now.labels) v cost) }
         ensures no { OnFalse result (LabelWithin C.ops (label_of self.now.labels) v cost) }

@@ -67,6 +67,7 @@ impl<C: Copy> Labels<C> {
     }
 
     /// The label of `v`, if it has one.
+    #[inline(always)]
     pub fn label(&self, v: u32) -> Option<Label<C>>
         ensures { result ≡ label_of self.now v }
     {

@@ -3,7 +3,7 @@
 //!
 //! A search goes from several starts, each with a cost of its own, and answers for each target a path of the
 //! least cost, and none exactly where there is none. It goes on until its target is settled, or nothing is left.
-//! Its work and its memory follow what it touches, by pages of 256 neighbouring vertices: nothing is made for each
+//! Its work and its memory follow what it touches, by pages of 64 neighbouring vertices: nothing is made for each
 //! vertex of the space. A directory has 24 bytes for each page up to the last one that is touched.
 //!
 //! `least` answers a list of targets at once. The parts of `Search` serve who wants to go target by target, or
@@ -25,3 +25,4 @@ mod tests;
 
 pub use dijkstra::{Reached, Search, least};
 pub use hops::{Hop, Steps};
+pub use queue::Queue;

@@ -1,4 +1,4 @@
-//! Slots by vertex on pages: each page has the slots of 256 neighbouring vertices, or none until it is made.
+//! Slots by vertex on pages: each page has the slots of 64 neighbouring vertices, or none until it is made.
 
 ghost use Rattle.std.specs.Prelude.{◌≡◌, ℕ, ◌/◌, ◌%◌, ◌<◌, ◌≤◌, ◌↔◌, [], length, slice_index_or, set, IsTrue, OnOk};
 ghost use Rattle.std.specs.List.{Contains};
@@ -10,7 +10,7 @@ use std::alloc::{AllocError, Global};
 use std::marker::Model;
 
 /// How many vertices a page is for.
-const PAGE: usize = 256;
+const PAGE: usize = 64;
 
 /// The slots of a page that is made, or no slots.
 #[derive(Drop)]
@@ -38,6 +38,7 @@ impl<C: Copy> Page<C> {
     }
 
     // The slot at `place`.
+    #[inline(always)]
     fn read(&self, place: usize) -> Slot<C>
         ensures { result ≡ slot_on self.now place }
     {
@@ -64,7 +65,7 @@ impl<C: Copy> Page<C> {
 
     // Whether the page is made.
     fn is_made(&self) -> bool
-        ensures { IsTrue result ↔ (256 ≤ length self.now) }
+        ensures { IsTrue result ↔ (64 ≤ length self.now) }
     {
         self.slots.len() >= PAGE
     }
@@ -72,7 +73,7 @@ impl<C: Copy> Page<C> {
     // Makes the page where it isn't made yet.
     fn ensure(&mut self) -> Result<(), AllocError>
         ensures same { (r : ℕ) → slot_on self.new r ≡ slot_on self.old r }
-        ensures made { OnOk result (256 ≤ length self.new) }
+        ensures made { OnOk result (64 ≤ length self.new) }
     {
         if self.slots.len() < PAGE {
             self.slots.resize(PAGE, Slot::Untouched)?;
@@ -82,6 +83,7 @@ impl<C: Copy> Page<C> {
 }
 
 /// The slot of `v`.
+#[inline(always)]
 pub fn read<C: Copy>(pages: &[Page<C>], v: u32) -> Slot<C>
     ensures { result ≡ slot_at pages.now v }
 {
@@ -93,7 +95,7 @@ pub fn read<C: Copy>(pages: &[Page<C>], v: u32) -> Slot<C>
 
 /// Writes the slot of `v`, whose page is made.
 pub fn write<C: Copy>(pages: &mut Vec<Page<C>>, v: u32, slot: Slot<C>)
-    requires { v % 256 < length (page_of pages.old.items (v / 256)) }
+    requires { v % 64 < length (page_of pages.old.items (v / 64)) }
     ensures slots { slot_at pages.new.items ≡ changed (slot_at pages.old.items) v slot }
     ensures empty { (p : ℕ) → page_of pages.old.items p ≡ [] → page_of pages.new.items p ≡ [] }
 {
@@ -108,7 +110,7 @@ pub fn ensure_page<C: Copy>(
     v: u32,
 ) -> Result<(), AllocError>
     requires touched { AreTouched pages.old.items touched.old.items }
-    ensures made { OnOk result (v % 256 < length (page_of pages.new.items (v / 256))) }
+    ensures made { OnOk result (v % 64 < length (page_of pages.new.items (v / 64))) }
     ensures same { slot_at pages.new.items ≡ slot_at pages.old.items }
     ensures touched { AreTouched pages.new.items touched.new.items }
 {
@@ -124,7 +126,7 @@ pub fn ensure_page<C: Copy>(
 // Makes a page.
 fn make_page<C: Copy>(pages: &mut Vec<Page<C>>, page: usize) -> Result<(), AllocError>
     requires { page < length pages.old.items }
-    ensures made { OnOk result (256 ≤ length (page_of pages.new.items page)) }
+    ensures made { OnOk result (64 ≤ length (page_of pages.new.items page)) }
     ensures same { slot_at pages.new.items ≡ slot_at pages.old.items }
     ensures others { (p : ℕ) → (p ≡ page → ⊥) → page_of pages.new.items p ≡ page_of pages.old.items p }
 {

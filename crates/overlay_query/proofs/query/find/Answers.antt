@@ -22,3 +22,6 @@ returns-in_ok-hops-in-Some-clause-found g c =
     let q = c.requires.query in
     let some = walk_some _ _ q.lawful.space _ (AreStarts-query g.met.C.Cost.laws _ _ _ _ _ q) _ _ _ least.leads in
     rw c.of.ensures (IsPackedLeast-from g.met.C.Cost.laws _ _ _ _ _ q c.args.target c.requires.target c.in-Some.path.walk.items _ _ least c.cost_with-cost.ensures _ (rw c.deref.ensures.value at c.in_ok-hops-in-Some.ensures) c.index.result.now (get_is c.in-Some.path.walk.items 0 _ some (sym c.index.ensures)))
+
+pub cost_with-cost-requires-clause-path : goal.cost_with-cost-requires-clause-path
+cost_with-cost-requires-clause-path g c = (c.in-Some.path.walk.items, rw c.in-Some.is at c.in_ok-answer.ensures)

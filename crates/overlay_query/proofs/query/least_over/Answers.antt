@@ -1,24 +1,9 @@
 -- A query's space can be searched, and each turn answers one target more.
-use Rattle.std.proofs.Common.{◌≡◌, ℕ, ◌<◌, ◌++◌, ◌∷◌, [], List, Some, get_or, length, length-append, inl, inr, arith, sym, ◌∙◌, ap, subst}
-use Rattle.std.specs.List.{slice_get}
-use Rattle.std.proofs.lemmas.Option.{same_Some}
-use Rattle.list_lemmas.proofs.Gets.{get_is, get_push}
+use Rattle.std.proofs.Common.{◌∷◌, [], length-append, arith, sym}
 use Rattle.overlay_query.specs.Answers.{IsPackedFound}
 use Rattle.overlay_query.proofs.Finding.{AreStarts-query}
+use Rattle.overlay_query.proofs.Turns.{one_more}
 use Rattle.overlay_query.proofs.query.least_over.Goals as goal
-
--- one answer more, to the target at its place
-one_more : {T F : Type 0} (P : T → F → Type 0) (targets : List T) (found : List F) (i : ℕ) (item : T) (new : F) →
-    length found ≡ i → i < length targets → item ≡ get_or targets i item → P item new →
-    ((k : ℕ) (t : T) (answer : F) → slice_get targets k ≡ Some t → slice_get found k ≡ Some answer → P t answer) →
-    (k : ℕ) (t : T) (answer : F) → slice_get targets k ≡ Some t → slice_get (found ++ new ∷ []) k ≡ Some answer → P t answer
-one_more {T} {F} P targets found i item new n lt is here before k t answer e f = elim (get_push found new k answer f) [
-  | inl g ↦ before k t answer e g
-  | inr g ↦
-      let at : slice_get targets i ≡ Some item = get_is targets i item lt (sym is) in
-      let same : item ≡ t = same_Some item t (sym at ∙ ap (slice_get targets) (sym (g.0 ∙ n)) ∙ e) in
-      subst (λ (x : T). P x answer) same (subst (λ (y : F). P item y) (sym g.1) here)
-]
 
 pub begin-requires-clause-space : goal.begin-requires-clause-space
 begin-requires-clause-space g c = c.requires.query.lawful.space

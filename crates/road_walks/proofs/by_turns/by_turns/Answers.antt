@@ -15,25 +15,25 @@ over_turns-requires-clause-starts c = λ s h. c.in_ok-starts.ensures.fit s (subs
 pub over_turns-requires-clause-targets : goal.over_turns-requires-clause-targets
 over_turns-requires-clause-targets c = λ t h. c.in_ok-targets.ensures.fit t (subst (λ (x : List (Target DurLen)). Contains x t) c.deref-2.ensures.value h)
 
--- the cheapest of what the search found for the targets
+-- what the search found is the least walk
 pub returns-clause-least : goal.returns-clause-least
 returns-clause-least c =
     let road = c.args.under.now.road in
-    cheapest-least road c.args.from c.args.to c.deref.result.now c.deref-2.result.now
+    rw c.route_of.ensures
+    (cheapest-least road c.args.from c.args.to c.deref.result.now c.deref-2.result.now
     (subst (AreAll (IsStart road.weights c.args.from)) (sym c.deref.ensures.value) c.in_ok-starts.ensures.all)
     (subst (AreAll (IsTarget road.weights c.args.to)) (sym c.deref-2.ensures.value) c.in_ok-targets.ensures.all)
-    c.in_ok-found.found.items c.in_ok-found.ensures.one_each c.in_ok-found.ensures.least
-    c.cheapest.result c.cheapest.ensures
+    c.in_ok-found.found c.in_ok-found.ensures)
 
 -- and it costs no more than the network's vertices allow
 pub returns-clause-bound : goal.returns-clause-bound
 returns-clause-bound c =
     let road = c.args.under.now.road in
-    cheapest-bound road c.args.from c.args.to c.deref.result.now c.deref-2.result.now
+    rw c.route_of.ensures
+    (cheapest-bound road c.args.from c.args.to c.deref.result.now c.deref-2.result.now
     (subst (AreAll (IsStart road.weights c.args.from)) (sym c.deref.ensures.value) c.in_ok-starts.ensures.all)
     (subst (AreAll (IsTarget road.weights c.args.to)) (sym c.deref-2.ensures.value) c.in_ok-targets.ensures.all)
-    c.in_ok-found.found.items c.in_ok-found.ensures.one_each c.in_ok-found.ensures.least
     c.base-small.ensures.small
     (λ s h. (c.in_ok-starts.ensures.fit s (subst (λ (x : List (Start DurLen)). Contains x s) c.deref.ensures.value h)).1)
     (λ t h. (c.in_ok-targets.ensures.fit t (subst (λ (x : List (Target DurLen)). Contains x t) c.deref-2.ensures.value h)).1)
-    c.cheapest.result c.cheapest.ensures
+    c.in_ok-found.found c.in_ok-found.ensures)

@@ -15,4 +15,4 @@ returns-then-not-improves-clause-offers g c = rw (← c.plus.ensures) (left refl
 pub returns-clause-offers : goal.returns-clause-offers
 returns-clause-offers g c =
     let unsettled : settled_of c.args.self.now.labels c.args.hop.head ≡ false = unsettled_if_improved g.met.C.Cost.laws (label_of c.args.self.now.labels) (settled_of c.args.self.now.labels) c.args.hop.head c.plus.result (rw (← c.plus.ensures) at c.requires.fixed) c.if-not-improves.ensures.yes in
-    rw (← c.plus.ensures) (put c.in_ok-put.ensures.label c.in_ok-push.ensures unsettled c.if-not-improves.ensures.yes)
+    rw (← c.plus.ensures) (put c.in_ok-put.ensures.label c.in_ok-put.ensures.queue unsettled c.if-not-improves.ensures.yes)
