@@ -1,6 +1,5 @@
 pub mod Bundled
 pub mod Costing
-pub mod Cuts
 pub mod Joined
 pub mod Leapt
 pub mod Locals
@@ -9,4 +8,3 @@ pub mod Ranges
 pub mod Renumbered
 pub mod Searched
 pub mod Taking
-pub mod Zipping

@@ -1,20 +1,18 @@
 -- The inside of a cell can be gone over under numbers of one's own, and what a search finds there is the least cost inside.
-use Rattle.std.proofs.Common.{◌≡◌, ◌≢◌, ℕ, ◌-◌, ◌<◌, ◌≤◌, inl, inr, cond, Option, Some, None, Result, Ok, Err, IfOk, List, [], ◌∷◌, length, refl, sym, ◌∙◌, ap, subst, arith}
+use Rattle.std.proofs.Common.{◌≡◌, ◌≢◌, ℕ, ◌-◌, ◌<◌, ◌≤◌, inl, inr, cond, Option, Some, None, List, [], ◌∷◌, length, refl, sym, ◌∙◌, ap, subst, arith}
 use Rattle.std.specs.List.{Contains, slice_get}
 use Rattle.std.proofs.lemmas.Option.{same_Some, slice_get_within}
 use Rattle.std.proofs.lemmas.Bool.Decides.{eqb_tells}
 use Rattle.list_lemmas.proofs.Gets.{Contains_get}
 use Rattle.search_graph.specs.Costs.{CostOps, CostLaws}
-use Rattle.search_graph.specs.declared.ends.Start.{Start}
 use Rattle.search_graph.specs.Digraph.{Weighting}
-use Rattle.step_search.specs.Spaces.{Space, IsSpace}
-use Rattle.step_search.specs.Paths.{AreStarts, IsLeastPathCost}
+use Rattle.step_search.specs.Spaces.{IsSpace}
+use Rattle.step_search.specs.Paths.{IsLeastPathCost}
 use Rattle.cell_frame.specs.declared.cells.Cell.{Cell}
 use Rattle.cell_frame.specs.Borders.{Framed, IsCell, Holds, at_cell, cell_of}
 use Rattle.cell_frame.specs.Cliqued.{Rows}
 use Rattle.cell_frame.specs.Inside.{IsInsideValue}
 use Rattle.cell_frame.specs.PartSpace.{row_heads}
-use Rattle.cut_walks.specs.Answering.{only_one}
 use Rattle.cell_customize.specs.declared.local.Local.{Local}
 use Rattle.cell_customize.specs.Inner.{inner_space, IsInner}
 use Rattle.cell_customize.specs.Numbers.{AreBelow}
@@ -29,11 +27,6 @@ use Rattle.cell_customize.proofs.Costing.{inside_value}
 use Rattle.cell_customize.proofs.Joined.{IsJoinable-inner}
 use Rattle.cell_customize.proofs.Leapt.{IsLeaping, IsSpace-leaps, cost_leapt}
 use Rattle.cell_customize.proofs.Renumbered.{IsSpace-renamed, IsJoinable-renamed, cost_renamed, none_renamed}
-
--- what follows of each value
-pub if_ok : {V E : Type 0} (P Q : V → Type 0) (r : Result V E) → IfOk r P → ((v : V) → P v → Q v) → IfOk r Q
-if_ok P Q (Ok v) h f = f v h
-if_ok P Q (Err e) h f = tt
 
 module _ {C : Type 0} (ops : CostOps C) (f : Framed) (w : Weighting C) (cliques : List (Rows C)) (k : Cell) (inner : IsInner ops f w cliques k) where
   exits_below : (u : ℕ) → u < f.graph.vertices → AreBelow f.graph.vertices (row_heads f (λ v. k.level - 1) u)
@@ -94,12 +87,6 @@ module _ {C : Type 0} {ops : CostOps C} (laws : CostLaws ops) (f : Framed) (w : 
   found_leapt entry exit is other start until named aim cost h =
       cost_leapt laws (small_space ops f w k local) (IsSpace-small ops f w cliques k inner local filled) joinable (IsGoal leaps.goals.items) (leapt_space ops f w k local leaps) leaping start until
       (slice_get_within local.numbers start entry named) (leapt.goals exit until is aim) (λ same. other (same_Some entry exit (sym named ∙ ap (slice_get local.numbers) same ∙ aim))) cost h
-
--- one start at a vertex, where nothing is paid
-pub AreStarts-small : {C : Type 0} {ops : CostOps C} (laws : CostLaws ops) (S : Space C) (start : ℕ) → start < S.vertices → (starts : List (Start C)) → starts ≡ record { vertex = start; cost = ops.zero } ∷ [] → AreStarts ops S starts
-AreStarts-small {C} {ops} laws S start lt starts is s h =
-    let same : record { vertex = start; cost = ops.zero } ≡ s = sym (only_one (record { vertex = start; cost = ops.zero }) s (subst (λ (xs : List (Start C)). Contains xs s) is h)) in
-    (subst (λ (x : Start C). x.vertex < S.vertices) same lt, subst (λ (x : Start C). ops.units x.cost 1) same (laws.units_more ops.zero 0 1 laws.zero_units (omega arith)))
 
 -- what the search finds under other numbers is the least cost inside the cell
 pub found_inside : {C : Type 0} {ops : CostOps C} (laws : CostLaws ops) (f : Framed) (w : Weighting C) (cliques : List (Rows C)) (k : Cell) (inner : IsInner ops f w cliques k) (local : Local C) → IsFilled ops f w k local →

@@ -1,13 +1,12 @@
--- For the functions of this crate alone: the rows of a cell, the cells of a level, and one level more.
-use Rattle.std.specs.Prelude.{◌≡◌, ℕ, ◌+◌, ◌-◌, ◌*◌, ◌/◌, ◌<◌, ◌≤◌, List, ◌++◌, length, map, All, Option, Some}
+-- The rows of a cell, one behind another, the cliques of the cells of a level, and the pieces that a level is cut into.
+use Rattle.std.specs.Prelude.{◌≡◌, ℕ, ◌+◌, ◌*◌, ◌/◌, ◌<◌, ◌≤◌, List, ◌++◌, length, map, All, Option, Some}
 use Rattle.std.specs.List.{slice_get, slice_range}
 use Rattle.search_graph.specs.Costs.{CostOps}
 use Rattle.search_graph.specs.Digraph.{Weighting}
 use Rattle.cell_partition.specs.Partition.{level_at}
 use Rattle.cell_frame.specs.declared.cells.Cell.{Cell}
 use Rattle.cell_frame.specs.Borders.{Framed, IsCell, at_cell}
-use Rattle.cell_frame.specs.Cliqued.{Rows, HasRow, IsRow, AreExact}
-use Rattle.search_graph.specs.Weighted.{AreSmall}
+use Rattle.cell_frame.specs.Cliqued.{Rows, HasRow, IsRow}
 
 -- the rows of the first m entries of a cell, one behind another
 pub record AreRows {C : Type 0} (ops : CostOps C) (f : Framed) (w : Weighting C) (k : Cell) (values : List (Option C)) (m : ℕ) : Type 0 where
@@ -33,13 +32,6 @@ pub record AreMade {C : Type 0} (ops : CostOps C) (f : Framed) (w : Weighting C)
 -- these cliques, and others behind them
 abbrev pub behind : {C : Type 0} → Rows C → Rows C → Rows C
 behind rows more = record { first = rows.first ++ map (λ first. length rows.values + first) more.first; values = rows.values ++ more.values }
-
--- what the cliques of a level stand on
-pub record IsReady {C : Type 0} (ops : CostOps C) (f : Framed) (w : Weighting C) (cliques : List (Rows C)) (level : ℕ) : Type 0 where
-  pub above : 1 ≤ level
-  pub below : level ≤ length f.cells.levels
-  pub small : AreSmall ops f.graph w
-  pub exact : AreExact ops f w cliques (level - 1)
 
 -- where piece p of 16 begins, of a level with so many cells
 abbrev pub cut_at : ℕ → ℕ → ℕ

@@ -43,7 +43,7 @@ pub fn customize<C: Cost>(
     requires weights { AreSmall C.ops frame.now.graph weights.now }
     ensures { IfOk result (λ cliques. AreExact C.ops frame.now weights.now cliques (length frame.now.cells.levels)) }
 {
-    let mut scratch = Scratch::new(alloc)?;
+    let mut scratch = Scratch::new(alloc);
     let mut cliques = Cliques::new(alloc);
     for below in 0..frame.levels() {
         let level = level_cliques(alloc, frame, weights, &cliques, below + 1, &mut scratch)?;

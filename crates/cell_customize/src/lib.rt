@@ -22,6 +22,7 @@ mod side_by_side;
 mod tests;
 
 pub use customizing::customize;
+pub use pieces::Piece;
 pub use rows::clique;
 pub use scratch::Scratch;
-pub use side_by_side::customize_in_threads;
+pub use side_by_side::{PIECES, customize_in_threads, cut, level_of};

@@ -40,7 +40,14 @@ impl<C: Narrow> Piece<C> {
         }
     }
 
-    /// Puts those of another piece behind its own.
+    /// The cliques of cells, by where each begins and the values of all.
+    pub fn of(first: Vec<usize>, values: CostList<C>) -> Piece<C>
+        ensures { result ≡ record { first = first.items; values = values } }
+    {
+        Piece { first, values }
+    }
+
+    /// Puts those of another piece behind its own. It answers the error where memory runs out.
     pub fn append(&mut self, other: &Piece<C>) -> Result<(), AllocError>
         requires { All (λ first. first ≤ length other.now.values) other.now.first }
         ensures { OnOk result (self.new ≡ behind self.old other.now) }

@@ -1,23 +1,23 @@
 //! The clique of one cell, row by row.
 
-ghost use Rattle.std.specs.Prelude.{◌≡◌, ◌-◌, ◌<◌, ◌++◌, ◌∷◌, [], Some, length, IfOk, OnOk};
+ghost use Rattle.std.specs.Prelude.{◌≡◌, ◌-◌, ◌++◌, Some, length, OnOk};
 ghost use Rattle.std.specs.List.{Contains, slice_get};
-ghost use Rattle.step_search.specs.Paths.{IsLeastPathCost};
 ghost use Rattle.cell_frame.specs.Borders.{IsCell, Holds, at_cell};
 ghost use Rattle.cell_frame.specs.Cliqued.{IsRow, AreExact};
 ghost use Rattle.cell_frame.specs.Inside.{IsInsideValue};
 ghost use Rattle.search_graph.specs.Weighted.{AreSmall};
 ghost use Rattle.cell_customize.specs.Inner.{IsInner};
 ghost use Rattle.cell_customize.specs.Levels.{IsClique};
-ghost use Rattle.cell_customize.specs.Begun.{IsBegunAt};
+ghost use Rattle.label_search.specs.Least.{AreLeast};
 ghost use Rattle.cell_customize.specs.Filled.{IsFilled, IsLeapt, leapt_space};
 
 use crate::leaping::Leaping;
 use crate::renamed::Renamed;
-use crate::scratch::{Scratch, Turn};
+use crate::scratch::Scratch;
 use cell_frame::{Below, Cell, Cliques, Frame, Over};
 use cost_lists::CostList;
-use search_graph::{Cost, Start, Weights};
+use label_search::Labels;
+use search_graph::{Cost, Weights};
 use std::alloc::AllocError;
 
 // What it costs to stay at an entry: nothing, where it is open.
@@ -32,70 +32,29 @@ fn nothing_paid<C: Cost>(over: &Over<C, Below>, entry: u32) -> Option<C>
     }
 }
 
-// Begins the search anew at a vertex, by its number.
-fn begin_at<C: Cost>(
-    leaping: &Leaping<C, Renamed<C, Over<C, Below>>>,
-    turn: &mut Turn<C>,
-    start: u32,
-) -> Result<(), AllocError>
-    requires inner { IsInner C.ops leaping.now.steps.now.steps.now.frame.now leaping.now.steps.now.steps.now.weights.now leaping.now.steps.now.steps.now.cliques.now leaping.now.steps.now.steps.now.parts.now.cell }
-    requires filled { IsFilled C.ops leaping.now.steps.now.steps.now.frame.now leaping.now.steps.now.steps.now.weights.now leaping.now.steps.now.steps.now.parts.now.cell leaping.now.steps.now.local.now }
-    requires leapt { IsLeapt C.ops leaping.now.steps.now.steps.now.frame.now leaping.now.steps.now.steps.now.weights.now leaping.now.steps.now.steps.now.parts.now.cell leaping.now.steps.now.local.now leaping.now.leaps.now }
-    requires start { start < length leaping.now.steps.now.local.now.numbers }
-    ensures { OnOk result (IsBegunAt C.ops (leapt_space C.ops leaping.now.steps.now.steps.now.frame.now leaping.now.steps.now.steps.now.weights.now leaping.now.steps.now.steps.now.parts.now.cell leaping.now.steps.now.local.now leaping.now.leaps.now) start turn.new) }
-{
-    turn.starts.clear();
-    turn.starts.push(Start {
-        vertex: start,
-        cost: C::ZERO,
-    })?;
-    turn.search.restart(leaping, turn.starts.as_slice())?;
-    Ok(())
-}
-
-// What a cheapest path costs from where the search began to a vertex, both by their numbers.
-fn reached<C: Cost>(
-    leaping: &Leaping<C, Renamed<C, Over<C, Below>>>,
-    turn: &mut Turn<C>,
-    start: u32,
-    until: u32,
-) -> Result<Option<C>, AllocError>
-    requires inner { IsInner C.ops leaping.now.steps.now.steps.now.frame.now leaping.now.steps.now.steps.now.weights.now leaping.now.steps.now.steps.now.cliques.now leaping.now.steps.now.steps.now.parts.now.cell }
-    requires filled { IsFilled C.ops leaping.now.steps.now.steps.now.frame.now leaping.now.steps.now.steps.now.weights.now leaping.now.steps.now.steps.now.parts.now.cell leaping.now.steps.now.local.now }
-    requires leapt { IsLeapt C.ops leaping.now.steps.now.steps.now.frame.now leaping.now.steps.now.steps.now.weights.now leaping.now.steps.now.steps.now.parts.now.cell leaping.now.steps.now.local.now leaping.now.leaps.now }
-    requires begun { IsBegunAt C.ops (leapt_space C.ops leaping.now.steps.now.steps.now.frame.now leaping.now.steps.now.steps.now.weights.now leaping.now.steps.now.steps.now.parts.now.cell leaping.now.steps.now.local.now leaping.now.leaps.now) start turn.old }
-    ensures begun { OnOk result (IsBegunAt C.ops (leapt_space C.ops leaping.now.steps.now.steps.now.frame.now leaping.now.steps.now.steps.now.weights.now leaping.now.steps.now.steps.now.parts.now.cell leaping.now.steps.now.local.now leaping.now.leaps.now) start turn.new) }
-    ensures cost { IfOk result (IsLeastPathCost C.ops (leapt_space C.ops leaping.now.steps.now.steps.now.frame.now leaping.now.steps.now.steps.now.weights.now leaping.now.steps.now.steps.now.parts.now.cell leaping.now.steps.now.local.now leaping.now.leaps.now) (record { vertex = start; cost = C.ops.zero } ∷ []) until) }
-{
-    let starts = turn.starts.as_slice();
-    turn.search.run(leaping, starts, until)?;
-    Ok(turn.search.cost(leaping, starts, until))
-}
-
-// What the cheapest walk costs inside the cell from the entry at which the search began to an exit.
+// What the cheapest walk costs inside the cell from the entry at which the search began to an exit, by the labels.
 fn inside<C: Cost>(
     leaping: &Leaping<C, Renamed<C, Over<C, Below>>>,
-    turn: &mut Turn<C>,
+    labels: &Labels<C>,
     entry: u32,
     start: u32,
     exit: u32,
-) -> Result<Option<C>, AllocError>
+) -> Option<C>
     requires inner { IsInner C.ops leaping.now.steps.now.steps.now.frame.now leaping.now.steps.now.steps.now.weights.now leaping.now.steps.now.steps.now.cliques.now leaping.now.steps.now.steps.now.parts.now.cell }
     requires filled { IsFilled C.ops leaping.now.steps.now.steps.now.frame.now leaping.now.steps.now.steps.now.weights.now leaping.now.steps.now.steps.now.parts.now.cell leaping.now.steps.now.local.now }
     requires leapt { IsLeapt C.ops leaping.now.steps.now.steps.now.frame.now leaping.now.steps.now.steps.now.weights.now leaping.now.steps.now.steps.now.parts.now.cell leaping.now.steps.now.local.now leaping.now.leaps.now }
     requires entry { Contains (at_cell leaping.now.steps.now.steps.now.frame.now.entries leaping.now.steps.now.steps.now.parts.now.cell) entry }
     requires exit { Contains (at_cell leaping.now.steps.now.steps.now.frame.now.exits leaping.now.steps.now.steps.now.parts.now.cell) exit }
     requires start { slice_get leaping.now.steps.now.local.now.numbers start ≡ Some entry }
-    requires begun { IsBegunAt C.ops (leapt_space C.ops leaping.now.steps.now.steps.now.frame.now leaping.now.steps.now.steps.now.weights.now leaping.now.steps.now.steps.now.parts.now.cell leaping.now.steps.now.local.now leaping.now.leaps.now) start turn.old }
-    ensures begun { OnOk result (IsBegunAt C.ops (leapt_space C.ops leaping.now.steps.now.steps.now.frame.now leaping.now.steps.now.steps.now.weights.now leaping.now.steps.now.steps.now.parts.now.cell leaping.now.steps.now.local.now leaping.now.leaps.now) start turn.new) }
-    ensures value { IfOk result (IsInsideValue C.ops leaping.now.steps.now.steps.now.frame.now.graph leaping.now.steps.now.steps.now.weights.now (Holds leaping.now.steps.now.steps.now.frame.now.cells leaping.now.steps.now.steps.now.parts.now.cell) entry exit) }
+    requires least { AreLeast C.ops (leapt_space C.ops leaping.now.steps.now.steps.now.frame.now leaping.now.steps.now.steps.now.weights.now leaping.now.steps.now.steps.now.parts.now.cell leaping.now.steps.now.local.now leaping.now.leaps.now) start labels.now.costs.items }
+    ensures { IsInsideValue C.ops leaping.now.steps.now.steps.now.frame.now.graph leaping.now.steps.now.steps.now.weights.now (Holds leaping.now.steps.now.steps.now.frame.now.cells leaping.now.steps.now.steps.now.parts.now.cell) entry exit result }
 {
     if entry == exit {
-        return Ok(nothing_paid(leaping.steps.steps, entry));
+        return nothing_paid(leaping.steps.steps, entry);
     }
     match leaping.steps.local.numbers.number(exit) {
-        None => Ok(None),
-        Some(until) => reached(leaping, turn, start, until),
+        None => None,
+        Some(until) => labels.costs[until as usize],
     }
 }
 
@@ -103,7 +62,7 @@ fn inside<C: Cost>(
 // is no walk.
 fn row<C: Cost>(
     leaping: &Leaping<C, Renamed<C, Over<C, Below>>>,
-    turn: &mut Turn<C>,
+    labels: &mut Labels<C>,
     entry: u32,
     exits: &[u32],
     values: &mut CostList<C>,
@@ -115,11 +74,11 @@ fn row<C: Cost>(
     requires exits { exits.now ≡ at_cell leaping.now.steps.now.steps.now.frame.now.exits leaping.now.steps.now.steps.now.parts.now.cell }
     ensures { OnOk result ((row : _) × (values.new ≡ values.old ++ row) × IsRow C.ops leaping.now.steps.now.steps.now.frame.now leaping.now.steps.now.steps.now.weights.now leaping.now.steps.now.steps.now.parts.now.cell entry row) }
 {
-    let start = leaping.steps.local.numbers.number(entry).unwrap();
-    begin_at(leaping, turn, start)?;
+    let numbers = &leaping.steps.local.numbers;
+    let start = numbers.number(entry).unwrap();
+    labels.search(leaping, start, numbers.len() as u32)?;
     for exit in exits {
-        let value = inside(leaping, turn, entry, start, *exit)?;
-        values.push(value)?;
+        values.push(inside(leaping, labels, entry, start, *exit))?;
     }
     Ok(())
 }
@@ -127,7 +86,7 @@ fn row<C: Cost>(
 // Puts at the end of the values the row of each entry, one behind another.
 fn rows<C: Cost>(
     leaping: &Leaping<C, Renamed<C, Over<C, Below>>>,
-    turn: &mut Turn<C>,
+    labels: &mut Labels<C>,
     entries: &[u32],
     exits: &[u32],
     values: &mut CostList<C>,
@@ -140,7 +99,7 @@ fn rows<C: Cost>(
     ensures { OnOk result ((clique : _) × (values.new ≡ values.old ++ clique) × IsClique C.ops leaping.now.steps.now.steps.now.frame.now leaping.now.steps.now.steps.now.weights.now leaping.now.steps.now.steps.now.parts.now.cell clique) }
 {
     for entry in entries {
-        row(leaping, turn, *entry, exits, values)?;
+        row(leaping, labels, *entry, exits, values)?;
     }
     Ok(())
 }
@@ -169,7 +128,7 @@ fn all_rows<C: Cost>(
         steps: &small,
         leaps: &scratch.leaps,
     };
-    rows(&leaping, &mut scratch.turn, entries, exits, values)
+    rows(&leaping, &mut scratch.labels, entries, exits, values)
 }
 
 /// Puts at the end of the values the least costs inside a cell from each of its entries to each of its exits, none

@@ -4,7 +4,8 @@ ghost use Rattle.std.specs.Prelude.{◌≡◌, ◌-◌, ◌<◌, ◌≤◌, leng
 ghost use Rattle.cell_partition.specs.Partition.{level_at};
 ghost use Rattle.cell_frame.specs.Cliqued.{AreExact};
 ghost use Rattle.search_graph.specs.Weighted.{AreSmall};
-ghost use Rattle.cell_customize.specs.Levels.{AreMade, ArePieces, IsExactLevel, IsPiece, IsReady, cut_at};
+ghost use Rattle.cell_customize.specs.Levels.{ArePieces, IsExactLevel, IsPiece, cut_at};
+ghost use Rattle.cell_customize.specs.Ready.{IsReady};
 
 use crate::pieces::{Piece, cliques_of};
 use crate::scratch::Scratch;
@@ -14,12 +15,13 @@ use search_graph::{Cost, Weights};
 use std::alloc::{AllocError, Global};
 use std::thread::Threads;
 
-// How many pieces the cells of a level are cut into. Each has a search of its own and a table by vertex, so more of them
+/// How many pieces the cells of a level are cut into.
+// Each has a search of its own and a table by vertex, so more of them
 // cost more memory and time than they bring on a machine of few processors.
-const PIECES: u32 = 16;
+pub const PIECES: u32 = 16;
 
-// At which cell a piece of a level begins, of as many cells.
-fn cut(count: u32, place: u32) -> u32
+/// At which cell a piece of a level begins, of as many cells.
+pub fn cut(count: u32, place: u32) -> u32
     requires { place ≤ 16 }
     ensures { result ≡ cut_at count place }
 {
@@ -42,7 +44,7 @@ fn piece<C: Cost>(
     let count = frame.count(level);
     let from = cut(count, place);
     let to = cut(count, place + 1);
-    let mut scratch = Scratch::new(alloc)?;
+    let mut scratch = Scratch::new(alloc);
     cliques_of(
         alloc,
         frame,
@@ -80,6 +82,27 @@ fn pieces<C: Cost + Send + Sync>(
     done
 }
 
+/// The cliques of a level, of its pieces in their order. It answers the error where memory runs out.
+pub fn level_of<C: Cost>(
+    alloc: Global,
+    frame: &Frame,
+    weights: &Weights<C>,
+    level: u32,
+    pieces: &[Piece<C>],
+) -> Result<LevelCliques<C>, AllocError>
+    requires { ArePieces C.ops frame.now weights.now level pieces.now }
+    ensures { IfOk result (λ rows. IsExactLevel C.ops frame.now weights.now rows level) }
+{
+    let _ = frame;
+    let _ = weights;
+    let _ = level;
+    let mut all = Piece::new(alloc);
+    for piece in pieces {
+        all.append(piece)?;
+    }
+    Ok(all.into_level())
+}
+
 // The cliques of a level, by those of the levels below it.
 fn level_in_threads<C: Cost + Send + Sync>(
     rt: &(impl Threads + Sync),
@@ -96,11 +119,7 @@ fn level_in_threads<C: Cost + Send + Sync>(
     ensures { IfOk result (λ rows. IsExactLevel C.ops frame.now weights.now rows level) }
 {
     let pieces = pieces(rt, alloc, frame, weights, cliques, level)?;
-    let mut all = Piece::new(alloc);
-    for piece in pieces.as_slice() {
-        all.append(piece)?;
-    }
-    Ok(all.into_level())
+    level_of(alloc, frame, weights, level, pieces.as_slice())
 }
 
 /// As `customize`, with the cells of a level side by side in threads.

@@ -6,20 +6,25 @@ use Rattle.std.proofs.lemmas.List.{append_assoc, append-nil}
 use Rattle.cell_frame.specs.Borders.{Holds}
 use Rattle.cell_frame.specs.Inside.{IsInsideValue}
 use Rattle.cell_customize.proofs.Numbered.{named_some}
+use Rattle.cell_customize.proofs.Searched.{IsSpace-leapt}
 use Rattle.cell_customize.specs.Piling.{get_nothing, one_more, row_from}
 use Rattle.cell_customize.proofs.rows.row.Goals as goal
 
 pub unwrap-start-requires : goal.unwrap-start-requires
 unwrap-start-requires g c = named_some c.args.leaping.now.steps.now.local.now.numbers c.args.entry c.number.result c.number.ensures.none (c.requires.filled.named c.args.entry c.requires.entry)
 
-pub begin_at-requires-clause-start : goal.begin_at-requires-clause-start
-begin_at-requires-clause-start g c =
+pub search-requires-clause-space : goal.search-requires-clause-space
+search-requires-clause-space g c =
+    let o = c.args.leaping.now.steps.now.steps.now in
+    IsSpace-leapt g.met.C.Cost.laws o.frame.now o.weights.now o.cliques.now o.parts.now.cell c.requires.inner c.args.leaping.now.steps.now.local.now c.requires.filled c.args.leaping.now.leaps.now c.requires.leapt
+
+pub search-requires-clause-start : goal.search-requires-clause-start
+search-requires-clause-start g c =
     let at : slice_get c.args.leaping.now.steps.now.local.now.numbers c.unwrap-start.result ≡ Some c.args.entry = search rules in
-    slice_get_within c.args.leaping.now.steps.now.local.now.numbers c.unwrap-start.result c.args.entry at
+    rw c.len.ensures.count (slice_get_within c.args.leaping.now.steps.now.local.now.numbers c.unwrap-start.result c.args.entry at)
 
 pub loop-exit-init : goal.loop-exit-init
 loop-exit-init g c = record {
-  begun = c.in_ok-begin_at.ensures;
   row = [];
   behind = sym (append-nil _);
   count = refl;
@@ -32,12 +37,11 @@ loop-exit-preserved g c =
     let f = c.args.leaping.now.steps.now.steps.now.frame.now in
     let n : length before.row ≡ c.loop-exit.exit-index = before.count in
     record {
-      begun = c.in_ok-value.ensures.begun;
-      row = before.row ++ c.in_ok-value.value ∷ [];
-      behind = c.in_ok-push.ensures.pushed ∙ ap (λ xs. xs ++ c.in_ok-value.value ∷ []) before.behind ∙ append_assoc c.args.values.now before.row (c.in_ok-value.value ∷ []);
-      count = omega (arith, length-append before.row (c.in_ok-value.value ∷ []), n);
-      each = one_more (IsInsideValue g.C.Cost.ops f.graph c.args.leaping.now.steps.now.steps.now.weights.now (Holds f.cells c.args.leaping.now.steps.now.steps.now.parts.now.cell) c.args.entry) c.args.exits.now before.row c.loop-exit.exit-index (get_or c.args.exits.now c.loop-exit.exit-index 0) c.in_ok-value.value n
-          (slice_get-get_or c.args.exits.now c.loop-exit.exit-index 0 c.loop-exit-test.true) c.in_ok-value.ensures.value before.each;
+      row = before.row ++ c.inside.result ∷ [];
+      behind = c.in_ok-push.ensures.pushed ∙ ap (λ xs. xs ++ c.inside.result ∷ []) before.behind ∙ append_assoc c.args.values.now before.row (c.inside.result ∷ []);
+      count = omega (arith, length-append before.row (c.inside.result ∷ []), n);
+      each = one_more (IsInsideValue g.C.Cost.ops f.graph c.args.leaping.now.steps.now.steps.now.weights.now (Holds f.cells c.args.leaping.now.steps.now.steps.now.parts.now.cell) c.args.entry) c.args.exits.now before.row c.loop-exit.exit-index (get_or c.args.exits.now c.loop-exit.exit-index 0) c.inside.result n
+          (slice_get-get_or c.args.exits.now c.loop-exit.exit-index 0 c.loop-exit-test.true) c.inside.ensures before.each;
     }
 
 pub returns : goal.returns

@@ -1,42 +1,8 @@
--- Each turn has one piece more; all are the whole level.
-use Rattle.std.proofs.Common.{◌≡◌, ℕ, ◌+◌, [], Some, length, sym, ◌∙◌, ap, subst, arith}
-use Rattle.std.proofs.lemmas.Option.{slice_get-get_or}
-use Rattle.cell_partition.specs.Partition.{level_at}
-use Rattle.cell_customize.specs.Levels.{AreMade, IsReady, cut_at}
-use Rattle.cell_customize.proofs.Cuts.{cut_none, cut_all}
-use Rattle.cell_customize.specs.Piling.{AreMade-none, AreMade-behind, IsExactLevel-made}
+-- The pieces stand on the levels below.
+use Rattle.cell_customize.specs.Ready.{IsReady}
 use Rattle.cell_customize.proofs.side_by_side.level_in_threads.Goals as goal
 
 pub pieces-requires-clause-ready : goal.pieces-requires-clause-ready
 pieces-requires-clause-ready g c κs within =
     let ready : IsReady g.C.Cost.ops c.args.frame.now c.args.weights.now c.args.cliques.now c.args.level = record { above = c.requires.above; below = c.requires.below; small = c.requires.weights; exact = c.requires.cliques } in
     ready
-
-pub loop-piece-init : goal.loop-piece-init
-loop-piece-init g c =
-    rw c.new-all.ensures (subst (λ (n : ℕ). AreMade g.C.Cost.ops c.args.frame.now c.args.weights.now c.args.level 0 n (record { first = []; values = [] })) (cut_none (length (level_at c.args.frame.now.cells c.args.level)))
-    (AreMade-none g.C.Cost.ops c.args.frame.now c.args.weights.now c.args.level 0))
-
-pub append-requires : goal.append-requires
-append-requires g c =
-    let i = c.loop-piece.piece-index in
-    let here = slice_get-get_or c.as_slice-piece-items.result.now i c.piece-item.result c.loop-piece-test.true ∙ ap Some (sym c.piece-item.is) in
-    let at = rw c.as_slice-piece-items.ensures.value at here in
-    (c.in_ok-pieces.ensures.each i c.piece-item.result at).within
-
-pub loop-piece-preserved : goal.loop-piece-preserved
-loop-piece-preserved g c =
-    let i = c.loop-piece.piece-index in
-    let count = length (level_at c.args.frame.now.cells c.args.level) in
-    let here = slice_get-get_or c.as_slice-piece-items.result.now i c.piece-item.result c.loop-piece-test.true ∙ ap Some (sym c.piece-item.is) in
-    let at = rw c.as_slice-piece-items.ensures.value at here in
-    rw c.in_ok-append.ensures (AreMade-behind g.C.Cost.ops c.args.frame.now c.args.weights.now c.args.level 0 (cut_at count i) (cut_at count (i + 1)) c.loop-piece.all c.piece-item.result c.loop-piece.invariant (c.in_ok-pieces.ensures.each i c.piece-item.result at))
-
-pub returns : goal.returns
-returns g c =
-    let count = length (level_at c.args.frame.now.cells c.args.level) in
-    let size : length c.as_slice-piece-items.result.now ≡ 16 = ap length c.as_slice-piece-items.ensures.value ∙ c.in_ok-pieces.ensures.size in
-    let all : c.loop-piece.piece-index ≡ 16 = omega (arith, c.loop-piece-test.false, c.loop-piece.auto.piece-index-end, size) in
-    let cut = subst (λ (p : ℕ). AreMade g.C.Cost.ops c.args.frame.now c.args.weights.now c.args.level 0 (cut_at count p) c.loop-piece.all) all c.loop-piece.invariant in
-    let whole = subst (λ (n : ℕ). AreMade g.C.Cost.ops c.args.frame.now c.args.weights.now c.args.level 0 n c.loop-piece.all) (cut_all count) cut in
-    rw c.into_level.ensures (IsExactLevel-made g.C.Cost.ops c.args.frame.now c.args.weights.now c.args.level c.loop-piece.all whole)

@@ -1,5 +1,5 @@
 -- A piece ends where the next begins.
-use Rattle.cell_customize.proofs.Cuts.{cut_rises, cut_within}
+use Rattle.cell_customize.specs.Cuts.{cut_rises, cut_within}
 use Rattle.cell_customize.proofs.side_by_side.piece.Goals as goal
 
 pub cliques_of-requires-clause-from : goal.cliques_of-requires-clause-from

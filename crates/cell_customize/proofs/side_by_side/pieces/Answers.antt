@@ -2,8 +2,9 @@
 use Rattle.std.proofs.Common.{◌<◌, ◌∙◌}
 use Rattle.rayon.specs.Numbers.{nat_range}
 use Rattle.rayon.proofs.ToStd.{nat_range-All}
-use Rattle.cell_customize.specs.Levels.{IsReady, IsPiece}
-use Rattle.cell_customize.proofs.Zipping.{of_ok, AllZip-good, ArePieces-zipped}
+use Rattle.cell_customize.specs.Levels.{IsPiece}
+use Rattle.cell_customize.specs.Ready.{IsReady}
+use Rattle.cell_customize.specs.Zipping.{of_ok, AllZip-good, ArePieces-zipped}
 use Rattle.cell_customize.proofs.side_by_side.pieces.Goals as goal
 
 pub collect-requires-clause-ready : goal.collect-requires-clause-ready

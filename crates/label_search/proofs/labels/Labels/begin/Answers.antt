@@ -1,0 +1,14 @@
+-- Where a path may begin, nothing is offered; elsewhere the search comes nowhere.
+use Rattle.std.proofs.Common.{◌∙◌, subst}
+use Rattle.label_search.specs.Labelled.{Offers}
+use Rattle.label_search.proofs.Labelling.{Front-none, Front-begun}
+use Rattle.label_search.proofs.labels.Labels.begin.Goals as goal
+
+pub returns-then-not-may_begin : goal.returns-then-not-may_begin
+returns-then-not-may_begin g c =
+    Front-none g.C.Cost.ops (g.T.Steps.space c.args.steps.now) c.args.start c.args.self.now.costs.items c.args.self.now.queue c.requires.size c.requires.none c.if-not-may_begin.ensures.no
+
+pub returns : goal.returns
+returns g c =
+    Front-begun g.C.Cost.ops (g.T.Steps.space c.args.steps.now) c.args.start c.args.self.now.costs.items c.offer.new.self.costs.items c.args.self.now.queue c.offer.new.self.queue c.requires.size c.requires.none c.if-not-may_begin.ensures.yes
+    (subst (λ x. Offers g.C.Cost.ops c.args.self.now.costs.items c.offer.new.self.costs.items c.args.self.now.queue c.offer.new.self.queue c.args.start x) (c.ZERO.ensures ∙ g.met.C.Cost.zero_is) c.in_ok-offer.ensures)

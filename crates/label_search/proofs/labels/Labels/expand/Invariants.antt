@@ -1,0 +1,11 @@
+-- The vertex is held back until each of its arcs has found a label.
+use Rattle.std.proofs.Common.{◌≡◌, ℕ, ◌<◌, Some}
+use Rattle.std.specs.List.{slice_get}
+use Rattle.label_search.specs.Labelled.{Held, IsFront, LabelWithin}
+use Rattle.label_search.proofs.labels.Labels.expand.Given as goal
+
+abbrev pub invariant-loop-place : goal.invariant-loop-place
+invariant-loop-place g l = record {
+  front : IsFront g.C.Cost.ops (g.T.Steps.space l.steps) l.start l.self.costs.items l.self.queue (Held l.u l.paid);
+  found : (k : ℕ) → k < l.place → (i w : ℕ) (s : g.row.C.Denot) → slice_get l.arcs k ≡ Some i → (g.T.Steps.space l.steps).Arc l.u i w s → LabelWithin g.C.Cost.ops l.self.costs.items w (g.C.Cost.ops.plus l.paid s);
+}

@@ -1,0 +1,15 @@
+-- An entry that is taken is held back, and the cheapest; where none is left, the labels are least.
+use Rattle.label_search.proofs.Labelling.{Front-popped, least_popped, AreLeast-empty}
+use Rattle.label_search.proofs.labels.Labels.go_on.Goals as goal
+
+pub take-requires-clause-front : goal.take-requires-clause-front
+take-requires-clause-front g c =
+    Front-popped g.C.Cost.ops (g.T.Steps.space c.args.steps.now) c.args.start c.loop.self.costs.items c.loop.self.queue c.pop.new.self c.in-Some.entry.1 c.in-Some.entry.0 c.loop.invariant c.in-Some.ensures.some
+
+pub take-requires-clause-least : goal.take-requires-clause-least
+take-requires-clause-least g c =
+    least_popped g.C.Cost.ops (g.T.Steps.space c.args.steps.now) c.args.start c.loop.self.costs.items c.loop.self.queue c.pop.new.self c.in-Some.entry.1 c.in-Some.entry.0 c.in-Some.ensures.some
+
+pub returns-in-None : goal.returns-in-None
+returns-in-None g c =
+    AreLeast-empty g.met.C.Cost.laws (g.T.Steps.space c.args.steps.now) c.requires.space c.args.start c.loop.self.costs.items c.loop.self.queue c.in-None.ensures.none c.loop.invariant

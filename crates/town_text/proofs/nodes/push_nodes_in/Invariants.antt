@@ -1,0 +1,7 @@
+use Rattle.std.proofs.Common.{◌≡◌, ◌++◌, string_bytes}
+use Rattle.std.specs.List.{flat_map, range_with_len}
+use Rattle.town_text.specs.Town.{node_line}
+use Rattle.town_text.proofs.nodes.push_nodes_in.Given as goal
+
+abbrev pub invariant-loop-column : goal.invariant-loop-column
+invariant-loop-column l = string_bytes l.text ≡ string_bytes l.initial.text ++ flat_map (λ x. node_line l.n x l.row) (range_with_len 0 l.column)

@@ -1,0 +1,8 @@
+use Rattle.std.proofs.Common.{◌+◌, ◌-◌, arith}
+use Rattle.town_text.specs.Town.{restriction_line}
+use Rattle.town_text.proofs.Ranges.{piece-put}
+use Rattle.town_text.proofs.restrictions.push_restrictions_in.Goals as goal
+
+pub loop-column-preserved : goal.loop-column-preserved
+loop-column-preserved c =
+    piece-put (λ x. restriction_line c.args.n x c.args.row) _ _ _ 1 (c.loop-column.column - 1) c.loop-column.column (c.loop-column.column + 1 - 1) c.loop-column.invariant c.in_ok-push_restriction.ensures (omega arith) (omega arith)

@@ -1,0 +1,8 @@
+use Rattle.std.proofs.Common.{◌+◌, arith}
+use Rattle.town_text.specs.Town.{column_line}
+use Rattle.town_text.proofs.Ranges.{piece-put}
+use Rattle.town_text.proofs.streets.push_columns.Goals as goal
+
+pub loop-column-preserved : goal.loop-column-preserved
+loop-column-preserved c =
+    piece-put (λ x. column_line c.args.n x) _ _ _ 0 c.loop-column.column c.loop-column.column (c.loop-column.column + 1) c.loop-column.invariant c.in_ok-push_column.ensures (omega arith) (omega arith)
