@@ -1,20 +1,25 @@
 #!/usr/bin/env python3
-"""Measures customization by one thread and by several, on the maps that are named.
+"""Measures customization whole and of touched cells alone, by one thread and by several, on the maps that are named.
 
-    bench/customization.py PROGRAM SETTINGS [--threads 1,4] [--repeats N] [--beside COMMAND] OPL [OPL ..]
+    bench/customization.py PROGRAM SETTINGS [--threads 1,4] [--repeats N] [--rows 10,1000] [--beside COMMAND] OPL [OPL ..]
 
-A line `TRAFFIC - -` makes the metric of the settings anew and customizes it. The program does the second in threads of
-`rayon`, whose number is set by RAYON_NUM_THREADS, while the first thread waits for them; so customization is what all
-threads but the first take of the processors, and the line's time by the clock tells how far they go side by side. The
-latter means something only where as many processors are free. Each figure is the least of the repeats.
+A line of TRAFFIC makes the costs of the settings and its rows, and customizes the cells that hold a change from the metric
+before. So a file with a row for each segment of the map, both ways, and then none, customizes every cell each time; a file of
+a thousand drawn rows and then none only those that the rows touch. Both take the reading of rows and the making of the costs
+in; a line without a change, which is asked for between, takes that alone but for the rows.
 
-COMMAND, if it is given, is run as `COMMAND OPL SETTINGS` on each map in between, and its lines that tell of
-customization or of memory are shown.
+The number of threads is set by RAYON_NUM_THREADS. Told are, for each kind of line, the processor seconds of all threads and
+the time by the clock, the least of the repeats; the latter means something only where as many processors are free.
+
+COMMAND, if it is given, is run as `COMMAND OPL SETTINGS` on each map in between, and its lines that tell of customization or
+of memory are shown.
 """
 import argparse
 import os
+import random
 import shlex
 import subprocess
+import tempfile
 import time
 
 from traffic import Session
@@ -25,26 +30,47 @@ def lines_of(command, opl, settings):
     return [line for line in told.splitlines() if "customiz" in line or "memory" in line]
 
 
-def measure(program, opl, settings, threads, repeats):
+def pairs_of(opl):
+    """Each two neighbouring nodes of a way."""
+    pairs = []
+    with open(opl, encoding="utf-8") as lines:
+        for line in lines:
+            if line.startswith("w"):
+                nodes = [n.lstrip("n").split("x")[0] for word in line.split() if word.startswith("N") for n in word[1:].split(",") if n]
+                pairs += zip(nodes, nodes[1:])
+    return pairs
+
+
+def write_rows(name, pairs):
+    with open(name, "w", encoding="ascii") as file:
+        for a, b in pairs:
+            file.write(f"{a},{b},13\n{b},{a},13\n")
+    return name
+
+
+def measure(program, opl, settings, threads, repeats, files):
     os.environ["RAYON_NUM_THREADS"] = str(threads)
     began = time.monotonic()
     session = Session([program, "ask", opl, settings])
     by_clock, (start, peak) = time.monotonic() - began, (session.seconds()[1], session.megabytes()[1])
-    told = []
-    for _ in range(repeats):
-        began = time.monotonic()
-        _, (first, every), memory = session.line("TRAFFIC - -")
-        told.append((every - first, time.monotonic() - began, first, memory))
+    print(f"  {threads} threads: start {start:.3f} s of processors, {by_clock:.3f} s by the clock, peak {peak:.1f} MB")
+    for kind, line in [("no change", "TRAFFIC - -"), *((kind, f"TRAFFIC {name} -") for kind, name in files)]:
+        told = []
+        for _ in range(repeats):
+            session.line("TRAFFIC - -")
+            began = time.monotonic()
+            reply, (_, every), memory = session.line(line)
+            told.append((every, time.monotonic() - began, memory))
+        print(f"    {kind}: {min(t[0] for t in told):.4f} s of processors, {min(t[1] for t in told):.4f} s by the clock; "
+              f"held before, at the peak, after: {', '.join('%.1f %.1f %.1f' % t[2] for t in told[:2])} MB; {reply[-40:]}")
     session.end()
-    print(f"  {threads} threads: start {start:.3f} s of processors, {by_clock:.3f} s by the clock, peak {peak:.1f} MB; customization {min(t[0] for t in told):.3f} s of processors, "
-          f"a line without rows {min(t[1] for t in told):.3f} s by the clock, of which the first thread {min(t[2] for t in told):.3f} s; "
-          f"held before, at the peak, after: {', '.join('%.1f %.1f %.1f' % t[3] for t in told)} MB")
 
 
 def main():
     parser = argparse.ArgumentParser(usage=__doc__.split("\n\n")[1])
     parser.add_argument("--threads", default="1,4")
     parser.add_argument("--repeats", type=int, default=3)
+    parser.add_argument("--rows", default="10,1000")
     parser.add_argument("--beside")
     parser.add_argument("program")
     parser.add_argument("settings")
@@ -52,10 +78,16 @@ def main():
     given = parser.parse_args()
     for opl in given.maps:
         print(f"== {os.path.basename(opl)}")
-        for threads in given.threads.split(","):
-            measure(given.program, opl, given.settings, int(threads), given.repeats)
-            for line in lines_of(given.beside, opl, given.settings) if given.beside else []:
-                print("    beside:", line)
+        pairs = pairs_of(opl)
+        with tempfile.TemporaryDirectory() as folder:
+            files = [("a row for each segment", write_rows(f"{folder}/all.csv", pairs))]
+            for count in map(int, given.rows.split(",")):
+                drawn = random.Random(1).sample(pairs, min(count // 2, len(pairs)))
+                files.append((f"{count} rows", write_rows(f"{folder}/{count}.csv", drawn)))
+            for threads in given.threads.split(","):
+                measure(given.program, opl, given.settings, int(threads), given.repeats, files)
+                for line in lines_of(given.beside, opl, given.settings) if given.beside else []:
+                    print("    beside:", line)
 
 
 if __name__ == "__main__":

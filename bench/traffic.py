@@ -8,7 +8,7 @@ program, as `mirror`), read a generated town of N by N nodes (300), or the map t
 of TRAFFIC one by one: without rows (`TRAFFIC - -`); with N rows of speeds and N of turns (100,000), drawn, or the
 files that are named; and with the same rows and one more, the last of the turns, that is faulty.
 
-The program customizes for every metric, which the baseline has no use for. The program does that in other threads, and
+The program customizes the cells that hold a change from the metric before, which the baseline has no use for, in threads, and
 the thread that reads lines waits for them; so what is told of a line is the processor time of the first thread alone,
 as the kernel counts it (/proc, Linux only), and that of all threads. Reading and applying is then what a line with
 rows takes of the first thread beyond one without. The refused line is read and judged, and nothing else is done:
@@ -65,12 +65,15 @@ class Session:
         return reply
 
     def seconds(self):
-        """Processor seconds of the first thread, and of all of them."""
+        """Processor seconds of the first thread, and of all of them, of those that have ended by the hundredth of a second."""
         spent = {}
         for thread in os.listdir(f"{self.folder}/task"):
             with open(f"{self.folder}/task/{thread}/schedstat", encoding="ascii") as told:
                 spent[int(thread)] = int(told.read().split()[0]) / 1e9
-        return spent[self.child.pid], sum(spent.values())
+        with open(f"{self.folder}/stat", encoding="ascii") as told:
+            ticks = told.read().rsplit(")", 1)[1].split()[11:13]
+        of_all = sum(map(int, ticks)) / os.sysconf("SC_CLK_TCK")
+        return spent[self.child.pid], max(sum(spent.values()), of_all)
 
     def megabytes(self):
         """What it holds now, and the peak since `forget`."""

@@ -1,5 +1,5 @@
 -- What number a text stands for, as `u32` reads it.
-use Rattle.std.proofs.Common.{◌≡◌, ◌≤◌, ◌<◌, ◌^◌, ◌&&◌, ℕ, Bool, true, false, List, [], ◌∷◌, length, Option, Some, None, refl, sym, ◌∙◌, arith, true≢false}
+use Rattle.std.proofs.Common.{◌≡◌, ◌≤◌, ◌<◌, ◌^◌, ◌&&◌, ℕ, Bool, true, false, List, [], ◌∷◌, length, Option, Some, None, refl, sym, ◌∙◌, true≢false}
 use Rattle.std.specs.Prelude.{nat_lt, pos, if◌then◌else◌}
 use Rattle.std.specs.List.{list_all}
 use Rattle.std.specs.Char.{digit_value}
@@ -59,8 +59,9 @@ number-reads text = go (is_small (without_leading_plus text)) refl
         (((ltb-true _ _ inner.0, digits-from (without_leading_plus text) inner.1), ltb-true _ _ outer.1), refl)
     go false t = (tt, λ small. absurd (true≢false (sym (passes small) ∙ t)))
 
--- a text that `clap` takes for a number of workers is read as one from 1 to 64
-pub workers-read : (text : Text) → accepts false (Signed (pos 1) (pos 64)) text ≡ true → (n : ℕ) × (number_of (without_minus text) ≡ Some n) × (1 ≤ n) × (n ≤ 64)
-workers-read text passed =
-    signed_reads (Unit {0}) (ParsesUnsigned 32 10) 32 1 64 text (number_of (without_minus text)) (number-reads (without_minus text)) (λ u x g. g) (omega arith)
-    (accepts-Accepts false (Signed (pos 1) (pos 64)) text passed)
+-- a text that `clap` takes for a number in a range is read as one
+pub number-in_range : (low high : ℕ) → high < 2 ^ 32 → (text : Text) → accepts false (Signed (pos low) (pos high)) text ≡ true
+    → (n : ℕ) × (number_of (without_minus text) ≡ Some n) × (low ≤ n) × (n ≤ high)
+number-in_range low high fits text passed =
+    signed_reads (Unit {0}) (ParsesUnsigned 32 10) 32 low high text (number_of (without_minus text)) (number-reads (without_minus text)) (λ u x g. g) fits
+    (accepts-Accepts false (Signed (pos low) (pos high)) text passed)

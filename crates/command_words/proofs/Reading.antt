@@ -25,6 +25,8 @@ pub serving-as : (a b c d s t a' b' c' d' s' t' : Option Text) (n n' : Option �
 serving-as a b c d s t a' b' c' d' s' t' n n' e1 e2 e3 e4 e5 e6 e7 = rw (e1, e2, e3, e4, e5, e6, e7) refl
 
 -- a command over files, by what is there
-pub over-files : (name : Text) (a b a' b' : Option Text) (other : Option Command) → a ≡ a' → b ≡ b' → bytes_eq name (codes "serve") ≡ false
-    → command_over name a b ≡ (if bytes_eq name (codes "serve") then other else command_over name a' b')
-over-files name a b a' b' other e1 e2 differs = rw (differs, e1, e2) refl
+pub over-files : (name : Text) (a b a' b' : Option Text) (serve town drill : Option Command) → a ≡ a' → b ≡ b'
+    → bytes_eq name (codes "serve") ≡ false → bytes_eq name (codes "town") ≡ false → bytes_eq name (codes "drill") ≡ false
+    → command_over name a b
+    ≡ (if bytes_eq name (codes "serve") then serve else if bytes_eq name (codes "town") then town else if bytes_eq name (codes "drill") then drill else command_over name a' b')
+over-files name a b a' b' serve town drill e1 e2 not_serve not_town not_drill = rw (not_serve, not_town, not_drill, e1, e2) refl

@@ -6,7 +6,7 @@ use Rattle.clap.specs.declared.error.Error.{Error}
 use Rattle.clap.specs.declared.error.kind.ErrorKind.{ErrorKind}
 use Rattle.clap.specs.declared.error.kind.ErrorKind.TheVariants.{OutOfMemory}
 use Rattle.command_words.specs.CommandLine.{road_router}
-use Rattle.command_words.specs.Commands.{Command, HasWorkers, command_in, command_of}
+use Rattle.command_words.specs.Commands.{Command, HasNumbers, command_in, command_of}
 use Rattle.command_words.proofs.Named.{named}
 use Rattle.command_words.specs.WordsCause.{IsWordsFault}
 use Rattle.command_words.specs.declared.words.WordsFault.{WordsFault}
@@ -31,14 +31,14 @@ fault-cause words e Memory has other = tt
 fault-cause words e Unknown (inl memory) other = absurd (other refl memory)
 fault-cause words e Unknown (inr among) other = (λ none. rw none at among, command_of-refused words (kind_of e) among)
 
--- a command that words make has its workers
-pub made-has-workers : (words : List Text) (command : Command) → command_of words ≡ Some command → HasWorkers command
-made-has-workers words command made = go (fault_of road_router words) refl
+-- a command that words make has its numbers
+pub made-has-numbers : (words : List Text) (command : Command) → command_of words ≡ Some command → HasNumbers command
+made-has-numbers words command made = go (fault_of road_router words) refl
   where
-    go : (kinds : Kinds) → fault_of road_router words ≡ kinds → HasWorkers command
+    go : (kinds : Kinds) → fault_of road_router words ≡ kinds → HasNumbers command
     go [] e =
         let found = named words e in
-        subst HasWorkers (same_Some _ _ (sym found.1 ∙ made)) found.2
+        subst HasNumbers (same_Some _ _ (sym found.1 ∙ made)) found.2
     go (k ∷ ks) e =
         let none = command_of-refused words k (rw e (inl refl)) in
         let bad : None ≡ Some command = sym none ∙ made in

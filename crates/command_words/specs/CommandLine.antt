@@ -41,5 +41,17 @@ plain_app = on_top (λ s. record s { no_binary_name = true; disable_help_flag = 
 abbrev pub files_router : App
 files_router = with_subcommand (with_subcommand plain_app (files_app (codes "check")).top) (files_app (codes "ask")).top
 
+-- the number of a generated town: from 2 to 1000
+abbrev pub number_rule : Rule
+number_rule = record (file_rule (codes "n")) { parser = Some (Signed (pos 2) (pos 1000)) }
+
+-- a command over a generated town, by its number
+abbrev pub town_app : Text → App
+town_app name = with_rule (new_app name) number_rule
+
+-- the commands over a map and settings
+abbrev pub maps_router : App
+maps_router = with_subcommand files_router serve_app.top
+
 abbrev pub road_router : App
-road_router = with_subcommand files_router serve_app.top
+road_router = with_subcommand (with_subcommand maps_router (town_app (codes "town")).top) (town_app (codes "drill")).top

@@ -19,18 +19,24 @@ pub record Serving : Type 0 where
   pub speeds : Option (List ℕ)
   pub turns : Option (List ℕ)
 
--- to count what is in a map, or to answer lines over it, or to serve it; a map and settings go by the names of
--- their files
+-- to count what is in a map, or to answer lines over it, or to serve it, where a map and settings go by the names of
+-- their files; or to write the generated town of a number, or to drill on it
 pub data Command : Type 0 where
   Check : (map settings : List ℕ) → Command
   Ask : (map settings : List ℕ) → Command
   Serve : Serving → Command
+  Town : ℕ → Command
+  Drill : ℕ → Command
 
 -- the number below 2^32 that a text writes in decimal digits, which a plus may precede
 abbrev pub number_of : Text → Option ℕ
 number_of text =
     let digits = without_leading_plus text in
     if is_numeral digits && nat_lt (digits_value 10 digits) (2 ^ 32) then Some (digits_value 10 digits) else None
+
+-- the number that the value of an argument writes
+abbrev pub number_in : Text → List Row → Option ℕ
+number_in name rows = option_and_then number_of (one_of name rows)
 
 -- what serves where each of these is there
 abbrev pub serving_of : Option Text → Option Text → Option Text → Option Text → Option ℕ → Option Text → Option Text → Option Serving
@@ -41,7 +47,7 @@ serving_of _ _ _ _ _ speeds turns = None
 -- what the values of the arguments of `serve` say
 abbrev pub serving_in : List Row → Option Serving
 serving_in rows = serving_of (first_of (codes "opl") rows) (first_of (codes "settings") rows) (first_of (codes "listen") rows)
-    (first_of (codes "control") rows) (option_and_then number_of (one_of (codes "workers") rows))
+    (first_of (codes "control") rows) (number_in (codes "workers") rows)
     (first_of (codes "segment-speed-file") rows) (first_of (codes "turn-penalty-file") rows)
 
 -- the command of this name over these files
@@ -53,7 +59,10 @@ command_over name _ _ = None
 
 -- the command of a subcommand's name and the values of its arguments
 abbrev pub command_in : Text → List Row → Option Command
-command_in name rows = if bytes_eq name (codes "serve") then option_map Serve (serving_in rows)
+command_in name rows =
+    if bytes_eq name (codes "serve") then option_map Serve (serving_in rows)
+    else if bytes_eq name (codes "town") then option_map Town (number_in (codes "n") rows)
+    else if bytes_eq name (codes "drill") then option_map Drill (number_in (codes "n") rows)
     else command_over name (first_of (codes "opl") rows) (first_of (codes "settings") rows)
 
 -- None where there is a reason to refuse
@@ -65,10 +74,12 @@ unless_refused (kind ∷ kinds) command = None
 unfoldable pub command_of : List Text → Option Command
 command_of words = unless_refused (fault_of road_router words) (option_and_then (λ p. command_in p.0 p.1) (subcommand_of road_router words))
 
--- there are 1 to 64 workers where the command serves
-abbrev pub HasWorkers : Command → Type 0
-HasWorkers (Serve s) = (1 ≤ s.workers) × (s.workers ≤ 64)
-HasWorkers _ = Unit {0}
+-- where the command serves there are 1 to 64 workers, and the number of a town is from 2 to 1000
+abbrev pub HasNumbers : Command → Type 0
+HasNumbers (Serve s) = (1 ≤ s.workers) × (s.workers ≤ 64)
+HasNumbers (Town n) = (2 ≤ n) × (n ≤ 1000)
+HasNumbers (Drill n) = (2 ≤ n) × (n ≤ 1000)
+HasNumbers _ = Unit {0}
 
 -- what `serve` is to do, and the command that words, once read, ask for
 abbrev pub serving_seen : ServeWords → Serving
@@ -86,3 +97,5 @@ abbrev pub command_seen : Words → Command
 command_seen (words.Check map settings) = Check map.now settings.now
 command_seen (words.Ask map settings) = Ask map.now settings.now
 command_seen (words.Serve s) = Serve (serving_seen s)
+command_seen (words.Town n) = Town n
+command_seen (words.Drill n) = Drill n

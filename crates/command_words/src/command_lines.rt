@@ -3,7 +3,7 @@
 ghost use Rattle.std.specs.Prelude.{◌≡◌, false, IfOk};
 ghost use Rattle.clap.specs.Words.{app_of, rule_of};
 ghost use Rattle.clap.specs.declared.builder.command.Command.TheViews.{out-Command};
-ghost use Rattle.command_words.specs.CommandLine.{addresses_app, file_rule, files_app, files_router, option_rule, road_router, serve_app, workers_rule};
+ghost use Rattle.command_words.specs.CommandLine.{addresses_app, file_rule, files_app, files_router, maps_router, number_rule, option_rule, road_router, serve_app, town_app, workers_rule};
 
 use clap::{Arg, ArgAction, Command, value_parser};
 use std::alloc::{AllocError, Global};
@@ -65,7 +65,23 @@ fn serving<'a>(alloc: Global) -> Result<Command<'a>, AllocError>
         .arg(option(alloc, "turn-penalty-file"))
 }
 
-// The command line of the program, but for serving.
+// The number of a town, which must be given.
+fn number<'a>(alloc: Global) -> Arg<'a>
+    ensures rule { rule_of result ≡ number_rule }
+    ensures local { result.global ≡ false }
+{
+    file(alloc, "n").value_parser(value_parser!(u32).range(2..=1000))
+}
+
+// A command of this name over a generated town.
+fn over_town<'a>(alloc: Global, name: &'a str) -> Result<Command<'a>, AllocError>
+    ensures app { IfOk result (λ c. app_of c ≡ town_app name.entry.now) }
+    ensures local { IfOk result (λ c. (out-Command c).has_globals ≡ false) }
+{
+    Command::new(alloc, name).arg(number(alloc))
+}
+
+// The commands over lines.
 fn over_lines<'a>(alloc: Global) -> Result<Command<'a>, AllocError>
     ensures app { IfOk result (λ c. app_of c ≡ files_router) }
     ensures local { IfOk result (λ c. (out-Command c).has_globals ≡ false) }
@@ -79,10 +95,20 @@ fn over_lines<'a>(alloc: Global) -> Result<Command<'a>, AllocError>
         .subcommand(over_files(alloc, "ask")?)
 }
 
+// The commands over a map and settings.
+fn over_maps<'a>(alloc: Global) -> Result<Command<'a>, AllocError>
+    ensures app { IfOk result (λ c. app_of c ≡ maps_router) }
+    ensures local { IfOk result (λ c. (out-Command c).has_globals ≡ false) }
+{
+    over_lines(alloc)?.subcommand(serving(alloc)?)
+}
+
 /// The command line of the program, without the program's name.
 pub fn command_line<'a>(alloc: Global) -> Result<Command<'a>, AllocError>
     ensures app { IfOk result (λ c. app_of c ≡ road_router) }
     ensures local { IfOk result (λ c. (out-Command c).has_globals ≡ false) }
 {
-    over_lines(alloc)?.subcommand(serving(alloc)?)
+    over_maps(alloc)?
+        .subcommand(over_town(alloc, "town")?)?
+        .subcommand(over_town(alloc, "drill")?)
 }

@@ -7,7 +7,7 @@ mod command_lines;
 mod laws;
 mod words;
 
-pub use laws::{made_servers_have_workers, taken_words_make_a_command};
+pub use laws::{made_commands_have_their_numbers, taken_words_make_a_command};
 pub use words::{ServeWords, Words, WordsFault, read_words};
 
 #[cfg(test)]

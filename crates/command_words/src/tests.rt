@@ -34,6 +34,27 @@ fn words_that_make_a_command(rt: HostRuntime) -> Result<(), AllocError> {
 }
 
 #[test]
+fn words_over_a_town(rt: HostRuntime) -> Result<(), AllocError> {
+    let alloc = rt.alloc();
+    assert!(rt; makes(alloc, &["town", "2"], Words::Town(2))?);
+    assert!(rt; makes(alloc, &["town", "1000"], Words::Town(1000))?);
+    assert!(rt; makes(alloc, &["drill", "+020"], Words::Drill(20))?);
+    let lists: [&[&str]; 7] = [
+        &["town"],
+        &["town", "1"],
+        &["town", "1001"],
+        &["town", "-2"],
+        &["town", "2", "2"],
+        &["drill", "x"],
+        &["drill", "1"],
+    ];
+    for list in lists {
+        assert!(rt; makes_none(alloc, list)?);
+    }
+    Ok(())
+}
+
+#[test]
 fn words_that_serve(rt: HostRuntime) -> Result<(), AllocError> {
     let alloc = rt.alloc();
     let plain = ServeWords {

@@ -1,10 +1,10 @@
 //! The words of the command line.
 
-ghost use Rattle.std.specs.Prelude.{◌≡◌, ◌≢◌, codes, Some, IfOk, IfErr, map, option_map, string_bytes};
+ghost use Rattle.std.specs.Prelude.{◌≡◌, ◌≢◌, Some, IfOk, IfErr, map, option_map, string_bytes};
 ghost use Rattle.std.specs.Option.{option_and_then};
-ghost use Rattle.clap.specs.Words.{FailsBy, fault_of, found_of, kind_of, one_of, rows_of, subcommand_of, subcommand_rows_of};
+ghost use Rattle.clap.specs.Words.{FailsBy, fault_of, found_of, kind_of, rows_of, subcommand_of, subcommand_rows_of};
 ghost use Rattle.command_words.specs.CommandLine.{road_router};
-ghost use Rattle.command_words.specs.Commands.{HasWorkers, command_of, command_in, command_over, command_seen, number_of, serving_in, serving_of, serving_seen};
+ghost use Rattle.command_words.specs.Commands.{HasNumbers, command_of, command_in, command_over, command_seen, number_in, serving_in, serving_of, serving_seen};
 ghost use Rattle.command_words.specs.WordsCause.{IsWordsFault};
 
 use crate::command_lines::command_line;
@@ -41,6 +41,10 @@ pub enum Words<'a> {
     Ask(&'a str, &'a str),
     /// To serve the map at two addresses.
     Serve(ServeWords<'a>),
+    /// To write the generated town of this number, from 2 to 1000.
+    Town(u32),
+    /// To drill on the generated town of this number, from 2 to 1000.
+    Drill(u32),
 }
 
 /// Why the words were not read.
@@ -106,11 +110,11 @@ fn serving_of<'a>(
     })
 }
 
-// How many workers the matches tell of, if they do.
-fn workers_in(values: &ArgMatches<'_>) -> Option<u32>
-    ensures { result ≡ option_and_then number_of (one_of (codes "workers") (rows_of (found_of values.now))) }
+// The number that the matches tell of for an argument, if they do.
+fn number_in(values: &ArgMatches<'_>, name: &str) -> Option<u32>
+    ensures { result ≡ number_in name.now (rows_of (found_of values.now)) }
 {
-    values.get_one::<u32>("workers")
+    values.get_one::<u32>(name)
 }
 
 // What the matches of `serve` say, if they say enough.
@@ -122,7 +126,7 @@ fn serving_in<'a>(values: &ArgMatches<'a>) -> Option<ServeWords<'a>>
         values.get_str("settings"),
         values.get_str("listen"),
         values.get_str("control"),
-        workers_in(values),
+        number_in(values, "workers"),
         values.get_str("segment-speed-file"),
         values.get_str("turn-penalty-file"),
     )
@@ -134,6 +138,10 @@ fn command_named<'a>(name: &str, values: &ArgMatches<'a>) -> Option<Words<'a>>
 {
     if name == "serve" {
         Some(Words::Serve(serving_in(values)?))
+    } else if name == "town" {
+        Some(Words::Town(number_in(values, "n")?))
+    } else if name == "drill" {
+        Some(Words::Drill(number_in(values, "n")?))
     } else {
         command_over(name, values.get_str("opl"), values.get_str("settings"))
     }
@@ -151,11 +159,12 @@ fn command_in<'a>(matches: &ArgMatches<'a>) -> Option<Words<'a>>
 
 /// Reads the words, which stand without the program's name: `clap` takes `check OPL SETTINGS`,
 /// `ask OPL SETTINGS` and `serve OPL SETTINGS --listen A --control B`, which may have `--workers N` (a
-/// number from 1 to 64, else 4), `--segment-speed-file F` and `--turn-penalty-file F` beside it. What it
-/// does not take, and only that, is `Unknown`, a call for help too.
+/// number from 1 to 64, else 4), `--segment-speed-file F` and `--turn-penalty-file F` beside it, and
+/// `town N` and `drill N` (a number from 2 to 1000). What it does not take, and only that, is `Unknown`, a
+/// call for help too.
 pub fn read_words<'a>(alloc: Global, words: &'a [String]) -> Result<Words<'a>, WordsFault>
     ensures read { IfOk result (λ w. command_of (map string_bytes words.entry.now) ≡ Some (command_seen w)) }
-    ensures workers { IfOk result (λ w. HasWorkers (command_seen w)) }
+    ensures numbers { IfOk result (λ w. HasNumbers (command_seen w)) }
     ensures unknown { IfErr result (IsWordsFault (map string_bytes words.entry.now)) }
 {
     let matches = match matches_of(alloc, words) {

@@ -4,7 +4,7 @@ ghost use Rattle.std.specs.Prelude.{◌≡◌, IfErr, IfOk, OnErr};
 ghost use Rattle.control_port.specs.Asking.{IsBodyOf};
 ghost use Rattle.control_port.specs.Controlling.{FilesGive, IsBaseOf, IsControlled, IsOn};
 ghost use Rattle.control_port.specs.Judging.{BaseGives, IsFaultIn};
-ghost use Rattle.customized.specs.Exact.{Customized};
+ghost use Rattle.customized.specs.Exact.{Customized, customized_on};
 ghost use Rattle.edge_graph.specs.NetworkView.{graph_of};
 ghost use Rattle.search_graph.specs.Durations.{durlen_ops};
 ghost use Rattle.search_graph.specs.Weighted.{IsWeighting};
@@ -28,7 +28,7 @@ use traffic_files::{TrafficFault, read_speeds, read_turns};
 /// desk under the next number: `Published` tells that number and how many rows matched nothing, and the list is one
 /// metric longer; `Spent` tells that no number is left. A stop is `Stopping`, what is no request `BadRequest`. But
 /// after `Published` the list is as before; so it is after an error, which comes only where memory runs out. The
-/// cells of the metric are customized side by side in threads.
+/// cells that the change from the last metric touches are customized side by side in threads.
 pub fn control<R: Threads + Sync, P: Publishing<Metric, R>>(
     rt: &R,
     alloc: Global,
@@ -73,6 +73,24 @@ fn publish_files<R: Threads + Sync, P: Publishing<Metric, R>>(
     }
 }
 
+// The metric of roads under these costs, made from the last that was published: only the cells that the change touches
+// are customized.
+fn remade<R: Threads + Sync, P: Publishing<Metric, R>>(
+    rt: &R,
+    alloc: Global,
+    desk: &P,
+    roads: &Roads,
+    base: BaseMetric,
+) -> Result<Metric, AllocError>
+    requires weighting { IsWeighting durlen_ops (graph_of roads.now.network) base.weights }
+    requires kin { (x : Customized) → IsOn roads.now x → P.kin desk.now x }
+    ensures { IfOk result (λ metric. metric ≡ customized_on roads.now base) }
+{
+    let _ = roads;
+    let remade = Metric::remake(rt, alloc, desk.last(), base)?;
+    Ok(remade.metric)
+}
+
 // Publishes the metric of roads under these costs.
 fn publish_base<R: Threads + Sync, P: Publishing<Metric, R>>(
     rt: &R,
@@ -88,7 +106,7 @@ fn publish_base<R: Threads + Sync, P: Publishing<Metric, R>>(
     ensures kin_stays { (x : Customized) → P.kin desk.old x → P.kin desk.new x }
 {
     let unmatched = base.unmatched();
-    let metric = Metric::make(rt, alloc, roads, base)?;
+    let metric = remade(rt, alloc, desk, roads, base)?;
     let shared = Arc::new(alloc, metric)?;
     match desk.publish(rt, shared) {
         Ok(receipt) => Ok(Controlled::Published {

@@ -11,6 +11,6 @@ mod midpoints;
 mod roads;
 mod under;
 
-pub use metrics::Metric;
+pub use metrics::{Metric, Remade};
 pub use roads::{Roads, SERVER_LIMITS};
 pub use under::Under;

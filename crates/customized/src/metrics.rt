@@ -3,7 +3,7 @@
 ghost use Rattle.std.specs.Prelude.{◌≡◌, ◌↔◌, IfOk, length};
 ghost use Rattle.cell_frame.specs.Cliqued.{AreExact};
 ghost use Rattle.edge_graph.specs.NetworkView.{graph_of};
-ghost use Rattle.customized.specs.Exact.{ShareRoads, customized_on};
+ghost use Rattle.customized.specs.Exact.{IsRemadeBy, ShareRoads, customized_on, roads_of};
 ghost use Rattle.search_graph.specs.Durations.{durlen_ops};
 ghost use Rattle.search_graph.specs.Weighted.{AreSmall, IsWeighting};
 
@@ -11,6 +11,7 @@ use crate::roads::Roads;
 use crate::under::Under;
 use cell_customize::customize_in_threads;
 use cell_frame::{Cliques, Frame};
+use cell_recustomize::recustomize_in_threads;
 use edge_graph::Network;
 use metric_make::BaseMetric;
 use metric_publish::entry::Kindred;
@@ -18,6 +19,7 @@ use search_graph::DurLen;
 use std::alloc::{AllocError, Global};
 use std::marker::Model;
 use std::thread::Threads;
+use weight_changes::changed;
 
 /// What the vertices and turns of roads cost, with what cheapest walks cost inside each of their cells for
 /// just these costs. Contracts see the costs and the frame; that its cliques are exact for these costs is true
@@ -39,14 +41,24 @@ impl Model for Metric {
     ghost invariant = { λ m. IsExact (customized_on m.roads m.base) m.cliques };
 }
 
+/// A metric that was made from another, and how many searches it took: one from each entry of each cell that the
+/// change touches.
+#[derive(Drop)]
+pub struct Remade {
+    pub metric: Metric,
+    pub searches: u64,
+}
+
 /// Metrics of the same network and frame may stand on one board.
 impl Kindred for Metric {
     ghost use Rattle.std.specs.Prelude.{refl};
-    ghost use Rattle.customized.specs.Exact.{ShareRoads};
+    ghost use Rattle.customized.specs.Exact.{ShareRoads, share_both};
 
     ghost akin = { ShareRoads };
 
     ghost itself = { λ x. (refl, refl) };
+
+    ghost together = { share_both };
 }
 
 impl Metric {
@@ -69,6 +81,41 @@ impl Metric {
             roads,
             base,
             cliques,
+        })
+    }
+
+    /// The metric of the same roads under these costs, which `base` of `metric_make` gives for their network: the
+    /// same as `make` gives. But it customizes only those cells, side by side in threads, that hold a vertex whose
+    /// costs change, or both ends of a turn whose costs do; all others keep what the old metric has of them. It
+    /// answers an error only where memory runs out.
+    pub fn remake(
+        rt: &(impl Threads + Sync),
+        alloc: Global,
+        old: &Metric,
+        base: BaseMetric,
+    ) -> Result<Remade, AllocError>
+        requires base { IsWeighting durlen_ops (graph_of old.now.road.network) base.weights }
+        ensures metric { IfOk result (λ made. made.metric ≡ customized_on (roads_of old.now) base) }
+        ensures searches { IfOk result (λ made. IsRemadeBy old.now base.weights made.searches) }
+    {
+        let shared = old.roads.copy()?;
+        known_small(&shared, &base);
+        let frame = old.frame();
+        let before = old.base().weights();
+        let after = base.weights();
+        let places = changed(alloc, frame.graph(), before, after)?;
+        let vertices = places.vertices.as_slice();
+        let arcs = places.arcs.as_slice();
+        let cliques = old.cliques();
+        let made = recustomize_in_threads(rt, alloc, frame, after, cliques, vertices, arcs)?;
+        let metric = Metric {
+            roads: shared,
+            base,
+            cliques: made.cliques,
+        };
+        Ok(Remade {
+            metric,
+            searches: made.searches,
         })
     }
 
@@ -124,11 +171,12 @@ impl Metric {
     }
 }
 
-// Tells a proof that the costs of roads are small. It does nothing.
+// Tells a proof that the costs of roads are small, and that their frame is over their graph. It does nothing.
 fn known_small(roads: &Roads, base: &BaseMetric)
     requires { IsWeighting durlen_ops (graph_of roads.now.network) base.now.weights }
     ensures network { AreSmall durlen_ops (graph_of roads.now.network) base.now.weights }
     ensures frame { AreSmall durlen_ops roads.now.frame.graph base.now.weights }
+    ensures graph { roads.now.frame.graph ≡ graph_of roads.now.network }
 {
     let _graph = roads.frame();
     let _few = roads.network().segments();

@@ -5,6 +5,7 @@ ghost use Rattle.door_service.specs.Leading.{TurnGives, TendGives};
 
 use crate::sessions::{Controlling, Then};
 use crate::turns::{End, Turn};
+use metric_publish::entry::Kindred;
 use metric_publish::meaning::Publishing;
 use road_io::{Closer, Door};
 use std::sync::Wait;
@@ -12,7 +13,7 @@ use std::thread::Threads;
 
 /// Serves the next control connection.
 pub fn control_next<
-    V: Drop,
+    V: Kindred,
     C: Controlling<V>,
     P: Publishing<V, R>,
     D: Door,
@@ -50,7 +51,7 @@ fn close<K: Closer>(closer: &mut Option<K>)
 /// Serves control connections until one asks to stop or the door ends, and returns how many. A stop, and a
 /// door that failed, closes the query doors. May wait.
 pub fn control_all<
-    V: Drop,
+    V: Kindred,
     C: Controlling<V>,
     P: Publishing<V, R>,
     D: Door,
@@ -92,7 +93,7 @@ pub struct ControlPost<D, K> {
 
 /// Serves the control connections of a post.
 pub fn control_at<
-    V: Drop,
+    V: Kindred,
     C: Controlling<V>,
     P: Publishing<V, R>,
     D: Door,

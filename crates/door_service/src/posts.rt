@@ -23,7 +23,7 @@ pub struct Post<D, S> {
 }
 
 /// Serves all that comes through the door of one post.
-pub fn answer_at<V: Drop, Q: Querying<V>, S: Reading<V>, D: Door, R: Wait>(
+pub fn answer_at<V: Drop, Q: Querying<V>, S: Reading<V>, D: Door, R: Threads + Wait + Sync>(
     rt: &R,
     queries: &Q,
     post: &mut Post<D, S>,

@@ -6,6 +6,7 @@ ghost use mathlib.Core.List.{IsPrefix};
 ghost use Rattle.metric_publish.specs.declared.entry.Entry.{Entry};
 ghost use Rattle.road_io.specs.Views.{IsFreshConn, Transcript};
 
+use metric_publish::entry::Kindred;
 use metric_publish::meaning::{Publishing, Reading};
 use road_io::Conn;
 use std::sync::Wait;
@@ -32,8 +33,15 @@ pub trait Querying<V: Drop> {
     ghost fits: { Self → V → Type 0 };
 
     /// Serves one connection to its end. `id` is the number of the seat, as a gate knows it. May wait for the
-    /// connection, and for no other thread.
-    fn answer<S: Reading<V>, C: Conn>(&self, id: u32, seat: &mut S, conn: &mut C)
+    /// connection, and for no other thread than those that it makes by `rt`.
+    fn answer<S: Reading<V>, C: Conn, R: Threads + Sync>(
+        &self,
+        rt: &R,
+        id: u32,
+        seat: &mut S,
+        conn: &mut C,
+    )
+        requires shared { IsSync R.row }
         requires fresh { IsFreshConn (C.state conn.old) }
         requires fits { (x : V) → S.kin seat.old x → fits self.now x }
         ensures rule { rule self.now (S.seen seat.new) (C.state conn.new) }
@@ -42,7 +50,7 @@ pub trait Querying<V: Drop> {
 }
 
 /// Serves control connections, each of which may publish.
-pub trait Controlling<V: Drop> {
+pub trait Controlling<V: Kindred> {
     ghost use Rattle.door_service.specs.declared.sessions.Then.{Then};
 
     /// The rule that a finished connection meets: the list before it, the list behind it, and what it asks

@@ -9,6 +9,7 @@ ghost use Rattle.door_service.specs.Leading.{TendGives};
 use crate::control_loop::{ControlPost, control_at};
 use crate::posts::{Post, answer_everywhere};
 use crate::sessions::{Controlling, Querying};
+use metric_publish::entry::Kindred;
 use metric_publish::meaning::{Publishing, Reading};
 use road_io::{Closer, Door};
 use std::sync::Wait;
@@ -18,7 +19,7 @@ use std::thread::{Threads, join_mut};
 /// on the calling thread. The two kinds of door have a parameter each: what two threads hold may not name one
 /// parameter.
 pub fn serve_doors<
-    V: Drop + Send + Sync,
+    V: Kindred + Send + Sync,
     Q: Querying<V> + Sync,
     C: Controlling<V>,
     S: Reading<V> + Send,

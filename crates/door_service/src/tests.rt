@@ -34,6 +34,8 @@ impl Kindred for Figure {
     ghost akin = { λ x y. Unit {0} };
 
     ghost itself = { λ x. tt };
+
+    ghost together = { λ x y z a b. tt };
 }
 
 /// Answers a byte by the number of the publication that was entered.
@@ -49,7 +51,13 @@ impl Querying<Figure> for Numbers {
 
     ghost fits = { λ s x. Unit {0} };
 
-    fn answer<S: Reading<Figure>, C: Conn>(&self, id: u32, seat: &mut S, conn: &mut C) {
+    fn answer<S: Reading<Figure>, C: Conn, R: Threads + Sync>(
+        &self,
+        rt: &R,
+        id: u32,
+        seat: &mut S,
+        conn: &mut C,
+    ) {
         let mut byte = [0_u8; 1];
         if conn.take(&mut byte) != Ok(1) {
             return;

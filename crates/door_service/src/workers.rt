@@ -8,9 +8,11 @@ use crate::sessions::Querying;
 use metric_publish::meaning::Reading;
 use road_io::Door;
 use std::sync::Wait;
+use std::thread::Threads;
 
 /// Serves the next connection of a door. `false`: the door has ended.
-pub fn answer_next<V: Drop, Q: Querying<V>, S: Reading<V>, D: Door>(
+pub fn answer_next<V: Drop, Q: Querying<V>, S: Reading<V>, D: Door, R: Threads + Sync>(
+    rt: &R,
     queries: &Q,
     id: u32,
     seat: &mut S,
@@ -25,7 +27,7 @@ pub fn answer_next<V: Drop, Q: Querying<V>, S: Reading<V>, D: Door>(
 {
     match door.next() {
         Ok(Some(mut conn)) => {
-            queries.answer(id, seat, &mut conn);
+            queries.answer(rt, id, seat, &mut conn);
             door.finish(conn);
             true
         }
@@ -35,7 +37,7 @@ pub fn answer_next<V: Drop, Q: Querying<V>, S: Reading<V>, D: Door>(
 }
 
 /// Serves the connections of a door to its end, and returns how many. May wait.
-pub fn answer_all<V: Drop, Q: Querying<V>, S: Reading<V>, D: Door, R: Wait>(
+pub fn answer_all<V: Drop, Q: Querying<V>, S: Reading<V>, D: Door, R: Threads + Wait + Sync>(
     rt: &R,
     queries: &Q,
     id: u32,
@@ -51,7 +53,7 @@ pub fn answer_all<V: Drop, Q: Querying<V>, S: Reading<V>, D: Door, R: Wait>(
 {
     let mut count = 0u64;
     for _ in rt.forever() {
-        if !answer_next(queries, id, seat, door) {
+        if !answer_next(rt, queries, id, seat, door) {
             return count;
         }
         count = count.saturating_add(1);

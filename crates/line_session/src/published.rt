@@ -60,13 +60,18 @@ impl Published {
         Ok(Published { roads, board, grid })
     }
 
-    /// The reply to a line that is not empty, with a newline behind it. It answers an error only where
-    /// memory runs out.
-    pub fn reply_line(&self, alloc: Global, line: &[u8]) -> Result<Text, ReplyFault>
+    /// The reply to a line that is not empty, with a newline behind it. The rows of a table are made in threads. It
+    /// answers an error only where memory runs out.
+    pub fn reply_line(
+        &self,
+        rt: &(impl Threads + Sync),
+        alloc: Global,
+        line: &[u8],
+    ) -> Result<Text, ReplyFault>
         ensures { IfOk result (λ text. IsReplyLine self.now line.now text) }
     {
         let held = self.board.enter()?;
-        let answer = line_answer(alloc, &held, &self.grid, line)?;
+        let answer = line_answer(rt, alloc, &held, &self.grid, line)?;
         let mut text = answer.text.into_string();
         text.push('\n')?;
         Ok(Text::of(text))

@@ -102,7 +102,7 @@ pub fn reply<R: Threads + Sync, F: Files>(
         Some((speeds, turns)) => {
             reply_to_traffic(rt, alloc, published, files, line, speeds, turns)
         }
-        None => match published.reply_line(alloc, line) {
+        None => match published.reply_line(rt, alloc, line) {
             Ok(text) => Ok(text),
             Err(_) => Err(Unanswered::Memory),
         },

@@ -34,6 +34,11 @@ module _ {V : Type 0} (akin : V → V → Type 0) where
   last_kin [] e h k = tt
   last_kin (x ∷ xs) e h k = subst (λ (u : Entry V). akin x.value u.value) (same_Some _ _ h) (last_from_kin x.value x xs k)
 
+  -- what may stand in a list is akin to its last value
+  pub last_akin : ((x y z : V) → akin x y → akin x z → akin y z) → (xs : List (Entry V)) (e : Entry V) → last_of xs ≡ Some e → AreKin akin xs → (x : V) → IsKin akin xs x → akin e.value x
+  last_akin together [] e some k x is = absurd (cc some)
+  last_akin together (y ∷ xs) e some k x is = together y.value e.value x (last_kin (y ∷ xs) e some k) is
+
   -- what is akin to a list is so to its beginnings
   pub kin_before : (xs ys : List (Entry V)) → IsPrefix xs ys → (x : V) → IsKin akin ys x → IsKin akin xs x
   kin_before [] ys p x h = tt

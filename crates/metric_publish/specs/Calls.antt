@@ -25,6 +25,10 @@ module _ {V : Type 0} where
   abbrev pub IsLast : List (Entry V) → Held V → Type 0
   IsLast list held = last_of list ≡ Some (entry held.number (arc_value held.value))
 
+  -- the list ends in this value
+  abbrev pub IsLastValue : List (Entry V) → V → Type 0
+  IsLastValue list value = (number : ℕ) × (last_of list ≡ Some (entry number value))
+
   -- one read: the list that is then seen begins with what was seen and with what was learned, and its last
   -- number was read
   abbrev pub ReadsOne : List (Entry V) → List (Entry V) → List (Entry V) → Option (List ℕ) → Option (List ℕ) → Type 0

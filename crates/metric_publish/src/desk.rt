@@ -4,7 +4,7 @@ ghost use mathlib.Core.List.{IsPrefix};
 ghost use Rattle.std.specs.Arc.{arc_value};
 ghost use Rattle.left_right.specs.Sides.{view};
 ghost use Rattle.metric_publish.specs.History.{IsKin, IsRun, last_number};
-ghost use Rattle.metric_publish.specs.Calls.{PublishGives};
+ghost use Rattle.metric_publish.specs.Calls.{IsLastValue, PublishGives};
 
 use crate::entry::{Kindred, Put, View};
 use crate::held::{Receipt, Refused};
@@ -153,6 +153,15 @@ impl<V: Kindred, J: Naming, R: Wait> Publishing<V, R> for Desk<Shown<V, J>, V, B
     ghost list = { λ d. d.writer.desk.shown.value.front.token.log };
 
     ghost kin = { λ d. IsKin V.akin d.writer.desk.shown.value.front.token.log };
+
+    fn last(&self) -> &Arc<V>
+        ensures last { IsLastValue self.now.writer.desk.shown.value.front.token.log (arc_value result.now) }
+        ensures kin { (x : V) → IsKin V.akin self.now.writer.desk.shown.value.front.token.log x → V.akin (arc_value result.now) x }
+    {
+        let shown = self.writer.published();
+        shown.front.check_law();
+        &shown.put.value
+    }
 
     fn publish(&mut self, rt: &R, value: Arc<V>) -> Result<Receipt, Refused<V>>
         requires { IsKin V.akin self.old.writer.desk.shown.value.front.token.log (arc_value value) }

@@ -15,6 +15,9 @@ pub trait Kindred: Drop {
 
     /// Each value may stand beside itself.
     ghost itself: { (x : Self) → akin x x };
+
+    /// What may stand beside one value may stand together.
+    ghost together: { (x y z : Self) → akin x y → akin x z → akin y z };
 }
 
 /// A publication, as a running board has it.

@@ -2,7 +2,7 @@
 ghost use Rattle.std.specs.Prelude.{◌≡◌, ◌+◌, ◌<◌, ◌∷◌, [], Some, None, length, IfOk, MatchOption};
 ghost use Rattle.std.specs.Arc.{arc_value};
 ghost use Rattle.metric_publish.specs.History.{IsKin, IsRun, entry, entry_of, head_of, last_of, last_number};
-ghost use Rattle.metric_publish.specs.Calls.{IsLast, PublishGives};
+ghost use Rattle.metric_publish.specs.Calls.{IsLast, IsLastValue, PublishGives};
 
 use crate::entry::{Kindred, Put};
 use crate::held::{Held, Receipt, Refused};
@@ -69,6 +69,15 @@ impl<V: Kindred> LocalBoard<V> {
         })
     }
 
+    /// The value of the last publication.
+    pub fn last(&self) -> &Arc<V>
+        ensures last { IsLastValue self.now.page.token.log (arc_value result.now) }
+        ensures kin { (x : V) → IsKin V.akin self.now.page.token.log x → V.akin (arc_value result.now) x }
+    {
+        check_law(&self.page.token);
+        &self.page.put.value
+    }
+
     /// Publishes a value under the next number. It waits for nobody. A refused value is handed
     /// back, and the list is as it was.
     pub fn publish(&mut self, value: Arc<V>) -> Result<Receipt, Refused<V>>
@@ -114,6 +123,13 @@ impl<V: Kindred, R> Publishing<V, R> for LocalBoard<V> {
     ghost list = { λ b. b.page.token.log };
 
     ghost kin = { λ b. IsKin V.akin b.page.token.log };
+
+    fn last(&self) -> &Arc<V>
+        ensures last { IsLastValue self.now.page.token.log (arc_value result.now) }
+        ensures kin { (x : V) → IsKin V.akin self.now.page.token.log x → V.akin (arc_value result.now) x }
+    {
+        LocalBoard::last(self)
+    }
 
     fn publish(&mut self, _rt: &R, value: Arc<V>) -> Result<Receipt, Refused<V>>
         requires { IsKin V.akin self.old.page.token.log (arc_value value) }

@@ -3,8 +3,9 @@ ghost use Rattle.std.specs.Prelude.{◌≡◌, ℕ, List, Option, IfOk};
 ghost use Rattle.std.specs.Arc.{arc_value};
 ghost use Rattle.metric_publish.specs.declared.entry.Entry.{Entry};
 ghost use Rattle.metric_publish.specs.History.{IsRun};
-ghost use Rattle.metric_publish.specs.Calls.{EnterGives, PublishGives};
+ghost use Rattle.metric_publish.specs.Calls.{EnterGives, IsLastValue, PublishGives};
 
+use crate::entry::Kindred;
 use crate::held::{Held, Receipt, Refused};
 use std::alloc::AllocError;
 use std::sync::Arc;
@@ -34,12 +35,18 @@ pub trait Reading<V: Drop> {
 }
 
 /// A place that publishes. `R` is the handle by which it waits for readers, where it does.
-pub trait Publishing<V: Drop, R> {
+pub trait Publishing<V: Kindred, R> {
     /// What was published.
     ghost list: { Self → List (Entry V) };
 
     /// What may stand in the list.
     ghost kin: { Self → V → Type 0 };
+
+    /// The value of the last publication. It takes no memory, and waits for nobody. What may stand in the list may
+    /// stand beside it.
+    fn last(&self) -> &Arc<V>
+        ensures last { IsLastValue (list self.now) (arc_value result.now) }
+        ensures kin { (x : V) → kin self.now x → V.akin (arc_value result.now) x };
 
     /// Publishes a value whole, in one step, under the next number. A refused value is
     /// handed back, and the list is as it was.

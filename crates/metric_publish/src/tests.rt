@@ -26,6 +26,8 @@ impl Kindred for u64 {
     ghost akin = { λ x y. Unit {0} };
 
     ghost itself = { λ x. tt };
+
+    ghost together = { λ x y z a b. tt };
 }
 
 // Publishes numbers under themselves. It returns how many were not published so.

@@ -15,6 +15,7 @@ use metric_publish::held::Held;
 use reply_texts::{Code, bad_request_text, refusal_text};
 use snap_index::Grid;
 use std::alloc::{AllocError, Global};
+use std::thread::Threads;
 use url_read::{Refusal, RefusalCode, RequestFault, request};
 
 /// How many bytes a line may have.
@@ -23,10 +24,12 @@ const LONGEST_LINE: usize = 8192;
 /// The answer to a target under what was published: a refusal with status 400 for a target that is no request,
 /// for a request that asks for a higher number, for the first coordinate that has no place, or for the first leg
 /// of a route that has no permitted walk, the first that applies; else, with status 200, a least route, a table of
-/// what least walks cost, or the nearest places. The grid is that of the metric's network.
+/// what least walks cost, its rows side by side in threads, or the nearest places. The grid is that of the metric's
+/// network.
 ///
 /// It answers `Memory` only where memory runs out.
 pub fn answer(
+    rt: &(impl Threads + Sync),
     alloc: Global,
     held: &Held<Metric>,
     grid: &Grid,
@@ -37,7 +40,7 @@ pub fn answer(
     ensures status { IfOk result (λ answer. answer.status ≡ status_of answer.code) }
 {
     let under = held.value().under();
-    target_answer(alloc, &under, held.number(), grid, target)
+    target_answer(rt, alloc, &under, held.number(), grid, target)
 }
 
 /// The answer to a line, which stands without its newline: `answer`'s to the target of a line `GET TARGET` that
@@ -46,6 +49,7 @@ pub fn answer(
 ///
 /// It answers `Memory` only where memory runs out.
 pub fn line_answer(
+    rt: &(impl Threads + Sync),
     alloc: Global,
     held: &Held<Metric>,
     grid: &Grid,
@@ -56,13 +60,14 @@ pub fn line_answer(
     ensures status { IfOk result (λ answer. answer.status ≡ status_of answer.code) }
 {
     match target_in(line) {
-        Some(target) => answer(alloc, held, grid, target),
+        Some(target) => answer(rt, alloc, held, grid, target),
         None => Ok(bad_request(alloc)?),
     }
 }
 
 // The answer to a target under a metric of this number.
 fn target_answer(
+    rt: &(impl Threads + Sync),
     alloc: Global,
     under: &Under<'_>,
     number: u32,
@@ -74,7 +79,7 @@ fn target_answer(
     ensures status { IfOk result (λ answer. answer.status ≡ status_of answer.code) }
 {
     match request(alloc, target) {
-        Ok(request) => request_answer(alloc, under, number, grid, &request),
+        Ok(request) => request_answer(rt, alloc, under, number, grid, &request),
         Err(RequestFault::Refused(refusal)) => Ok(refused(alloc, refusal)?),
         Err(RequestFault::Memory) => Err(ReplyFault::Memory),
     }

@@ -18,10 +18,12 @@ use reply_texts::{Code, Lack, lack_text};
 use road_base::Text;
 use snap_index::Grid;
 use std::alloc::Global;
+use std::thread::Threads;
 use url_read::{Request, Service};
 
 /// The answer to a request under a metric of this number: what its service is asked for, or what is lacking.
 pub(crate) fn request_answer(
+    rt: &(impl Threads + Sync),
     alloc: Global,
     under: &Under<'_>,
     number: u32,
@@ -33,7 +35,7 @@ pub(crate) fn request_answer(
     ensures says { IfOk result (IsReply under.now.road number request.now) }
     ensures status { IfOk result (λ answer. answer.status ≡ status_of answer.code) }
 {
-    match recent_answer(alloc, under, number, grid, request) {
+    match recent_answer(rt, alloc, under, number, grid, request) {
         Ok(answer) => Ok(answer),
         Err(FoundFault::Lacks(lack)) => {
             let text = lack_text(alloc, number, lack)?;
@@ -45,6 +47,7 @@ pub(crate) fn request_answer(
 
 // The answer with what a request asks for under a metric of this number, which is recent enough, or what is lacking.
 fn recent_answer(
+    rt: &(impl Threads + Sync),
     alloc: Global,
     under: &Under<'_>,
     number: u32,
@@ -60,11 +63,12 @@ fn recent_answer(
     if request.since > number {
         return Err(FoundFault::Lacks(Lack::Ahead(request.since)));
     }
-    found_answer(alloc, under, number, grid, request)
+    found_answer(rt, alloc, under, number, grid, request)
 }
 
 // The same of a request whose metric is recent enough.
 fn found_answer(
+    rt: &(impl Threads + Sync),
     alloc: Global,
     under: &Under<'_>,
     number: u32,
@@ -80,7 +84,7 @@ fn found_answer(
 {
     match &request.service {
         Service::Route(own) => route_answer(alloc, under, number, grid, request, own),
-        Service::Table(own) => table_answer(alloc, under, number, grid, request, own),
+        Service::Table(own) => table_answer(rt, alloc, under, number, grid, request, own),
         Service::Nearest(own) => nearest_answer(alloc, under, number, grid, request, own),
     }
 }

@@ -22,11 +22,13 @@ use road_base::{Place, Point, Text};
 use road_walks::cost_rows;
 use snap_index::Grid;
 use std::alloc::{AllocError, Global};
+use std::thread::Threads;
 use url_read::{Chosen, Request, TableOptions};
 
 // The answer with what a least walk from each source to each destination costs, or the first coordinate that has no
 // place.
 pub(crate) fn table_answer(
+    rt: &(impl Threads + Sync),
     alloc: Global,
     under: &Under<'_>,
     number: u32,
@@ -48,7 +50,7 @@ pub(crate) fn table_answer(
     let places = places_of(alloc, under, grid, request)?;
     let sources = ends_of(alloc, &own.sources, request, &places)?;
     let destinations = ends_of(alloc, &own.destinations, request, &places)?;
-    let rows = cost_rows(alloc, under, &sources.places, &destinations.places)?;
+    let rows = cost_rows(rt, alloc, under, &sources.places, &destinations.places)?;
     let text = table_text(
         alloc,
         network,

@@ -215,8 +215,8 @@ pub(crate) fn ask_over(
     let board = LocalBoard::of(alloc, Arc::new(alloc, metric)?, number)?;
     let held = board.enter()?;
     match asked {
-        Asked::Target(target) => answer(alloc, &held, &grid, target.as_bytes()),
-        Asked::Line(line) => line_answer(alloc, &held, &grid, line),
+        Asked::Target(target) => answer(rt, alloc, &held, &grid, target.as_bytes()),
+        Asked::Line(line) => line_answer(rt, alloc, &held, &grid, line),
     }
 }
 

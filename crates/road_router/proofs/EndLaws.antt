@@ -17,8 +17,10 @@ use Rattle.program_ends.specs.ReadLaws.{begun_all}
 use Rattle.program_ends.specs.StoppedEarly.{EndsUnbegun}
 use Rattle.road_router.specs.AskEnding.{Answering, EndsAsk, EndsFailed, EndsTold, EndsUnread, IsLong}
 use Rattle.road_router.specs.CheckEnding.{EndsCheck, IsCounted}
-use Rattle.road_router.specs.InnerEnds.{EndsCountOver, EndsFrom, EndsOver, EndsPut, answered, count_exhausted, count_refused, counted, exhausted, refused}
+use Rattle.road_router.specs.InnerEnds.{EndsCountOver, EndsFrom, EndsOver, answered, count_exhausted, count_refused, counted, exhausted, refused}
 use Rattle.road_router.specs.MapReads.{MapRefused, both_files, both_names}
+use Rattle.road_router.specs.TownEnding.{EndsDrill, EndsPut, EndsTown}
+use Rattle.town_drill.specs.Drill.{IsDrill}
 
 -- where a file is not read, the run ends for it
 pub ask_unbegun : (code : Status) (before after : Outside) (map settings : List ℕ) → EndsUnbegun code before after (both_names map settings) → EndsAsk code before after map settings
@@ -158,3 +160,24 @@ ask_causes before after map settings doors (inr (inr answering)) = inl (subst (�
 pub ask_outside : (code : Status) (before after : Outside) (map settings : List ℕ) (doors : ℕ) → EndsAsk code before after map settings → code ≡ status.Outside
     → FilesRose before.files after.files ⊎ (InputRose before.input after.input ⊎ (OutputRose before.output after.output ⊎ Rose doors doors))
 ask_outside code before after map settings doors ends is = ask_causes before after map settings doors (subst (λ (c : Status). EndsAsk c before after map settings) is ends)
+
+-- what a drill tells, put
+pub drill_told : (code : Status) (n : ℕ) (text : List ℕ) (before after : OutputView) → IsDrill n text → EndsPut code text before after → EndsDrill code n before after
+drill_told status.Ok n text before after is h = (h.0, (text, is, h.1))
+drill_told status.Outside n text before after is h = (h.0, (text, is, h.1))
+drill_told status.Words n text before after is h = absurd h
+drill_told status.Refused n text before after is h = absurd h
+drill_told status.Memory n text before after is h = h
+
+-- a run over a town ends for the outside only where the output failed
+pub town_outside : (code : Status) (n : ℕ) (files : FilesView) (input : InputView) (before after : OutputView) (doors : ℕ) → EndsTown code n before after → code ≡ status.Outside
+    → FilesRose files files ⊎ (InputRose input input ⊎ (OutputRose before after ⊎ Rose doors doors))
+town_outside code n files input before after doors ends is =
+    let rose = subst (λ (c : Status). EndsTown c n before after) is ends in
+    inr (inr (inl rose.0))
+
+pub drill_outside : (code : Status) (n : ℕ) (files : FilesView) (input : InputView) (before after : OutputView) (doors : ℕ) → EndsDrill code n before after → code ≡ status.Outside
+    → FilesRose files files ⊎ (InputRose input input ⊎ (OutputRose before after ⊎ Rose doors doors))
+drill_outside code n files input before after doors ends is =
+    let rose = subst (λ (c : Status). EndsDrill c n before after) is ends in
+    inr (inr (inl rose.0))

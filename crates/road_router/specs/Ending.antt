@@ -1,7 +1,7 @@
 -- How a run of the program ends (this project's rule): by the command that its words make and by its
 -- status, what stands in the output, what was read and taken, and what the status comes from.
 use Rattle.std.specs.Prelude.{◌≡◌, ℕ, ◌⊎◌, List, codes, Option, Some, None}
-use Rattle.command_words.specs.Commands.{Command, Ask, Check, Serve}
+use Rattle.command_words.specs.Commands.{Command, Ask, Check, Drill, Serve, Town}
 use Rattle.road_io.specs.DoorOpening.{DoorsView}
 use Rattle.road_io.specs.Outside.{Outside}
 use Rattle.road_io.specs.Putting.{Closes}
@@ -10,6 +10,7 @@ use Rattle.road_base.specs.declared.program_status.Status.{Status}
 use Rattle.road_base.specs.declared.program_status.Status.TheVariants as status
 use Rattle.road_router.specs.AskEnding.{EndsAsk}
 use Rattle.road_router.specs.CheckEnding.{EndsCheck}
+use Rattle.road_router.specs.TownEnding.{EndsDrill, EndsTown}
 use Rattle.serve_command.specs.ServeEnding.{EndsServe}
 
 abbrev pub usage_line : List ℕ
@@ -29,6 +30,10 @@ EndsOn (Some (Check map settings)) code before after doors now =
     EndsCheck code before after map settings × (after.input ≡ before.input) × (now ≡ doors)
 EndsOn (Some (Ask map settings)) code before after doors now = EndsAsk code before after map settings × (now ≡ doors)
 EndsOn (Some (Serve words)) code before after doors now = EndsServe code words before after doors now
+EndsOn (Some (Town n)) code before after doors now =
+    EndsTown code n before.output after.output × (after.files ≡ before.files) × (after.input ≡ before.input) × (now ≡ doors)
+EndsOn (Some (Drill n)) code before after doors now =
+    EndsDrill code n before.output after.output × (after.files ≡ before.files) × (after.input ≡ before.input) × (now ≡ doors)
 EndsOn None code before after doors now = EndsUntouched code status.Words before after usage_line × (now ≡ doors)
 
 -- there was no memory to read the words

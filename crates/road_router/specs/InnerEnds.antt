@@ -1,9 +1,7 @@
 -- Serves this crate's own functions alone, and is no part of what `run` promises: how the steps of a run
 -- end, each by what it knows itself.
 use Rattle.std.specs.Prelude.{◌≡◌, ℕ, ◌⊎◌, List, Result, Ok, Err}
-use Rattle.std.specs.Io.KnownBytes.{Appends}
 use Rattle.edge_graph.specs.NetworkView.{NetworkView}
-use Rattle.road_io.specs.Faults.{OutputRose}
 use Rattle.road_io.specs.Outside.{Outside}
 use Rattle.road_io.specs.Putting.{Closes}
 use Rattle.road_io.specs.Views.{OutputView}
@@ -15,8 +13,8 @@ use Rattle.opl_read.specs.Objects.{opl_objects}
 use Rattle.road_base.specs.declared.osm_objects.Object.{Object}
 use Rattle.road_base.specs.declared.program_status.Status.{Status}
 use Rattle.road_base.specs.declared.program_status.Status.TheVariants as status
-use Rattle.road_io.specs.Told.{AppendsFront}
 use Rattle.road_router.specs.AskEnding.{EndsFailed, EndsTold, EndsUnread, IsLong}
+use Rattle.road_router.specs.TownEnding.{EndsPut}
 
 -- the end of answering lines from a publication on, by the status
 abbrev pub EndsFrom : Status → Publication → Outside → Outside → Type 0
@@ -32,14 +30,6 @@ pub data EndsOver (code : Status) (loaded : Result NetworkView (List ℕ)) (befo
   answered : (network : NetworkView) → loaded ≡ Ok network → EndsFrom code (opening network) before after → EndsOver code loaded before after
   refused : (line : List ℕ) → loaded ≡ Err line → code ≡ status.Refused → after.files ≡ before.files → after.input ≡ before.input → Closes before.output after.output line → EndsOver code loaded before after
   exhausted : code ≡ status.Memory → after.files ≡ before.files → after.input ≡ before.input → Closes before.output after.output memory_line → EndsOver code loaded before after
-
--- the end of putting a text, by its status
-abbrev pub EndsPut : Status → List ℕ → OutputView → OutputView → Type 0
-EndsPut status.Ok text before after = (after.faults ≡ before.faults) × Appends before.written after.written text
-EndsPut status.Outside text before after = OutputRose before after × AppendsFront before.written after.written text
-EndsPut status.Words text before after = ⊥
-EndsPut status.Refused text before after = ⊥
-EndsPut status.Memory text before after = Closes before after memory_line
 
 -- the end of counting over the bytes of a map and settings
 pub data EndsCountOver (code : Status) (map settings : List ℕ) (before after : OutputView) : Type 0 where

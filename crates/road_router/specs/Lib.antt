@@ -3,3 +3,4 @@ pub mod CheckEnding
 pub mod Ending
 pub mod InnerEnds
 pub mod MapReads
+pub mod TownEnding

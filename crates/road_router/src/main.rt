@@ -1,5 +1,6 @@
 //! Walnutkiln's program: reads a map and the settings of a vehicle, and counts what is in them, answers lines of
-//! standard input (targets under the last published metric, traffic files by publishing theirs), or serves over HTTP.
+//! standard input (targets under the last published metric, traffic files by publishing theirs), or serves over HTTP;
+//! or writes a generated town, or drills on it.
 //!
 //! `running::run` does all that the program does over what is handed in, and its contract is the program's
 //! theorem: `specs/Ending` says what stands in the output, by the status, and what each status comes from.
@@ -20,6 +21,9 @@ mod serve_tests;
 mod step_tests;
 #[cfg(test)]
 mod tests;
+#[cfg(test)]
+mod town_tests;
+mod towns;
 #[cfg(test)]
 mod traffic_tests;
 mod typed_words;

@@ -10,8 +10,10 @@ ghost use Rattle.map_loading.specs.Loading.{load_of};
 ghost use Rattle.road_router.specs.AskEnding.{EndsAsk};
 ghost use Rattle.road_router.specs.CheckEnding.{EndsCheck};
 ghost use Rattle.road_router.specs.Ending.{EndsRun};
-ghost use Rattle.road_router.specs.InnerEnds.{EndsCountOver, EndsFrom, EndsOver, EndsPut};
+ghost use Rattle.road_router.specs.InnerEnds.{EndsCountOver, EndsFrom, EndsOver};
+ghost use Rattle.road_router.specs.TownEnding.{EndsPut};
 
+use crate::towns::{drill, town};
 use command_words::{Words, WordsFault, read_words};
 use line_session::{Published, Stop, answer_lines};
 use map_loading::{LoadFault, Loaded, check_text, load};
@@ -25,7 +27,7 @@ use std::sync::Wait;
 use std::thread::Threads;
 
 /// The usage line.
-const USAGE: &[u8] =
+pub(crate) const USAGE: &[u8] =
     b"usage: road_router check OPL SETTINGS | ask OPL SETTINGS | serve OPL SETTINGS --listen A --control B [--workers N] [--segment-speed-file F] [--turn-penalty-file F] | town N | drill N\n";
 
 /// The line for an input of 2^63 bytes or more.
@@ -148,7 +150,8 @@ pub fn check<F: Files, O: Sink>(
 /// All that the program does: reads the words, does what they ask for over what is handed in, and answers
 /// how it ended. The words stand without the program's name.
 ///
-/// There are three commands, `check`, `ask` and `serve`. Doors and gate are touched by `serve` alone, which may wait.
+/// There are five commands, `check`, `ask`, `serve`, `town` and `drill`. Doors and gate are touched by `serve` alone,
+/// which may wait.
 pub fn run<
     F: Files,
     I: Source,
@@ -177,6 +180,8 @@ where
         Ok(Words::Check(map, settings)) => check(alloc, map, settings, files, output),
         Ok(Words::Ask(map, settings)) => ask(rt, alloc, map, settings, files, input, output),
         Ok(Words::Serve(what)) => serve(rt, alloc, &what, files, output, doors, gate),
+        Ok(Words::Town(n)) => town(alloc, n, output),
+        Ok(Words::Drill(n)) => drill(rt, alloc, n, output),
         Err(WordsFault::Unknown) => {
             close(output, USAGE);
             Status::Words

@@ -9,7 +9,7 @@ use std::net::{Net, TcpListener, TcpStream};
 use std::sync::Wait;
 use std::thread::Threads;
 
-const TRAFFIC: [(&str, &[u8]); 8] = [
+const TRAFFIC: [(&str, &[u8]); 9] = [
     ("slow.csv", b"1,2,20\n"),
     ("closed.csv", b"1,2,0\n"),
     ("nowhere.csv", b"1,9,20\n"),
@@ -17,6 +17,7 @@ const TRAFFIC: [(&str, &[u8]); 8] = [
     ("fast.csv", b"1,2,1000.001\n"),
     ("faulty.csv", b"1,2,20\n2,3,30\n3,2,abc\n"),
     ("left.csv", b"1,5,4,10\n"),
+    ("dear_turn.csv", b"1,2,3,10\n"),
     ("left_and_nowhere.csv", b"1,5,4,10\n1,5,9,10\n"),
 ];
 
@@ -64,7 +65,7 @@ fn begins(
 
 #[test]
 fn routes_follow_the_traffic(rt: HostRuntime) -> Result<(), AllocError> {
-    let cases: [(&str, &[u8], &str, &str); 9] = [
+    let cases: [(&str, &[u8], &str, &str); 10] = [
         (
             "TRAFFIC - -\n",
             LINE,
@@ -73,6 +74,12 @@ fn routes_follow_the_traffic(rt: HostRuntime) -> Result<(), AllocError> {
         ),
         (
             "TRAFFIC slow.csv -\n",
+            LINE,
+            PUBLISHED,
+            "{\"code\":\"Ok\",\"data_version\":\"1\",\"routes\":[{\"distance\":222.2,\"duration\":29.8,",
+        ),
+        (
+            "TRAFFIC - dear_turn.csv\n",
             LINE,
             PUBLISHED,
             "{\"code\":\"Ok\",\"data_version\":\"1\",\"routes\":[{\"distance\":222.2,\"duration\":29.8,",

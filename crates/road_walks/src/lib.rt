@@ -7,8 +7,8 @@
 //! is told by `road_places`.
 //!
 //! Each leg is one search over the cells of the network, and the unpacking of the walk that it finds, with work
-//! and memory that follow what these touch. A row of costs is one search over the turns, as far as the farthest
-//! of its destinations.
+//! and memory that follow what these touch. A row of costs is one search over the cells too, which goes on through all
+//! destinations; the rows are made side by side in threads.
 #![tactic(auto)]
 
 mod along_one;

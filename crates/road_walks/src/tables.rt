@@ -19,10 +19,12 @@ use road_base::Place;
 use road_places::Route;
 use search_graph::DurLen;
 use std::alloc::{AllocError, Global};
+use std::thread::Threads;
 use table_query::{Row, Starts, Targets, lesser, table};
 
 // What the least walks over the turns cost from each list of starts to each list of targets.
 fn over_turns(
+    rt: &(impl Threads + Sync),
     alloc: Global,
     under: &Under<'_>,
     sources: &[Starts<DurLen>],
@@ -34,7 +36,8 @@ fn over_turns(
 {
     let frame = under.frame();
     let base = under.base();
-    match table(alloc, frame.graph(), base.weights(), sources, targets) {
+    let cliques = under.cliques();
+    match table(rt, alloc, frame, base.weights(), cliques, sources, targets) {
         Ok(rows) => Ok(rows),
         Err(SearchFault::Memory) => Err(AllocError),
     }
@@ -42,6 +45,7 @@ fn over_turns(
 
 // For each source what the least walks of two or more vertices to the destinations cost.
 fn rows_by_turns(
+    rt: &(impl Threads + Sync),
     alloc: Global,
     under: &Under<'_>,
     sources: &[Place],
@@ -53,7 +57,7 @@ fn rows_by_turns(
 {
     let starts = starts_of(alloc, under, sources)?;
     let targets = targets_of(alloc, under, destinations)?;
-    let rows = over_turns(alloc, under, &starts, &targets)?;
+    let rows = over_turns(rt, alloc, under, &starts, &targets)?;
     Ok(rows)
 }
 
@@ -106,8 +110,10 @@ fn row_of(
 
 /// For each of the sources a row, and in it for each of the destinations the least that a permitted walk from the
 /// one to the other costs, or None exactly where no permitted walk leads there. What each costs grows with the
-/// number of the network's vertices at most. It answers an error only where memory runs out.
+/// number of the network's vertices at most. The rows are made side by side in threads. It answers an error only where
+/// memory runs out.
 pub fn cost_rows(
+    rt: &(impl Threads + Sync),
     alloc: Global,
     under: &Under<'_>,
     sources: &[Place],
@@ -118,7 +124,7 @@ pub fn cost_rows(
     ensures least { IfOk result (AreRowsOf under.now.road sources.now destinations.now) }
     ensures bound { IfOk result (AreWithin (most_units under.now.road.network)) }
 {
-    let by_turns = rows_by_turns(alloc, under, sources, destinations)?;
+    let by_turns = rows_by_turns(rt, alloc, under, sources, destinations)?;
     let _small = under.base();
     let mut rows = Vec::with_capacity(alloc, sources.len())?;
     for number in 0..sources.len() {

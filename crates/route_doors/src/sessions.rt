@@ -30,8 +30,14 @@ impl<'a, G: Gate> Querying<Metric> for Queries<'a, G> {
 
     ghost fits = { λ s metric. s.grid.now ≡ all_ends metric.road.network.segments };
 
-    fn answer<S: Reading<Metric>, C: Conn>(&self, id: u32, seat: &mut S, conn: &mut C) {
-        let _ended = serve_connection(self.alloc, id, seat, self.gate, self.grid, conn);
+    fn answer<S: Reading<Metric>, C: Conn, R: Threads + Sync>(
+        &self,
+        rt: &R,
+        id: u32,
+        seat: &mut S,
+        conn: &mut C,
+    ) {
+        let _ended = serve_connection(rt, self.alloc, id, seat, self.gate, self.grid, conn);
     }
 }
 

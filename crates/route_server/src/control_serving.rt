@@ -12,6 +12,7 @@ use crate::controlling::Controlling;
 use control_port::ControlHead;
 use http_head::busy_reply;
 use http_session::{Ended, Unread, refuse};
+use metric_publish::entry::Kindred;
 use metric_publish::meaning::Publishing;
 use road_io::{Conn, Failed, put_whole};
 use std::alloc::Global;
@@ -40,7 +41,7 @@ fn is_stop(request: ControlHead) -> bool
 }
 
 // The reply to a request, or None for want of memory.
-fn control_reply<V: Drop, R: Threads + Sync, P: Publishing<V, R>, A: Controlling<V>>(
+fn control_reply<V: Kindred, R: Threads + Sync, P: Publishing<V, R>, A: Controlling<V>>(
     rt: &R,
     alloc: Global,
     desk: &mut P,
@@ -65,7 +66,7 @@ fn control_reply<V: Drop, R: Threads + Sync, P: Publishing<V, R>, A: Controlling
 
 // Puts that reply; where there was no memory for it, `BUSY` or `BUSY_CLOSE` in its place. It answers whether a stop
 // was answered.
-fn put_control<V: Drop, R: Threads + Sync, P: Publishing<V, R>, A: Controlling<V>, C: Conn>(
+fn put_control<V: Kindred, R: Threads + Sync, P: Publishing<V, R>, A: Controlling<V>, C: Conn>(
     rt: &R,
     alloc: Global,
     desk: &mut P,
@@ -93,7 +94,7 @@ fn put_control<V: Drop, R: Threads + Sync, P: Publishing<V, R>, A: Controlling<V
 }
 
 // Takes control requests and puts replies until the connection ends.
-fn control_requests<V: Drop, R: Threads + Sync, P: Publishing<V, R>, A: Controlling<V>, C: Conn>(
+fn control_requests<V: Kindred, R: Threads + Sync, P: Publishing<V, R>, A: Controlling<V>, C: Conn>(
     rt: &R,
     alloc: Global,
     desk: &mut P,
@@ -145,7 +146,7 @@ fn control_requests<V: Drop, R: Threads + Sync, P: Publishing<V, R>, A: Controll
 /// - `SourceFault` where the input failed, `SinkFault` where the output did.
 ///
 /// It holds 8192 bytes of input, and one body and one reply at a time. May wait.
-pub fn control_with<V: Drop, R: Threads + Sync, P: Publishing<V, R>, A: Controlling<V>, C: Conn>(
+pub fn control_with<V: Kindred, R: Threads + Sync, P: Publishing<V, R>, A: Controlling<V>, C: Conn>(
     rt: &R,
     alloc: Global,
     desk: &mut P,

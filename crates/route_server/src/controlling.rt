@@ -8,12 +8,13 @@ ghost use Rattle.control_port.specs.declared.asking.ControlHead.{ControlHead};
 ghost use Rattle.route_server.specs.ControlRule.{IsCarriedOut};
 
 use control_port::ControlHead;
+use metric_publish::entry::Kindred;
 use metric_publish::meaning::Publishing;
 use std::alloc::{AllocError, Global};
 use std::thread::Threads;
 
 /// What carries out control requests on a desk.
-pub trait Controlling<V: Drop> {
+pub trait Controlling<V: Kindred> {
     /// Which status and body are said of a request with its body, and which list of publications stands then.
     ghost controls: { Self → List (Entry V) → ControlHead → List ℕ → ℕ → List ℕ → List (Entry V) → Type 0 };
 

@@ -17,19 +17,22 @@ use reply_core::answer;
 use road_io::{Conn, Gate};
 use snap_index::Grid;
 use std::alloc::{AllocError, Global};
+use std::thread::Threads;
 
-/// The answers of `reply_core`, by the grid of a road network.
+/// The answers of `reply_core`, by the grid of a road network, with threads of this handle.
 #[derive(Clone, Copy)]
-struct Replier<'a> {
+struct Replier<'a, R> {
+    rt: &'a R,
     grid: &'a Grid,
 }
 
-impl<'a> Answering<Metric> for Replier<'a> {
+impl<'a, R: Threads + Sync> Answering<Metric> for Replier<'a, R> {
     ghost use Rattle.std.specs.Prelude.{◌≡◌};
+    ghost use Rattle.std.specs.Thread.{IsSync};
     ghost use Rattle.snap_index.specs.Ends.{all_ends};
     ghost use Rattle.route_server.specs.RouteSessions.{IsSaid};
 
-    ghost fits = { λ replier metric. replier.grid.now ≡ all_ends metric.road.network.segments };
+    ghost fits = { λ replier metric. (replier.grid.now ≡ all_ends metric.road.network.segments) × IsSync R.row };
 
     ghost says = { IsSaid };
 
@@ -39,7 +42,7 @@ impl<'a> Answering<Metric> for Replier<'a> {
         held: &Held<Metric>,
         target: &[u8],
     ) -> Result<Said, AllocError> {
-        match answer(alloc, held, self.grid, target) {
+        match answer(self.rt, alloc, held, self.grid, target) {
             Ok(answer) => Ok(Said {
                 status: answer.status,
                 body: answer.text,
@@ -50,10 +53,12 @@ impl<'a> Answering<Metric> for Replier<'a> {
 }
 
 /// Serves a query connection to its end, as [`serve_with`] does, with the answers of `reply_core` under the
-/// metrics that the seat enters. The grid is that of the network which all these metrics share.
+/// metrics that the seat enters. The grid is that of the network which all these metrics share. The rows of a table are
+/// made in threads of the handle.
 ///
 /// [`serve_with`]: crate::serve_with
-pub fn serve_connection<S: Reading<Metric>, G: Gate, C: Conn>(
+pub fn serve_connection<R: Threads + Sync, S: Reading<Metric>, G: Gate, C: Conn>(
+    rt: &R,
     alloc: Global,
     id: u32,
     seat: &mut S,
@@ -66,5 +71,5 @@ pub fn serve_connection<S: Reading<Metric>, G: Gate, C: Conn>(
     ensures transcript { IsFreshConn (C.state conn.old) → IsRouteTranscript (S.seen seat.new) (C.state conn.new) result }
     ensures kin_stays { (metric : Customized) → S.kin seat.new metric → S.kin seat.old metric }
 {
-    serve_with(alloc, id, seat, gate, &Replier { grid }, conn)
+    serve_with(alloc, id, seat, gate, &Replier { rt, grid }, conn)
 }

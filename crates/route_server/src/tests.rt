@@ -83,7 +83,7 @@ fn served(
     let metric = Metric::make(rt, alloc, &roads, base)?;
     let mut board = LocalBoard::of(alloc, Arc::new(alloc, metric)?, 0)?;
     let mut conn = conn(alloc, input, piece, room)?;
-    let ended = serve_connection(alloc, 0, &mut board, &OpenGate, &grid, &mut conn);
+    let ended = serve_connection(rt, alloc, 0, &mut board, &OpenGate, &grid, &mut conn);
     Ok((ended, Vec::from_slice(alloc, conn.output())?))
 }
 

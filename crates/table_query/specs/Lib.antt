@@ -1,3 +1,4 @@
+pub mod Columns
 pub mod LeastCosts
 pub mod LesserLaws
 pub mod Tables

@@ -1,17 +1,17 @@
-//! Tables of least costs in a plain graph: from each of several lists of starts to each of several lists of targets.
+//! Tables of least costs by the cliques of a frame: from each of several lists of starts to each of several lists of
+//! targets.
 //!
 //! [`table`] has a row for each list of starts, in their order, and in each row a value for each list of targets,
 //! in theirs: the least that a walk from one of the starts to one of the targets costs, and `None` exactly where
 //! there is no such walk. What walks are and cost is told by `search_graph`: they have two or more vertices.
 //!
-//! Each row is one search of `step_search`, which goes on through all targets; the rows use one memory, and no
-//! walk is made. `specs/Tables` says what a table is, `specs/LeastCosts` what the least of costs is; `specs/LesserLaws`
-//! has what follows for the lesser of two.
+//! Each row is one search of `overlay_query`, which goes on through the targets of all columns, and no walk is made. The
+//! rows are made side by side in threads. `specs/Tables` says what a table is, `specs/LeastCosts` what the least of costs
+//! is; `specs/LesserLaws` has what follows for the lesser of two.
 #![tactic(auto)]
 
-mod cells;
 mod choosing;
-mod finish;
+mod columns;
 mod lists;
 mod tables;
 #[cfg(test)]

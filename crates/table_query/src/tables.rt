@@ -1,86 +1,108 @@
 //! Tables.
 
-ghost use Rattle.std.specs.Prelude.{◌<◌, List, IfOk, OnOk};
+ghost use Rattle.std.specs.Prelude.{◌≡◌, ◌<◌, List, length, IfOk, flat_map};
 ghost use Rattle.std.specs.List.{Contains};
+ghost use Rattle.cell_frame.specs.Cliqued.{AreExact};
 ghost use Rattle.search_graph.specs.declared.ends.Start.{Start};
 ghost use Rattle.search_graph.specs.declared.ends.Target.{Target};
-ghost use Rattle.search_graph.specs.Weighted.{IsWeighting};
-ghost use Rattle.step_search.specs.Paths.{AreStarts};
-ghost use Rattle.step_search.specs.UnderWay.{IsUnderWay};
-ghost use Rattle.step_search.specs.ArcSpace.{arc_space};
+ghost use Rattle.search_graph.specs.Weighted.{AreSmall};
+ghost use Rattle.table_query.specs.Columns.{AreReady};
 ghost use Rattle.table_query.specs.Tables.{IsRow, IsTable};
 
-use crate::cells::cell;
+use crate::columns::{all_targets, least_of};
 use crate::lists::{Row, Starts, Targets};
-use plain_search::{Along, SearchFault};
-use search_graph::{Cost, Graph, Start, Weights};
-use std::alloc::{AllocError, Global};
-use step_search::Search;
+use cell_frame::{Cliques, Frame};
+use overlay_query::least_costs;
+use plain_search::SearchFault;
+use rayon::prelude::*;
+use search_graph::{Cost, Start, Target, Weights};
+use std::alloc::Global;
+use std::thread::Threads;
 
-// The row of a search that has begun at its starts.
-fn row_from<C: Cost>(
+// The row from these starts. `all` are the targets of all columns.
+fn row<C: Cost>(
     alloc: Global,
-    along: &Along<C>,
-    search: &mut Search<C>,
+    frame: &Frame,
+    weights: &Weights<C>,
+    cliques: &Cliques<C>,
     starts: &[Start<C>],
     targets: &[Targets<C>],
-) -> Result<Row<C>, AllocError>
-    requires weights { IsWeighting C.ops along.now.graph.now along.now.weights.now }
-    requires starts { AreStarts C.ops (arc_space C.ops along.now.graph.now along.now.weights.now) starts.now }
-    requires targets { (list : List (Target C)) (t : Target C) → Contains targets.now list → Contains list t → (t.vertex < along.now.graph.now.vertices) × C.ops.units t.cost 1 }
-    requires under_way { IsUnderWay C.ops (arc_space C.ops along.now.graph.now along.now.weights.now) starts.now search.old }
-    ensures { IfOk result (IsRow C.ops along.now.graph.now along.now.weights.now targets.now starts.now) }
+    all: &[Target<C>],
+) -> Result<Row<C>, SearchFault>
+    requires ready { AreReady C.ops frame.now weights.now cliques.now targets.now all.now }
+    requires starts { (s : Start C) → Contains starts.now s → (s.vertex < frame.now.graph.vertices) × C.ops.units s.cost 1 }
+    ensures { IfOk result (IsRow C.ops frame.now.graph weights.now targets.now starts.now) }
 {
+    let costs = least_costs(alloc, frame, weights, cliques, starts, all)?;
     let mut values = Vec::with_capacity(alloc, targets.len())?;
+    let mut from = 0;
     for list in targets {
-        let value = cell(along, search, starts, list.as_slice())?;
-        values.push(value)?;
+        let to = from + list.as_slice().len();
+        values.push(least_of(&costs[from..to]))?;
+        from = to;
     }
     Ok(Row::of(values))
 }
 
-// The table along these arcs.
-fn rows_along<C: Cost>(
+// The rows, side by side, as many at once as there are processors. A single row is made by the calling thread.
+fn rows_in_threads<C: Cost + Send + Sync>(
+    rt: &(impl Threads + Sync),
     alloc: Global,
-    along: &Along<C>,
+    frame: &Frame,
+    weights: &Weights<C>,
+    cliques: &Cliques<C>,
     sources: &[Starts<C>],
     targets: &[Targets<C>],
-) -> Result<Vec<Row<C>>, AllocError>
-    requires weights { IsWeighting C.ops along.now.graph.now along.now.weights.now }
-    requires sources { (list : List (Start C)) (s : Start C) → Contains sources.now list → Contains list s → (s.vertex < along.now.graph.now.vertices) × C.ops.units s.cost 1 }
-    requires targets { (list : List (Target C)) (t : Target C) → Contains targets.now list → Contains list t → (t.vertex < along.now.graph.now.vertices) × C.ops.units t.cost 1 }
-    ensures { IfOk result (λ rows. IsTable C.ops along.now.graph.now along.now.weights.now sources.now targets.now rows.items) }
+    all: &[Target<C>],
+) -> Result<Vec<Row<C>>, SearchFault>
+    requires ready { AreReady C.ops frame.now weights.now cliques.now targets.now all.now }
+    requires sources { (list : List (Start C)) (s : Start C) → Contains sources.now list → Contains list s → (s.vertex < frame.now.graph.vertices) × C.ops.units s.cost 1 }
+    ensures { IfOk result (λ rows. IsTable C.ops frame.now.graph weights.now sources.now targets.now rows.items) }
 {
-    let nowhere = Starts::of(Vec::new(alloc));
-    let mut search = Search::begin(alloc, along, nowhere.as_slice())?;
-    let mut rows = Vec::with_capacity(alloc, sources.len())?;
-    for list in sources {
-        let starts = list.as_slice();
-        search.restart(along, starts)?;
-        let row = row_from(alloc, along, &mut search, starts, targets)?;
-        rows.push(row)?;
-    }
-    Ok(rows)
+    let done: Result<Vec<Row<C>>, SearchFault> = sources
+        .par_iter()
+        .with_min_len(1)
+        .map(
+            |starts: &Starts<C>| -> Result<Row<C>, SearchFault>
+                requires { AreReady C.ops frame.now weights.now cliques.now targets.now all.now × ((s : Start C) → Contains starts.now s → (s.vertex < frame.now.graph.vertices) × C.ops.units s.cost 1) }
+                ensures { IfOk result (IsRow C.ops frame.entry.now.graph weights.entry.now targets.entry.now starts.now) }
+            {
+                row(
+                    alloc,
+                    frame,
+                    weights,
+                    cliques,
+                    starts.as_slice(),
+                    targets,
+                    all,
+                )
+            },
+        )
+        .collect(rt, alloc)?;
+    done
 }
 
 /// For each list of starts a row, and in it for each list of targets the least that a walk from one of the starts
 /// to one of the targets costs, or `None` exactly where there is no walk. Where a walk begins and ends at one
-/// vertex, it leads round.
+/// vertex, it leads round. The rows are made side by side, and stand in the order of the lists of starts.
 ///
 /// It answers `Memory` where memory runs out.
-pub fn table<C: Cost>(
+pub fn table<C: Cost + Send + Sync>(
+    rt: &(impl Threads + Sync),
     alloc: Global,
-    graph: &Graph,
+    frame: &Frame,
     weights: &Weights<C>,
+    cliques: &Cliques<C>,
     sources: &[Starts<C>],
     targets: &[Targets<C>],
 ) -> Result<Vec<Row<C>>, SearchFault>
-    requires weights { IsWeighting C.ops graph.now weights.now }
-    requires sources { (list : List (Start C)) (s : Start C) → Contains sources.now list → Contains list s → (s.vertex < graph.now.vertices) × C.ops.units s.cost 1 }
-    requires targets { (list : List (Target C)) (t : Target C) → Contains targets.now list → Contains list t → (t.vertex < graph.now.vertices) × C.ops.units t.cost 1 }
-    ensures { IfOk result (λ rows. IsTable C.ops graph.now weights.now sources.now targets.now rows.items) }
+    requires weights { AreSmall C.ops frame.now.graph weights.now }
+    requires cliques { AreExact C.ops frame.now weights.now cliques.now (length frame.now.cells.levels) }
+    requires sources { (list : List (Start C)) (s : Start C) → Contains sources.now list → Contains list s → (s.vertex < frame.now.graph.vertices) × C.ops.units s.cost 1 }
+    requires targets { (list : List (Target C)) (t : Target C) → Contains targets.now list → Contains list t → (t.vertex < frame.now.graph.vertices) × C.ops.units t.cost 1 }
+    ensures { IfOk result (λ rows. IsTable C.ops frame.now.graph weights.now sources.now targets.now rows.items) }
 {
-    let along = Along { graph, weights };
-    let rows = rows_along(alloc, &along, sources, targets)?;
+    let all = all_targets(alloc, targets)?;
+    let rows = rows_in_threads(rt, alloc, frame, weights, cliques, sources, targets, &all)?;
     Ok(rows)
 }

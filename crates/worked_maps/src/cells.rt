@@ -70,8 +70,8 @@ fn level_told(alloc: Global, metric: &Metric, level: u32) -> Result<String, Allo
     Ok(text)
 }
 
-// All levels, the lowest first.
-fn told(alloc: Global, metric: &Metric) -> Result<String, AllocError> {
+/// All levels, the lowest first.
+pub fn told(alloc: Global, metric: &Metric) -> Result<String, AllocError> {
     let mut text = String::new(alloc);
     for below in 0..metric.frame().levels() {
         text.push_str(level_told(alloc, metric, below + 1)?.as_str())?;
@@ -80,8 +80,8 @@ fn told(alloc: Global, metric: &Metric) -> Result<String, AllocError> {
     Ok(text)
 }
 
-// The metric of a map by the settings alone, cut into cells by these limits.
-fn customized(
+/// The metric of a map by the settings alone, cut into cells by these limits.
+pub fn customized(
     rt: &(impl Threads + Sync),
     alloc: Global,
     objects: &[Object],

@@ -13,4 +13,6 @@ mod metrics;
 #[cfg(test)]
 mod networks;
 #[cfg(test)]
+mod remaking;
+#[cfg(test)]
 mod towns;

@@ -2,7 +2,7 @@
 use Rattle.std.proofs.Common.{◌≡◌, ◌∙◌, None, Some, ap, sym, option_and_then}
 use Rattle.command_words.specs.Commands.{command_in}
 use Rattle.command_words.proofs.Named.{named}
-use Rattle.command_words.proofs.Taken.{command_of-taken, fault-cause, made-has-workers}
+use Rattle.command_words.proofs.Taken.{command_of-taken, fault-cause, made-has-numbers}
 use Rattle.command_words.proofs.words.read_words.Goals as goal
 
 pub returns-in-Err-clause-unknown : goal.returns-in-Err-clause-unknown
@@ -19,6 +19,6 @@ unreachable-requires c =
     let bad : None ≡ Some found.0 = sym none ∙ found.1 in
     absurd (cc)
 
-pub returns-clause-workers : goal.returns-clause-workers
-returns-clause-workers c =
-    made-has-workers _ _ (command_of-taken _ c.in-Ok.ensures.fails ∙ ap (option_and_then (λ p. command_in p.0 p.1)) (sym c.in-Ok.ensures.matches) ∙ sym c.in-Some.ensures)
+pub returns-clause-numbers : goal.returns-clause-numbers
+returns-clause-numbers c =
+    made-has-numbers _ _ (command_of-taken _ c.in-Ok.ensures.fails ∙ ap (option_and_then (λ p. command_in p.0 p.1)) (sym c.in-Ok.ensures.matches) ∙ sym c.in-Some.ensures)

@@ -13,6 +13,6 @@ returns c =
     (c.get_str-2.ensures ∙ first_value-rows found (codes "settings"))
     (c.get_str-3.ensures ∙ first_value-rows found (codes "listen"))
     (c.get_str-4.ensures ∙ first_value-rows found (codes "control"))
-    c.workers_in.ensures
+    c.number_in.ensures
     (c.get_str-5.ensures ∙ first_value-rows found (codes "segment-speed-file"))
     (c.get_str-6.ensures ∙ first_value-rows found (codes "turn-penalty-file"))

@@ -8,7 +8,7 @@ pub loop-init : goal.loop-init
 loop-init g c = record { so_far = so_far_none _ _ c.requires.unended; seen = prefix_self _; kin = λ x k. k }
 
 pub answer_next-requires-clause-unended : goal.answer_next-requires-clause-unended
-answer_next-requires-clause-unended g c = c.loop.invariant.so_far.goes.ended
+answer_next-requires-clause-unended g c = λ κs lives. c.loop.invariant.so_far.goes.ended
 
 pub answer_next-requires-clause-finished : goal.answer_next-requires-clause-finished
 answer_next-requires-clause-finished g c =
@@ -16,7 +16,7 @@ answer_next-requires-clause-finished g c =
     omega (arith, passed.given, passed.finished, c.requires.finished)
 
 pub answer_next-requires-clause-fits : goal.answer_next-requires-clause-fits
-answer_next-requires-clause-fits g c = λ x kin. c.requires.fits x (c.loop.invariant.kin x kin)
+answer_next-requires-clause-fits g c = λ κs lives x kin. c.requires.fits x (c.loop.invariant.kin x kin)
 
 pub loop-preserved : goal.loop-preserved
 loop-preserved g c =

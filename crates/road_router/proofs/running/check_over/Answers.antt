@@ -3,7 +3,8 @@ use Rattle.std.proofs.Common.{ℕ, List, subst}
 use Rattle.road_io.specs.Putting.{Closes}
 use Rattle.map_loading.specs.Counting.{check_text}
 use Rattle.map_loading.specs.declared.counting.Counts.{Counts}
-use Rattle.road_router.specs.InnerEnds.{EndsPut, count_refused, counted}
+use Rattle.road_router.specs.InnerEnds.{count_refused, counted}
+use Rattle.road_router.specs.TownEnding.{EndsPut}
 use Rattle.road_router.proofs.running.check_over.Goals as goal
 
 pub returns-in-Ok : goal.returns-in-Ok

@@ -4,7 +4,7 @@ use Rattle.command_words.specs.Commands.{Command}
 use Rattle.road_io.specs.Outside.{outside}
 use Rattle.road_base.specs.declared.program_status.Status.TheVariants as status
 use Rattle.road_router.specs.Ending.{EndsOn}
-use Rattle.road_router.proofs.EndLaws.{ask_outside, check_outside}
+use Rattle.road_router.proofs.EndLaws.{ask_outside, check_outside, drill_outside, town_outside}
 use Rattle.road_router.proofs.running.run.Goals as goal
 
 pub returns-in-Ok-Check-clause-outside : goal.returns-in-Ok-Check-clause-outside
@@ -14,6 +14,14 @@ returns-in-Ok-Check-clause-outside g c =
 pub returns-in-Ok-Ask-clause-outside : goal.returns-in-Ok-Ask-clause-outside
 returns-in-Ok-Ask-clause-outside g c =
     ask_outside c.ask.result (outside (g.F.Files.view c.args.files.now) (g.I.Source.view c.args.input.now) (g.O.Sink.view c.args.output.now)) (outside (g.F.Files.view c.ask.new.files) (g.I.Source.view c.ask.new.input) (g.O.Sink.view c.ask.new.output)) c.in-Ok-Ask.map.now c.in-Ok-Ask.settings.now (g.N.Doors.view c.args.doors.now).faults c.ask.ensures.ends
+
+pub returns-in-Ok-Town-clause-outside : goal.returns-in-Ok-Town-clause-outside
+returns-in-Ok-Town-clause-outside g c =
+    town_outside c.town.result c.in-Ok-Town.n (g.F.Files.view c.args.files.now) (g.I.Source.view c.args.input.now) (g.O.Sink.view c.args.output.now) (g.O.Sink.view c.town.new.output) (g.N.Doors.view c.args.doors.now).faults c.town.ensures
+
+pub returns-in-Ok-Drill-clause-outside : goal.returns-in-Ok-Drill-clause-outside
+returns-in-Ok-Drill-clause-outside g c =
+    drill_outside c.drill.result c.in-Ok-Drill.n (g.F.Files.view c.args.files.now) (g.I.Source.view c.args.input.now) (g.O.Sink.view c.args.output.now) (g.O.Sink.view c.drill.new.output) (g.N.Doors.view c.args.doors.now).faults c.drill.ensures
 
 pub returns-in-Err-Unknown-clause-ends : goal.returns-in-Err-Unknown-clause-ends
 returns-in-Err-Unknown-clause-ends g c =

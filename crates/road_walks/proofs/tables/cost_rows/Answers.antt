@@ -13,19 +13,19 @@ use Rattle.road_walks.proofs.tables.cost_rows.Goals as goal
 
 -- there is a row for each of the sources
 pub index-requires : goal.index-requires
-index-requires c =
+index-requires g c =
     let as_many = all_zip-length (IsRowByTurns c.args.under.now.road c.args.destinations.now) c.args.sources.now c.in_ok-by_turns.by_turns.items c.in_ok-by_turns.ensures in
     omega (arith, as_many, c.loop-number-test.true)
 
 pub row_of-requires-clause-from : goal.row_of-requires-clause-from
-row_of-requires-clause-from c =
+row_of-requires-clause-from g c =
     let nowhere : Place = record { segment = 0; at = 0 } in
     let places = c.args.sources.now in
     let k = c.loop-number.number in
     c.requires.sources k (get_or places k nowhere) (slice_get-get_or places k nowhere c.loop-number-test.true)
 
 pub row_of-requires-clause-by_turns : goal.row_of-requires-clause-by_turns
-row_of-requires-clause-by_turns c =
+row_of-requires-clause-by_turns g c =
     let road = c.args.under.now.road in
     let nowhere : Place = record { segment = 0; at = 0 } in
     let places = c.args.sources.now in
@@ -40,7 +40,7 @@ row_of-requires-clause-by_turns c =
     (get_is rows k c.index.result.now (omega (arith, as_many, c.loop-number-test.true)) (sym c.index.ensures)))
 
 pub loop-number-preserved : goal.loop-number-preserved
-loop-number-preserved c =
+loop-number-preserved g c =
     let road = c.args.under.now.road in
     let nowhere : Place = record { segment = 0; at = 0 } in
     let places = c.args.sources.now in
@@ -51,7 +51,7 @@ loop-number-preserved c =
     (slice_get-get_or places k nowhere c.loop-number-test.true) c.in_ok-row.ensures)
 
 pub returns-clause-least : goal.returns-clause-least
-returns-clause-least c =
+returns-clause-least g c =
     let road = c.args.under.now.road in
     let sources = c.args.sources.now in
     let destinations = c.args.destinations.now in
@@ -60,4 +60,4 @@ returns-clause-least c =
     (subst (λ (front : List Place). AreRowsOf road front destinations rows) (take_all c.loop-number.number sources c.loop-number-test.false) c.loop-number.invariant)
 
 pub returns-clause-bound : goal.returns-clause-bound
-returns-clause-bound c = rows-within c.args.under.now.road c.base-small.ensures.small c.args.destinations.now c.requires.destinations c.args.sources.now c.of.result (returns-clause-least c)
+returns-clause-bound g c = rows-within c.args.under.now.road c.base-small.ensures.small c.args.destinations.now c.requires.destinations c.args.sources.now c.of.result (returns-clause-least g c)

@@ -4,4 +4,4 @@ use Rattle.road_walks.proofs.tables.cost_rows.Given as goal
 
 -- each of the sources so far has its row
 abbrev pub invariant-loop-number : goal.invariant-loop-number
-invariant-loop-number l = AreRowsOf l.under.road (take l.number l.sources) l.destinations l.rows.items
+invariant-loop-number g l = AreRowsOf l.under.road (take l.number l.sources) l.destinations l.rows.items

@@ -6,20 +6,20 @@ use Rattle.road_walks.proofs.tables.rows_by_turns.Goals as goal
 
 -- the starts and targets fit
 pub over_turns-requires-clause-sources : goal.over_turns-requires-clause-sources
-over_turns-requires-clause-sources c =
+over_turns-requires-clause-sources g c κs within =
     let under = c.args.under.now in
     starts-fit under.frame.graph.vertices under.road.weights c.args.sources.now c.deref.result.now
     (subst (AllZip (AreStartsFrom under.frame.graph.vertices under.road.weights) c.args.sources.now) (sym c.deref.ensures.value) c.in_ok-starts.ensures)
 
 pub over_turns-requires-clause-targets : goal.over_turns-requires-clause-targets
-over_turns-requires-clause-targets c =
+over_turns-requires-clause-targets g c κs within =
     let under = c.args.under.now in
     targets-fit under.frame.graph.vertices under.road.weights c.args.destinations.now c.deref-2.result.now
     (subst (AllZip (AreTargetsTo under.frame.graph.vertices under.road.weights) c.args.destinations.now) (sym c.deref-2.ensures.value) c.in_ok-targets.ensures)
 
 -- the cells between the lists are those of the places
 pub returns : goal.returns
-returns c =
+returns g c =
     let under = c.args.under.now in
     table-by_turns under.road under.frame.graph.vertices c.args.sources.now c.args.destinations.now c.deref.result.now c.deref-2.result.now c.in_ok-rows.rows.items
     (subst (AllZip (AreStartsFrom under.frame.graph.vertices under.road.weights) c.args.sources.now) (sym c.deref.ensures.value) c.in_ok-starts.ensures)

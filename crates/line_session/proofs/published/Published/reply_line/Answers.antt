@@ -8,7 +8,7 @@ use Rattle.line_session.specs.Publication.{Publication, newline, publication_of}
 use Rattle.line_session.proofs.published.Published.reply_line.Goals as goal
 
 pub returns : goal.returns
-returns c =
+returns g c =
     let held = c.in_ok-held.held in
     let answer = c.in_ok-answer.answer in
     let same : c.args.self.now ≡ publication_of (entry held.number (arc_value held.value)) =

@@ -1,0 +1,13 @@
+use Rattle.std.proofs.Common.{◌∙◌, ap}
+use Rattle.std.specs.Prelude.{option_and_then}
+use Rattle.std.specs.Str.Parse.{ExplainsUnsignedError, HasUnsignedDigitsIfOk, ParsesUnsigned}
+use Rattle.clap.specs.Words.{found_of}
+use Rattle.clap.proofs.WalkLemmas.{one_text-rows}
+use Rattle.command_words.specs.Commands.{number_of}
+use Rattle.command_words.proofs.Reading.{one-number}
+use Rattle.command_words.proofs.words.number_in.Goals as goal
+
+pub returns : goal.returns
+returns c =
+    one-number _ (λ bs r. ParsesUnsigned 32 10 bs r × ExplainsUnsignedError 10 bs r × HasUnsignedDigitsIfOk bs r) _ c.get_one.result (λ u x g. g.0) c.get_one.ensures.none c.get_one.ensures.value
+    ∙ ap (option_and_then number_of) (one_text-rows (found_of c.args.values.now) c.args.name.now)
