@@ -1,15 +1,16 @@
 #!/usr/bin/env python3
-"""Measures customization whole and of touched cells alone, by one thread and by several, on the maps that are named.
+"""Measures customization whole and of touched cells alone, on one processor and on several, on the maps that are named.
 
-    bench/customization.py PROGRAM SETTINGS [--threads 1,4] [--repeats N] [--rows 10,1000] [--beside COMMAND] OPL [OPL ..]
+    bench/customization.py PROGRAM SETTINGS [--processors 1,4] [--repeats N] [--rows 10,1000] [--beside COMMAND] OPL [OPL ..]
 
 A line of TRAFFIC makes the costs of the settings and its rows, and customizes the cells that hold a change from the metric
 before. So a file with a row for each segment of the map, both ways, and then none, customizes every cell each time; a file of
 a thousand drawn rows and then none only those that the rows touch. Both take the reading of rows and the making of the costs
 in; a line without a change, which is asked for between, takes that alone but for the rows.
 
-The number of threads is set by RAYON_NUM_THREADS. Told are, for each kind of line, the processor seconds of all threads and
-the time by the clock, the least of the repeats; the latter means something only where as many processors are free.
+The program makes a thread for each processor that it may run on, so it is held to as many as are named. Told are, for each
+kind of line, the processor seconds of all threads and the time by the clock, the least of the repeats; the latter means
+something only where as many processors are free.
 
 COMMAND, if it is given, is run as `COMMAND OPL SETTINGS` on each map in between, and its lines that tell of customization or
 of memory are shown.
@@ -23,6 +24,9 @@ import tempfile
 import time
 
 from traffic import Session
+
+
+PROCESSORS = sorted(os.sched_getaffinity(0))
 
 
 def lines_of(command, opl, settings):
@@ -48,12 +52,12 @@ def write_rows(name, pairs):
     return name
 
 
-def measure(program, opl, settings, threads, repeats, files):
-    os.environ["RAYON_NUM_THREADS"] = str(threads)
+def measure(program, opl, settings, processors, repeats, files):
+    os.sched_setaffinity(0, PROCESSORS[:processors])
     began = time.monotonic()
     session = Session([program, "ask", opl, settings])
     by_clock, (start, peak) = time.monotonic() - began, (session.seconds()[1], session.megabytes()[1])
-    print(f"  {threads} threads: start {start:.3f} s of processors, {by_clock:.3f} s by the clock, peak {peak:.1f} MB")
+    print(f"  {processors} processors: start {start:.3f} s of processors, {by_clock:.3f} s by the clock, peak {peak:.1f} MB")
     for kind, line in [("no change", "TRAFFIC - -"), *((kind, f"TRAFFIC {name} -") for kind, name in files)]:
         told = []
         for _ in range(repeats):
@@ -68,7 +72,7 @@ def measure(program, opl, settings, threads, repeats, files):
 
 def main():
     parser = argparse.ArgumentParser(usage=__doc__.split("\n\n")[1])
-    parser.add_argument("--threads", default="1,4")
+    parser.add_argument("--processors", default="1,4")
     parser.add_argument("--repeats", type=int, default=3)
     parser.add_argument("--rows", default="10,1000")
     parser.add_argument("--beside")
@@ -84,8 +88,8 @@ def main():
             for count in map(int, given.rows.split(",")):
                 drawn = random.Random(1).sample(pairs, min(count // 2, len(pairs)))
                 files.append((f"{count} rows", write_rows(f"{folder}/{count}.csv", drawn)))
-            for threads in given.threads.split(","):
-                measure(given.program, opl, given.settings, int(threads), given.repeats, files)
+            for processors in given.processors.split(","):
+                measure(given.program, opl, given.settings, int(processors), given.repeats, files)
                 for line in lines_of(given.beside, opl, given.settings) if given.beside else []:
                     print("    beside:", line)
 

@@ -11,7 +11,7 @@ node lies on several segments, of which the program takes one; else the two answ
 
 Told is the processor time of a whole reply, with reading, snapping and text, the start taken away, beside the baseline's time
 for its query with its walk, and for its rows of the table; the least of the repeats of each, with their ratio. Threads of the
-program are counted, so rows in threads cost what they cost in all; RAYON_NUM_THREADS=1 keeps to one.
+program are counted, so rows in threads cost what they cost in all; under `taskset -c 0` they share one processor.
 """
 import argparse
 import os
