@@ -1,13 +1,13 @@
--- What a page that is made leaves, and what a write to one page changes.
-use Rattle.std.proofs.Common.{◌≡◌, ◌≢◌, ℕ, zero, suc, ◌/◌, ◌%◌, ◌<◌, ◌≤◌, inl, inr, List, [], ◌∷◌, ◌++◌, length, get_or, refl, sym, ◌∙◌, ap, subst, true≢false, eq-eqb, arith, take, take_all, get_or-set_same, get_or-set_other}
-use Rattle.std.proofs.Math.ListN.{set, replicate}
+-- Where the slots of a vertex stand, and what a page that is made and a write to one page change.
+use Rattle.std.proofs.Common.{◌≡◌, ◌≢◌, ℕ, zero, suc, ◌+◌, ◌-◌, ◌*◌, ◌/◌, ◌%◌, ◌<◌, ◌≤◌, min, inl, inr, Some, List, [], ◌∷◌, ◌++◌, length, get_or, drop, refl, sym, ◌∙◌, ap, true≢false, eq-eqb, arith, take, take_all, get_or-set_same, get_or-set_other}
+use Rattle.std.proofs.Math.ListN.{set, replicate, length-set}
 use Rattle.std.proofs.lemmas.Bool.{cases_eq, cases_lt}
-use Rattle.std.specs.List.{Contains}
-use Rattle.std.proofs.lemmas.List.Elements.{Contains-push_cases}
-use Rattle.std.proofs.lemmas.List.{get_or_append_left, get_or-append_right, get_or_default}
+use Rattle.std.proofs.lemmas.Option.{same_Some}
+use Rattle.std.proofs.lemmas.List.{get_or_append_left, get_or-append_right, get_or_past, get_or-map, get_or-take, get_or-drop, length-map, length-take, length-drop}
+use Rattle.std.specs.List.{slice_get}
+use Rattle.list_lemmas.proofs.Gets.{get_append, get_pushed}
 use Rattle.step_search.specs.Labelled.{changed}
-use Rattle.list_lemmas.proofs.Gets.{Contains_get, Contains_push, get_pushed}
-use Rattle.step_search.specs.Paged.{page_of, slot_on, slot_at, AreTouched}
+use Rattle.step_search.specs.Paged.{unmade, place_of, page_of, page_in, pages_of, slot_on, slot_at, IsMade, AreTouched, IsArena, IsPaged, Keeps}
 use Rattle.step_search.specs.declared.labels.Slot.{Slot}
 use Rattle.step_search.specs.declared.labels.Slot.TheVariants.{Untouched}
 use Rattle.step_search.proofs.Falls.{same_place, changed-here, changed-there}
@@ -22,110 +22,152 @@ blank_slots zero r = refl
 blank_slots (suc n) zero = refl
 blank_slots (suc n) (suc r) = blank_slots n r
 
--- past its end a page is blank
-past_blank : {C : Type 0} (page : List (Slot C)) (r : ℕ) → length page ≤ r → slot_on page r ≡ Untouched
-past_blank [] r h = refl
-past_blank (s ∷ page) zero h = absurd (omega arith)
-past_blank (s ∷ page) (suc r) h = past_blank page r (omega arith)
-
--- a page with blank slots behind it has the slots that it had
-more_blank : {C : Type 0} (page : List (Slot C)) (k r : ℕ) → slot_on (page ++ replicate k Untouched) r ≡ slot_on page r
-more_blank page k r = elim (cases_lt r (length page)) [
-  | inl lt ↦ get_or_append_left page (replicate k Untouched) Untouched r lt
-  | inr le ↦ get_or-append_right page (replicate k Untouched) (length page) r Untouched refl le ∙ blank_slots k _ ∙ sym (past_blank page r le)
+-- slots with blank ones behind them are what they were
+more_blank : {C : Type 0} (slots : List (Slot C)) (k r : ℕ) → slot_on (slots ++ replicate k Untouched) r ≡ slot_on slots r
+more_blank slots k r = elim (cases_lt r (length slots)) [
+  | inl lt ↦ get_or_append_left slots (replicate k Untouched) Untouched r lt
+  | inr le ↦ get_or-append_right slots (replicate k Untouched) (length slots) r Untouched refl le ∙ blank_slots k _ ∙ sym (get_or_past slots r Untouched le)
 ]
 
-pub slot_on-made : {C : Type 0} (page new : List (Slot C)) (n k : ℕ) → length page ≤ n → new ≡ take n page ++ replicate k Untouched → (r : ℕ) → slot_on new r ≡ slot_on page r
-slot_on-made page new n k le is r = ap (λ (p : List (Slot _)). slot_on p r) (is ∙ ap (λ (p : List (Slot _)). p ++ replicate k Untouched) (take_all n page le)) ∙ more_blank page k r
+pub slot_on-resized : {C : Type 0} (slots new : List (Slot C)) (n k : ℕ) → length slots ≤ n → new ≡ take n slots ++ replicate k Untouched → (r : ℕ) → slot_on new r ≡ slot_on slots r
+slot_on-resized slots new n k le is r = ap (λ (p : List (Slot _)). slot_on p r) (is ∙ ap (λ (p : List (Slot _)). p ++ replicate k Untouched) (take_all n slots le)) ∙ more_blank slots k r
 
--- past the last page there are no slots
-past_last : {C : Type 0} (pages : List (List (Slot C))) (p : ℕ) → length pages ≤ p → page_of pages p ≡ []
-past_last [] p h = refl
-past_last (page ∷ pages) zero h = absurd (omega arith)
-past_last (page ∷ pages) (suc p) h = past_last pages p (omega arith)
+-- where the slot of v stands
+abbrev pub index : List ℕ → ℕ → ℕ
+index table v = place_of table (v / 64) * 64 + v % 64
 
--- so a page with slots is one of them
-page_in : {C : Type 0} (pages : List (List (Slot C))) (p r : ℕ) → r < length (page_of pages p) → p < length pages
-page_in pages p r lt = elim (cases_lt p (length pages)) [
-  | inl h ↦ h
-  | inr le ↦ let none : length (page_of pages p) ≡ 0 = ap length (past_last pages p le) in absurd (omega arith)
-]
+-- as it is computed from the table that was borrowed
+pub index_is : (table borrowed : List ℕ) (i v : ℕ) → borrowed ≡ table → i ≡ index borrowed v → i ≡ index table v
+index_is table borrowed i v e is = is ∙ ap (λ (t : List ℕ). index t v) e
 
--- one slot is written on the page of v
-module _ {C : Type 0} (pages : List (List (Slot C))) (v : ℕ) (slot : Slot C) (made : v % 64 < length (page_of pages (v / 64))) where
-  written_at : (u : ℕ) → slot_at (set pages (v / 64) (set (page_of pages (v / 64)) (v % 64) slot)) u ≡ changed (slot_at pages) v slot u
-  written_at u =
-      let at : get_or (set pages (v / 64) (set (page_of pages (v / 64)) (v % 64) slot)) (v / 64) [] ≡ set (page_of pages (v / 64)) (v % 64) slot = get_or-set_same pages (v / 64) (set (page_of pages (v / 64)) (v % 64) slot) [] (page_in pages (v / 64) (v % 64) made) in
-      elim (same_place v u) [
-        | inl e ↦ ap (λ (x : ℕ). slot_at (set pages (v / 64) (set (page_of pages (v / 64)) (v % 64) slot)) x) (sym e) ∙ ap (λ (p : List (Slot C)). slot_on p (v % 64)) at ∙ get_or-set_same (page_of pages (v / 64)) (v % 64) slot Untouched made ∙ sym (changed-here (slot_at pages) v slot u e)
-        | inr ne ↦ elim (cases_eq (u / 64) (v / 64)) [
-          | inl e ↦
-              let other : u % 64 ≢ v % 64 = λ q. let same : v ≡ u = omega arith in true≢false (sym (eq-eqb v u same) ∙ ne) in
-              ap (λ (x : ℕ). slot_on (page_of (set pages (v / 64) (set (page_of pages (v / 64)) (v % 64) slot)) x) (u % 64)) e ∙ ap (λ (p : List (Slot C)). slot_on p (u % 64)) at ∙ get_or-set_other (page_of pages (v / 64)) (v % 64) (u % 64) slot Untouched other
-              ∙ sym (ap (λ (x : ℕ). slot_on (page_of pages x) (u % 64)) e) ∙ sym (changed-there (slot_at pages) v slot u ne)
-          | inr far ↦ ap (λ (p : List (Slot C)). slot_on p (u % 64)) (get_or-set_other pages (v / 64) (u / 64) (set (page_of pages (v / 64)) (v % 64) slot) [] far) ∙ sym (changed-there (slot_at pages) v slot u ne)
-        ]
+-- the slots stand before the place of a page that isn't made
+pub IsArena-fits : {C : Type 0} (arena : List (Slot C)) (touched : List ℕ) → IsArena arena touched → length arena ≤ unmade * 64
+IsArena-fits arena touched h = let a = h.long in let b = h.few in omega arith
+
+module _ {C : Type 0} (table : List ℕ) (arena : List (Slot C)) (fits : length arena ≤ unmade * 64) where
+  -- a page past the table's end
+  past_table : (p : ℕ) → length table ≤ p → page_of (pages_of table arena) p ≡ []
+  past_table p le = get_or_past (pages_of table arena) p [] (let e : length (pages_of table arena) ≡ length table = length-map table (page_in arena) in omega arith)
+
+  -- the slot of v is where the table says
+  pub slot_at-index : (v : ℕ) → slot_at (pages_of table arena) v ≡ get_or arena (index table v) Untouched
+  slot_at-index v =
+      let small : v % 64 < 64 = omega arith in
+      elim (cases_lt (v / 64) (length table)) [
+        | inl lt ↦ ap (λ (page : List (Slot C)). slot_on page (v % 64)) (get_or-map (page_in arena) table (v / 64) unmade [] lt) ∙ get_or-take 64 (drop (place_of table (v / 64) * 64) arena) (v % 64) Untouched small ∙ get_or-drop (place_of table (v / 64) * 64) arena (v % 64) Untouched
+        | inr le ↦
+            let past : length arena ≤ unmade * 64 + v % 64 = omega arith in
+            ap (λ (page : List (Slot C)). slot_on page (v % 64)) (past_table (v / 64) le)
+            ∙ sym (ap (λ (k : ℕ). get_or arena (k * 64 + v % 64) Untouched) (get_or_past table (v / 64) unmade le) ∙ get_or_past arena (unmade * 64 + v % 64) Untouched past)
       ]
 
-  -- the same of the page as it is read in its place
-  pub slot_at-written : (page new : List (Slot C)) → page ≡ get_or pages (v / 64) page → new ≡ set page (v % 64) slot → slot_at (set pages (v / 64) new) ≡ changed (slot_at pages) v slot
-  slot_at-written page new is e =
-      let there : page ≡ page_of pages (v / 64) = is ∙ sym (get_or_default pages (v / 64) [] page (page_in pages (v / 64) (v % 64) made)) in
-      ap (λ (p : List (Slot C)). slot_at (set pages (v / 64) p)) (e ∙ ap (λ (p : List (Slot C)). set p (v % 64) slot) there) ∙ (λ i u. written_at u i)
+  -- how many slots a page has
+  page_length : (k : ℕ) → length (page_in arena k) ≡ min 64 (length arena - k * 64)
+  page_length k = length-take 64 (drop (k * 64) arena) ∙ ap (min 64) (length-drop (k * 64) arena)
 
--- a page with no slots still has none, where a slot of another page is written
-pub empty_stays : {C : Type 0} (pages : List (List (Slot C))) (q r : ℕ) (new : List (Slot C)) → r < length (page_of pages q) → (p : ℕ) → page_of pages p ≡ [] → page_of (set pages q new) p ≡ []
-empty_stays pages q r new made p none = elim (cases_eq p q) [
-  | inl e ↦ let zero_long : length (page_of pages q) ≡ 0 = ap (λ (x : ℕ). length (page_of pages x)) (sym e) ∙ ap length none in absurd (omega arith)
-  | inr ne ↦ get_or-set_other pages q p new [] ne ∙ none
+  -- its page is made where it stands among the slots
+  pub IsMade-index : (v : ℕ) → index table v < length arena → IsMade (pages_of table arena) v
+  IsMade-index v lt = elim (cases_lt (v / 64) (length table)) [
+    | inl in_table ↦
+        let e : length (page_of (pages_of table arena) (v / 64)) ≡ min 64 (length arena - place_of table (v / 64) * 64) = ap length (get_or-map (page_in arena) table (v / 64) unmade [] in_table) ∙ page_length (place_of table (v / 64)) in
+        omega arith
+    | inr le ↦ let e : place_of table (v / 64) ≡ unmade = get_or_past table (v / 64) unmade le in absurd (omega arith)
+  ]
+
+  pub index-IsMade : (v : ℕ) → IsMade (pages_of table arena) v → index table v < length arena
+  index-IsMade v made = elim (cases_lt (v / 64) (length table)) [
+    | inl in_table ↦
+        let e : length (page_of (pages_of table arena) (v / 64)) ≡ min 64 (length arena - place_of table (v / 64) * 64) = ap length (get_or-map (page_in arena) table (v / 64) unmade [] in_table) ∙ page_length (place_of table (v / 64)) in
+        omega arith
+    | inr le ↦ let e : length (page_of (pages_of table arena) (v / 64)) ≡ 0 = ap length (past_table (v / 64) le) in absurd (omega arith)
+  ]
+
+-- no two pages that are made have one place
+apart : (table touched : List ℕ) → AreTouched table touched → (p q : ℕ) → place_of table p ≡ place_of table q → place_of table p < unmade → p ≡ q
+apart table touched h p q e lt = elim (h.each p) [
+  | inl none ↦ absurd (omega arith)
+  | inr a ↦ elim (h.each q) [
+    | inl none ↦ absurd (omega arith)
+    | inr b ↦ same_Some p q (sym a ∙ ap (slice_get touched) e ∙ b)
+  ]
 ]
 
--- so pages with slots stay among the touched ones
-pub AreTouched-written : {C : Type 0} (old new : List (List (Slot C))) (touched : List ℕ) → ((p : ℕ) → page_of old p ≡ [] → page_of new p ≡ []) → AreTouched old touched → AreTouched new touched
-AreTouched-written old new touched keeps h = record { each = λ p. elim (h.each p) [ inl e ↦ inl (keeps p e) | inr c ↦ inr c ] }
+-- one slot is written
+module _ {C : Type 0} (table : List ℕ) (arena : List (Slot C)) (touched : List ℕ) (h : IsPaged table arena touched) (v : ℕ) (slot : Slot C) (in_arena : index table v < length arena) where
+  other_index : (u : ℕ) → v ≢ u → index table u ≢ index table v
+  other_index u ne e =
+      let fits : length arena ≤ unmade * 64 = IsArena-fits arena touched h.slots in
+      let same : place_of table (v / 64) ≡ place_of table (u / 64) = omega arith in
+      let lt : place_of table (v / 64) < unmade = omega arith in
+      let page : v / 64 ≡ u / 64 = apart table touched h.places (v / 64) (u / 64) same lt in
+      let here : v ≡ u = omega arith in
+      ne here
 
-pub AreTouched-same : {C : Type 0} (old new : List (List (Slot C))) (touched : List ℕ) → ((p : ℕ) → page_of new p ≡ page_of old p) → AreTouched old touched → AreTouched new touched
-AreTouched-same old new touched same h = AreTouched-written old new touched (λ p e. same p ∙ e) h
+  written_index : (u : ℕ) → get_or (set arena (index table v) slot) (index table u) Untouched ≡ changed (λ w. get_or arena (index table w) Untouched) v slot u
+  written_index u = elim (same_place v u) [
+    | inl e ↦ ap (λ (x : ℕ). get_or (set arena (index table v) slot) (index table x) Untouched) (sym e) ∙ get_or-set_same arena (index table v) slot Untouched in_arena ∙ sym (changed-here (λ w. get_or arena (index table w) Untouched) v slot u e)
+    | inr ne ↦ get_or-set_other arena (index table v) (index table u) slot Untouched (other_index u (λ e. true≢false (sym (eq-eqb v u e) ∙ ne))) ∙ sym (changed-there (λ w. get_or arena (index table w) Untouched) v slot u ne)
+  ]
 
--- one page more is touched
-pub AreTouched-more : {C : Type 0} (pages : List (List (Slot C))) (touched : List ℕ) (q : ℕ) → AreTouched pages touched → AreTouched pages (touched ++ q ∷ [])
-AreTouched-more pages touched q h = record { each = λ p. elim (h.each p) [ inl e ↦ inl e | inr c ↦ inr (Contains_push touched q p c) ] }
+  pub slot_at-written : slot_at (pages_of table (set arena (index table v) slot)) ≡ changed (slot_at (pages_of table arena)) v slot
+  slot_at-written =
+      let fits : length arena ≤ unmade * 64 = IsArena-fits arena touched h.slots in
+      let fits_new : length (set arena (index table v) slot) ≤ unmade * 64 = omega (arith, length-set arena (index table v) slot) in
+      let old : slot_at (pages_of table arena) ≡ (λ w. get_or arena (index table w) Untouched) = λ i u. slot_at-index table arena fits u i in
+      (λ i u. (slot_at-index table (set arena (index table v) slot) fits_new u ∙ written_index u) i) ∙ ap (λ (f : ℕ → Slot C). changed f v slot) (sym old)
 
--- and made
-pub AreTouched-made : {C : Type 0} (old new : List (List (Slot C))) (touched : List ℕ) (q : ℕ) → ((p : ℕ) → (p ≡ q → ⊥) → page_of new p ≡ page_of old p) → AreTouched old (touched ++ q ∷ []) → AreTouched new (touched ++ q ∷ [])
-AreTouched-made old new touched q others h = record {
+-- where the slots behind are blank and places stay, all slots are what they were
+module _ {C : Type 0} (old new : List ℕ) (arena more : List (Slot C)) (fits : length arena ≤ unmade * 64) (fits_more : length more ≤ unmade * 64) (same : (i : ℕ) → get_or more i Untouched ≡ get_or arena i Untouched) where
+  stays_at : (u : ℕ) → get_or more (index new u) Untouched ≡ get_or arena (index old u) Untouched → slot_at (pages_of new more) u ≡ slot_at (pages_of old arena) u
+  stays_at u e = slot_at-index new more fits_more u ∙ e ∙ sym (slot_at-index old arena fits u)
+
+  place_stays : (u : ℕ) → place_of new (u / 64) ≡ place_of old (u / 64) → slot_at (pages_of new more) u ≡ slot_at (pages_of old arena) u
+  place_stays u e = stays_at u (same (index new u) ∙ ap (λ (k : ℕ). get_or arena (k * 64 + u % 64) Untouched) e)
+
+  pub slot_at-kept : ((p : ℕ) → place_of new p ≡ place_of old p) → slot_at (pages_of new more) ≡ slot_at (pages_of old arena)
+  slot_at-kept places = λ i u. place_stays u (places (u / 64)) i
+
+  -- so they are where a page that had no slots gets a place behind them
+  pub slot_at-made : (page : ℕ) → length arena ≤ place_of old page * 64 → length arena ≤ place_of new page * 64 → ((p : ℕ) → p ≢ page → place_of new p ≡ place_of old p) → slot_at (pages_of new more) ≡ slot_at (pages_of old arena)
+  slot_at-made page before after others =
+      let at : (u : ℕ) → slot_at (pages_of new more) u ≡ slot_at (pages_of old arena) u =
+      λ u. elim (cases_eq (u / 64) page) [
+        | inl e ↦
+            let a : place_of old (u / 64) ≡ place_of old page = ap (place_of old) e in
+            let b : place_of new (u / 64) ≡ place_of new page = ap (place_of new) e in
+            let past_old : length arena ≤ index old u = omega arith in
+            let past_new : length arena ≤ index new u = omega arith in
+            stays_at u (same (index new u) ∙ get_or_past arena (index new u) Untouched past_new ∙ sym (get_or_past arena (index old u) Untouched past_old))
+        | inr ne ↦ place_stays u (others (u / 64) ne)
+      ] in
+      λ i u. at u i
+
+-- with no slots all are blank
+pub blank_at : {C : Type 0} (table : List ℕ) (arena : List (Slot C)) → arena ≡ [] → (v : ℕ) → slot_at (pages_of table arena) v ≡ Untouched
+blank_at table arena e v =
+    let none : length arena ≡ 0 = ap length e in
+    let fits : length arena ≤ unmade * 64 = omega arith in
+    let past : length arena ≤ index table v = omega arith in
+    slot_at-index table arena fits v ∙ get_or_past arena (index table v) Untouched past
+
+-- a page that is touched behind the others leaves them where they were
+Keeps-push : (touched new : List ℕ) (q : ℕ) → new ≡ touched ++ q ∷ [] → Keeps touched new
+Keeps-push touched new q e = record { each = λ k p h. ap (λ (xs : List ℕ). slice_get xs k) e ∙ get_append touched (q ∷ []) k p h }
+
+-- the touched pages stay where they were
+pub AreTouched-kept : (old new touched more : List ℕ) → Keeps touched more → ((p : ℕ) → place_of new p ≡ place_of old p) → AreTouched old touched → AreTouched new more
+AreTouched-kept old new touched more keeps same h = record {
+  each = λ p. elim (h.each p) [ inl e ↦ inl (same p ∙ e) | inr c ↦ inr (ap (slice_get more) (same p) ∙ keeps.each (place_of old p) p c) ];
+}
+
+-- and one more has its place behind them
+pub AreTouched-made : (old new touched more : List ℕ) (q : ℕ) → more ≡ touched ++ q ∷ [] → place_of new q ≡ length touched → ((p : ℕ) → p ≢ q → place_of new p ≡ place_of old p) → AreTouched old touched → AreTouched new more
+AreTouched-made old new touched more q e here others h = record {
   each = λ p. elim (cases_eq p q) [
-    | inl e ↦ inr (subst (λ (x : ℕ). Contains (touched ++ q ∷ []) x) (sym e) (Contains_get (touched ++ q ∷ []) (length touched) q (get_pushed touched q)))
-    | inr ne ↦ elim (h.each p) [ inl e ↦ inl (others p ne ∙ e) | inr c ↦ inr c ]
+    | inl same ↦ inr (ap (λ (xs : List ℕ). slice_get xs (place_of new p)) e ∙ ap (slice_get (touched ++ q ∷ [])) (ap (place_of new) same ∙ here) ∙ get_pushed touched q ∙ ap Some (sym same))
+    | inr ne ↦ elim (h.each p) [
+      | inl none ↦ inl (others p ne ∙ none)
+      | inr c ↦ inr (ap (slice_get more) (others p ne) ∙ (Keeps-push touched more q e).each (place_of old p) p c)
+    ]
   ];
 }
-
--- the last of the touched pages has its slots taken away
-pub AreTouched-cleared : {C : Type 0} (old new : List (List (Slot C))) (before after : List ℕ) (q : ℕ) → before ≡ after ++ q ∷ [] → page_of new q ≡ [] → ((p : ℕ) → page_of old p ≡ [] → page_of new p ≡ []) → AreTouched old before → AreTouched new after
-AreTouched-cleared old new before after q e here keeps h = record {
-  each = λ p. elim (h.each p) [
-    | inl none ↦ inl (keeps p none)
-    | inr c ↦ elim (Contains-push_cases after q p (subst (λ (xs : List ℕ). Contains xs p) e c)) [ inl d ↦ inr d | inr same ↦ inl (subst (λ (x : ℕ). page_of new x ≡ []) same here) ]
-  ];
-}
-
--- with none touched no page has slots
-pub none_touched : {C : Type 0} (pages : List (List (Slot C))) (touched : List ℕ) → touched ≡ [] → AreTouched pages touched → (p : ℕ) → page_of pages p ≡ []
-none_touched pages touched e h p = elim (h.each p) [
-  | inl none ↦ none
-  | inr c ↦ let d : Contains [] p = subst (λ (xs : List ℕ). Contains xs p) e c in let lt : d.0 < 0 = d.1 in absurd (omega arith)
-]
-
--- and no vertex a slot
-pub blank_at : {C : Type 0} (pages : List (List (Slot C))) → ((p : ℕ) → page_of pages p ≡ []) → (v : ℕ) → slot_at pages v ≡ Untouched
-blank_at pages none v = ap (λ (p : List (Slot _)). slot_on p (v % 64)) (none (v / 64))
-
--- where a page is made, all slots are as they were
-pub same_slots : {C : Type 0} (old new : List (List (Slot C))) (q : ℕ) → ((r : ℕ) → slot_on (page_of new q) r ≡ slot_on (page_of old q) r) → ((p : ℕ) → (p ≡ q → ⊥) → page_of new p ≡ page_of old p) → slot_at new ≡ slot_at old
-same_slots {C} old new q here others =
-    let at : (v : ℕ) → slot_at new v ≡ slot_at old v =
-    λ v. elim (cases_eq (v / 64) q) [
-      | inl e ↦ ap (λ (p : ℕ). slot_on (page_of new p) (v % 64)) e ∙ here (v % 64) ∙ ap (λ (p : ℕ). slot_on (page_of old p) (v % 64)) (sym e)
-      | inr ne ↦ ap (λ (p : List (Slot C)). slot_on p (v % 64)) (others (v / 64) ne)
-    ] in
-    λ i v. at v i

@@ -4,7 +4,7 @@
 ghost use Rattle.std.specs.Prelude.{◌≡◌, ℕ, [], true, false, Some, None, IsSome, OnOk};
 ghost use Rattle.step_search.specs.Labelled.{label_of, settled_of, changed};
 
-use crate::pages::{Page, clear_pages, ensure_page, read, write};
+use crate::pages::Pages;
 use std::alloc::{AllocError, Global};
 use std::marker::Model;
 
@@ -27,10 +27,7 @@ pub enum Slot<C> {
 /// The labels by vertex.
 #[derive(Drop)]
 pub struct Labels<C> {
-    alloc: Global,
-    pages: Vec<Page<C>>,
-    // the numbers of the pages that are made; a number comes before its page
-    touched: Vec<u32>,
+    pages: Pages<C>,
 }
 
 impl<C> Model for Labels<C> {
@@ -39,11 +36,7 @@ impl<C> Model for Labels<C> {
 
     ghost Value = { List (List (Slot C)) };
 
-    ghost use Rattle.step_search.specs.Paged.{AreTouched};
-
-    ghost view = { λ s. s.pages.items };
-
-    ghost invariant = { λ s. AreTouched s.pages.items s.touched.items };
+    ghost view = { λ s. s.pages };
 }
 
 impl<C: Copy> Labels<C> {
@@ -52,9 +45,7 @@ impl<C: Copy> Labels<C> {
         ensures { result ≡ [] }
     {
         Labels {
-            alloc,
-            pages: Vec::new(alloc),
-            touched: Vec::new(alloc),
+            pages: Pages::new(alloc),
         }
     }
 
@@ -63,7 +54,7 @@ impl<C: Copy> Labels<C> {
         ensures label { (v : ℕ) → label_of self.new v ≡ None }
         ensures settled { (v : ℕ) → settled_of self.new v ≡ false }
     {
-        clear_pages(&mut self.pages, &mut self.touched);
+        self.pages.clear();
     }
 
     /// The label of `v`, if it has one.
@@ -71,7 +62,7 @@ impl<C: Copy> Labels<C> {
     pub fn label(&self, v: u32) -> Option<Label<C>>
         ensures { result ≡ label_of self.now v }
     {
-        match read(self.pages.as_slice(), v) {
+        match self.pages.read(v) {
             Slot::Untouched => None,
             Slot::Labelled(label) => Some(label),
             Slot::Settled(label) => Some(label),
@@ -82,7 +73,7 @@ impl<C: Copy> Labels<C> {
     pub fn is_settled(&self, v: u32) -> bool
         ensures { result ≡ settled_of self.now v }
     {
-        match read(self.pages.as_slice(), v) {
+        match self.pages.read(v) {
             Slot::Untouched => false,
             Slot::Labelled(_) => false,
             Slot::Settled(_) => true,
@@ -95,8 +86,8 @@ impl<C: Copy> Labels<C> {
         ensures label { OnOk result (label_of self.new ≡ changed (label_of self.old) v (Some label)) }
         ensures settled { OnOk result (settled_of self.new ≡ settled_of self.old) }
     {
-        ensure_page(self.alloc, &mut self.pages, &mut self.touched, v)?;
-        write(&mut self.pages, v, Slot::Labelled(label));
+        self.pages.ensure(v)?;
+        self.pages.write(v, Slot::Labelled(label));
         Ok(())
     }
 
@@ -106,8 +97,8 @@ impl<C: Copy> Labels<C> {
         ensures label { label_of self.new ≡ label_of self.old }
         ensures settled { settled_of self.new ≡ changed (settled_of self.old) v true }
     {
-        if let Slot::Labelled(label) = read(self.pages.as_slice(), v) {
-            write(&mut self.pages, v, Slot::Settled(label));
+        if let Slot::Labelled(label) = self.pages.read(v) {
+            self.pages.write(v, Slot::Settled(label));
         }
     }
 }

@@ -1,9 +1,10 @@
-//! Slots by vertex on pages: each page has the slots of 64 neighbouring vertices, or none until it is made.
+//! Slots by vertex on pages: each page has the slots of 64 neighbouring vertices, or none until it is made. The
+//! pages that are made stand one behind the other in one list, and a table says where each of them stands.
 
-ghost use Rattle.std.specs.Prelude.{◌≡◌, ℕ, ◌/◌, ◌%◌, ◌<◌, ◌≤◌, ◌↔◌, [], length, slice_index_or, set, IsTrue, OnOk};
-ghost use Rattle.std.specs.List.{Contains};
+ghost use Rattle.std.specs.Prelude.{◌≡◌, ◌≢◌, ℕ, ◌+◌, ◌*◌, ◌/◌, ◌%◌, ◌<◌, [], ◌∷◌, ◌++◌, length, slice_index_or, OnOk, OnErr, IfOk};
 ghost use Rattle.step_search.specs.Labelled.{changed};
-ghost use Rattle.step_search.specs.Paged.{page_of, slot_on, slot_at, AreTouched};
+ghost use Rattle.step_search.specs.Paged.{unmade, place_of, slot_at, IsMade, AreTouched, IsArena, Keeps};
+ghost use Rattle.step_search.specs.declared.labels.Slot.TheVariants.{Untouched};
 
 use crate::labels::Slot;
 use std::alloc::{AllocError, Global};
@@ -12,159 +13,152 @@ use std::marker::Model;
 /// How many vertices a page is for.
 const PAGE: usize = 64;
 
-/// The slots of a page that is made, or no slots.
+/// In place of the place of a page that isn't made.
+const UNMADE: u32 = u32::MAX;
+
+/// The slots by vertex.
 #[derive(Drop)]
-pub struct Page<C> {
-    slots: Vec<Slot<C>>,
+pub struct Pages<C> {
+    // the place of each page among those that are made, by the page's number
+    table: Vec<u32>,
+    // the slots of the pages that are made, by their places
+    arena: Vec<Slot<C>>,
+    // the numbers of the pages that are made, by their places; a number comes before its page
+    touched: Vec<u32>,
 }
 
-impl<C> Model for Page<C> {
+impl<C> Model for Pages<C> {
     ghost use Rattle.std.specs.Prelude.{List};
     ghost use Rattle.step_search.specs.declared.labels.Slot.{Slot};
+    ghost use Rattle.step_search.specs.Paged.{IsPaged, pages_of};
 
-    ghost Value = { List (Slot C) };
+    ghost Value = { List (List (Slot C)) };
 
-    ghost view = { λ p. p.slots.items };
+    ghost view = { λ s. pages_of s.table.items s.arena.items };
+
+    ghost invariant = { λ s. IsPaged s.table.items s.arena.items s.touched.items };
 }
 
-impl<C: Copy> Page<C> {
-    // A page that isn't made.
-    fn new(alloc: Global) -> Page<C>
+impl<C: Copy> Pages<C> {
+    /// No page is made.
+    pub fn new(alloc: Global) -> Pages<C>
         ensures { result ≡ [] }
     {
-        Page {
-            slots: Vec::new(alloc),
+        Pages {
+            table: Vec::new(alloc),
+            arena: Vec::new(alloc),
+            touched: Vec::new(alloc),
         }
     }
 
-    // The slot at `place`.
+    /// The slot of `v`.
     #[inline(always)]
-    fn read(&self, place: usize) -> Slot<C>
-        ensures { result ≡ slot_on self.now place }
+    pub fn read(&self, v: u32) -> Slot<C>
+        ensures { result ≡ slot_at self.now v }
     {
-        match self.slots.get(place) {
+        match self.arena.get(index_of(self.table.as_slice(), v)) {
             Some(slot) => *slot,
             None => Slot::Untouched,
         }
     }
 
-    // Writes the slot at `place`.
-    fn write(&mut self, place: usize, slot: Slot<C>)
-        requires { place < length self.old }
-        ensures { self.new ≡ set self.old place slot }
+    /// Writes the slot of `v`, whose page is made.
+    pub fn write(&mut self, v: u32, slot: Slot<C>)
+        requires { IsMade self.old v }
+        ensures { slot_at self.new ≡ changed (slot_at self.old) v slot }
     {
-        self.slots[place] = slot;
+        let index = index_of(self.table.as_slice(), v);
+        self.arena[index] = slot;
     }
 
-    // Takes all slots away.
-    fn clear(&mut self)
-        ensures { self.new ≡ [] }
+    /// Makes the page of `v` where it isn't made yet. A page past the 2^32 - 1 that can be made is answered by the
+    /// error, as where memory runs out.
+    pub fn ensure(&mut self, v: u32) -> Result<(), AllocError>
+        ensures made { OnOk result (IsMade self.new v) }
+        ensures same { slot_at self.new ≡ slot_at self.old }
     {
-        self.slots.clear();
-    }
-
-    // Whether the page is made.
-    fn is_made(&self) -> bool
-        ensures { IsTrue result ↔ (64 ≤ length self.now) }
-    {
-        self.slots.len() >= PAGE
-    }
-
-    // Makes the page where it isn't made yet.
-    fn ensure(&mut self) -> Result<(), AllocError>
-        ensures same { (r : ℕ) → slot_on self.new r ≡ slot_on self.old r }
-        ensures made { OnOk result (64 ≤ length self.new) }
-    {
-        if self.slots.len() < PAGE {
-            self.slots.resize(PAGE, Slot::Untouched)?;
+        if index_of(self.table.as_slice(), v) < self.arena.len() {
+            return Ok(());
         }
+        let page = v / PAGE as u32;
+        let place = append_page(&mut self.arena, &mut self.touched, page)?;
+        set_place(&mut self.table, page, place)?;
         Ok(())
     }
+
+    /// Takes the slots of all pages away, in time for the pages that are made, and keeps their memory.
+    pub fn clear(&mut self)
+        ensures { (v : ℕ) → slot_at self.new v ≡ Untouched }
+    {
+        self.arena.clear();
+        clear_places(&mut self.table, &mut self.touched);
+    }
 }
 
-/// The slot of `v`.
+// Where the slot of `v` stands among those of the pages that are made: past them all where its page isn't.
 #[inline(always)]
-pub fn read<C: Copy>(pages: &[Page<C>], v: u32) -> Slot<C>
-    ensures { result ≡ slot_at pages.now v }
+fn index_of(table: &[u32], v: u32) -> usize
+    ensures { result ≡ place_of table.now (v / 64) * 64 + v % 64 }
 {
-    match pages.get(v as usize / PAGE) {
-        Some(page) => page.read(v as usize % PAGE),
-        None => Slot::Untouched,
-    }
+    let place = match table.get(v as usize / PAGE) {
+        Some(place) => *place,
+        None => UNMADE,
+    };
+    place as usize * PAGE + v as usize % PAGE
 }
 
-/// Writes the slot of `v`, whose page is made.
-pub fn write<C: Copy>(pages: &mut Vec<Page<C>>, v: u32, slot: Slot<C>)
-    requires { v % 64 < length (page_of pages.old.items (v / 64)) }
-    ensures slots { slot_at pages.new.items ≡ changed (slot_at pages.old.items) v slot }
-    ensures empty { (p : ℕ) → page_of pages.old.items p ≡ [] → page_of pages.new.items p ≡ [] }
-{
-    pages[v as usize / PAGE].write(v as usize % PAGE, slot);
-}
-
-/// Makes the page of `v` where it isn't made yet, once its number is among those that are touched.
-pub fn ensure_page<C: Copy>(
-    alloc: Global,
-    pages: &mut Vec<Page<C>>,
+// Puts an untouched page behind those that are made, and gives its place.
+fn append_page<C: Copy>(
+    arena: &mut Vec<Slot<C>>,
     touched: &mut Vec<u32>,
-    v: u32,
-) -> Result<(), AllocError>
-    requires touched { AreTouched pages.old.items touched.old.items }
-    ensures made { OnOk result (v % 64 < length (page_of pages.new.items (v / 64))) }
-    ensures same { slot_at pages.new.items ≡ slot_at pages.old.items }
-    ensures touched { AreTouched pages.new.items touched.new.items }
+    page: u32,
+) -> Result<u32, AllocError>
+    requires { IsArena arena.old.items touched.old.items }
+    ensures arena { IsArena arena.new.items touched.new.items }
+    ensures place { IfOk result (λ place. (place ≡ length touched.old.items) × (place < unmade) × (length arena.new.items ≡ place * 64 + 64)) }
+    ensures touched { OnOk result (touched.new.items ≡ touched.old.items ++ page ∷ []) }
+    ensures keeps { Keeps touched.old.items touched.new.items }
+    ensures same { (i : ℕ) → slice_index_or arena.new.items i Untouched ≡ slice_index_or arena.old.items i Untouched }
 {
-    let page = v as usize / PAGE;
-    lengthen(alloc, pages, page + 1)?;
-    if pages[page].is_made() {
-        return Ok(());
+    let place = touched.len();
+    if place >= UNMADE as usize {
+        return Err(AllocError);
     }
-    touched.push(v / PAGE as u32)?;
-    make_page(pages, page)
+    touched.push(page)?;
+    arena.resize((place + 1) * PAGE, Slot::Untouched)?;
+    Ok(place as u32)
 }
 
-// Makes a page.
-fn make_page<C: Copy>(pages: &mut Vec<Page<C>>, page: usize) -> Result<(), AllocError>
-    requires { page < length pages.old.items }
-    ensures made { OnOk result (64 ≤ length (page_of pages.new.items page)) }
-    ensures same { slot_at pages.new.items ≡ slot_at pages.old.items }
-    ensures others { (p : ℕ) → (p ≡ page → ⊥) → page_of pages.new.items p ≡ page_of pages.old.items p }
+// Sets the place of a page.
+fn set_place(table: &mut Vec<u32>, page: u32, place: u32) -> Result<(), AllocError>
+    ensures here { OnOk result (place_of table.new.items page ≡ place) }
+    ensures others { (p : ℕ) → p ≢ page → place_of table.new.items p ≡ place_of table.old.items p }
+    ensures err { OnErr result ((p : ℕ) → place_of table.new.items p ≡ place_of table.old.items p) }
 {
-    pages[page].ensure()
+    if table.len() <= page as usize {
+        table.resize(page as usize + 1, UNMADE)?;
+    }
+    table[page as usize] = place;
+    Ok(())
 }
 
-/// Takes the slots of all pages away.
-pub fn clear_pages<C: Copy>(pages: &mut Vec<Page<C>>, touched: &mut Vec<u32>)
-    requires { AreTouched pages.old.items touched.old.items }
-    ensures pages { (p : ℕ) → page_of pages.new.items p ≡ [] }
+// Forgets the places of all pages.
+fn clear_places(table: &mut Vec<u32>, touched: &mut Vec<u32>)
+    requires { AreTouched table.old.items touched.old.items }
+    ensures places { (p : ℕ) → place_of table.new.items p ≡ unmade }
     ensures touched { touched.new.items ≡ [] }
 {
     while let Some(page) = touched.pop() {
-        clear_page(pages, page as usize);
+        clear_place(table, page);
     }
 }
 
-// Takes the slots of one page away.
-fn clear_page<C: Copy>(pages: &mut Vec<Page<C>>, page: usize)
-    ensures here { page_of pages.new.items page ≡ [] }
-    ensures empty { (p : ℕ) → page_of pages.old.items p ≡ [] → page_of pages.new.items p ≡ [] }
+// Forgets the place of one page.
+fn clear_place(table: &mut Vec<u32>, page: u32)
+    ensures here { place_of table.new.items page ≡ unmade }
+    ensures others { (p : ℕ) → p ≢ page → place_of table.new.items p ≡ place_of table.old.items p }
 {
-    if page < pages.len() {
-        pages[page].clear();
+    if (page as usize) < table.len() {
+        table[page as usize] = UNMADE;
     }
-}
-
-// Goes on to `count` pages; those that come are not made.
-fn lengthen<C: Copy>(
-    alloc: Global,
-    pages: &mut Vec<Page<C>>,
-    count: usize,
-) -> Result<(), AllocError>
-    ensures same { (p : ℕ) → page_of pages.new.items p ≡ page_of pages.old.items p }
-    ensures long { OnOk result (count ≤ length pages.new.items) }
-{
-    while pages.len() < count {
-        pages.push(Page::new(alloc))?;
-    }
-    Ok(())
 }

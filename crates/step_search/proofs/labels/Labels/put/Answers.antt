@@ -7,8 +7,8 @@ use Rattle.step_search.proofs.labels.Labels.put.Goals as goal
 
 pub returns-clause-label : goal.returns-clause-label
 returns-clause-label g c =
-    label_written c.args.self.now c.ensure_page.new.pages.items c.write.new.pages.items (c.in_ok-ensure_page.ensures.same ∙ ap slot_at c.self.view_is) c.args.v (Labelled c.args.label) c.write.ensures.slots
+    label_written c.args.self.now c.ensure.new.self c.write.new.self (c.in_ok-ensure.ensures.same ∙ ap slot_at c.self.view_is) c.args.v (Labelled c.args.label) c.write.ensures
 
 pub returns-clause-settled : goal.returns-clause-settled
 returns-clause-settled g c =
-    settled_stays c.args.self.now c.ensure_page.new.pages.items c.write.new.pages.items (c.in_ok-ensure_page.ensures.same ∙ ap slot_at c.self.view_is) c.args.v (Labelled c.args.label) c.write.ensures.slots c.requires
+    settled_stays c.args.self.now c.ensure.new.self c.write.new.self (c.in_ok-ensure.ensures.same ∙ ap slot_at c.self.view_is) c.args.v (Labelled c.args.label) c.write.ensures c.requires

@@ -8,8 +8,8 @@ use Rattle.step_search.proofs.labels.Labels.settle.Goals as goal
 
 pub returns-in-Labelled-clause-label : goal.returns-in-Labelled-clause-label
 returns-in-Labelled-clause-label g c =
-    label_stays c.args.self.now c.self.inside.pages.items c.write.new.pages.items (ap slot_at c.self.view_is) c.args.v (Settled c.in-Labelled.label) c.write.ensures.slots
-    (ap (λ p. label_in (slot_at p c.args.v)) (sym (c.as_slice.ensures.value ∙ c.self.view_is)) ∙ ap label_in (sym c.read.ensures ∙ c.in-Labelled.is))
+    label_stays c.args.self.now c.self.inside.pages c.write.new.self (ap slot_at c.self.view_is) c.args.v (Settled c.in-Labelled.label) c.write.ensures
+    (ap (λ p. label_in (slot_at p c.args.v)) (sym c.self.view_is) ∙ ap label_in (sym c.read.ensures ∙ c.in-Labelled.is))
 
 pub returns-in-Labelled-clause-settled : goal.returns-in-Labelled-clause-settled
-returns-in-Labelled-clause-settled g c = settled_written c.args.self.now c.self.inside.pages.items c.write.new.pages.items (ap slot_at c.self.view_is) c.args.v (Settled c.in-Labelled.label) c.write.ensures.slots
+returns-in-Labelled-clause-settled g c = settled_written c.args.self.now c.self.inside.pages c.write.new.self (ap slot_at c.self.view_is) c.args.v (Settled c.in-Labelled.label) c.write.ensures
