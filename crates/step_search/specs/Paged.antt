@@ -1,5 +1,5 @@
 -- Private to this crate: slots by vertex on pages of 64 neighbouring vertices: a page has all their slots, or none until it is made. The pages that are made stand one behind the other in one list, and a table has their places.
-use Rattle.std.specs.Prelude.{◌≡◌, ◌⊎◌, ℕ, ◌*◌, ◌/◌, ◌%◌, ◌<◌, ◌≤◌, Option, Some, List, [], length, take, drop, map, slice_index_or}
+use Rattle.std.specs.Prelude.{◌≡◌, ◌⊎◌, ℕ, ◌*◌, ◌/◌, ◌%◌, ◌<◌, ◌≤◌, Some, List, [], length, take, drop, map, slice_index_or}
 use Rattle.std.specs.List.{slice_get}
 use Rattle.step_search.specs.declared.labels.Slot.{Slot}
 use Rattle.step_search.specs.declared.labels.Slot.TheVariants.{Untouched}

@@ -1,5 +1,5 @@
 -- The page is touched before it is made, and made before its place is set.
-use Rattle.std.proofs.Common.{◌≡◌, ◌<◌, ◌≤◌, ◌+◌, ◌*◌, ◌/◌, length, refl, sym, ◌∙◌, ap, subst, arith}
+use Rattle.std.proofs.Common.{◌≡◌, ◌<◌, ◌≤◌, ◌+◌, ◌*◌, ◌/◌, length, refl, ◌∙◌, ap, subst, arith}
 use Rattle.step_search.specs.Paged.{place_of, slot_at, IsMade}
 use Rattle.step_search.proofs.Paged.{index, index_is, IsArena-fits, IsMade-index, slot_at-kept, slot_at-made, AreTouched-kept, AreTouched-made}
 use Rattle.step_search.proofs.pages.Pages.ensure.Goals as goal
