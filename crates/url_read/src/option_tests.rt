@@ -1,277 +1,127 @@
 //! Worked options; expected values are from OSRM's API and this project's rules.
 
-use crate::RefusalCode::{InvalidOptions, InvalidQuery, InvalidValue, TooBig};
+use crate::tests::assert_refused;
 use crate::{
-    Alternatives, Approach, Bearing, Chosen, ContinueStraight, Geometries, Overview, RefusalCode,
-    Request, RequestFault, RouteAnnotations, Service, TableAnnotations, request,
+    Alternatives, Approach, Bearing, Chosen, ContinueStraight, Geometries, Overview, Request,
+    RouteAnnotations, Service, TableAnnotations, request,
 };
-use std::alloc::Global;
+use std::alloc::{AllocError, Global};
 use std::process::Abort;
 
-// Whether a target is refused with this code and message.
-fn is_refused(rt: &HostRuntime, target: &[u8], code: RefusalCode, message: &[u8]) -> bool {
-    match request(rt.alloc(), target) {
-        Err(RequestFault::Refused(refusal)) => {
-            refusal.code == code && refusal.message.as_bytes() == message
-        }
-        Err(RequestFault::Memory) => false,
-        Ok(_asked) => false,
-    }
-}
+const REFUSED: &[u8] = b"/nearest/v1/car/0,0;0,0?foo=1|InvalidQuery|2 coordinates
+/nearest/v1/car/0,0?number=0|InvalidOptions|option number
+/nearest/v1/car/0,0?number=101|TooBig|101 results, at most 100
+/nearest/v1/car/0,91?number=101|InvalidValue|coordinate 0
+/nearest/v1/car/0,0?steps=true|InvalidOptions|option steps
+/route/v1/car/0,0;0,0?number=1|InvalidOptions|option number
+/route/v1/car/0,0;0,0?sources=all|InvalidOptions|option sources
+/table/v1/car/0,0;0,0?overview=false|InvalidOptions|option overview
+/table/v1/car/0,0;0,0?annotations=nodes|InvalidOptions|option annotations
+/table/v1/car/0,0;0,0?sources=2|InvalidOptions|option sources
+/table/v1/car/0,0;0,0?destinations=0;2&foo=1|InvalidOptions|option foo
+/table/v1/car/0,0;0,0?destinations=2&sources=2|InvalidOptions|option sources
+/table/v1/car/0,0?sources=1&radiuses=;|InvalidOptions|option radiuses
+/table/v1/car/0,0?radiuses=;&hints=;|InvalidOptions|option hints
+/table/v1/car/0,0?approaches=;&bearings=;|InvalidOptions|option bearings
+/table/v1/car/0,0?sources=1&approaches=;|InvalidOptions|option approaches
+/table/v1/car/0,0?destinations=0;1&sources=|InvalidOptions|option sources
+/table/v1/car/0,0?sources=0;1&destinations=|InvalidOptions|option destinations
+/route/v1/car/0,0;0,0?radiuses=5;5&radiuses=5|InvalidOptions|option radiuses
+/route/v1/car/0,0;0,0?radiuses=-5;5&radiuses=5;5|InvalidOptions|option radiuses
+/route/v1/car/0,0;0,0?overview=false&Overview=false|InvalidOptions|option Overview";
 
 #[test]
-fn a_target_of_any_service_has_its_first_refusal(rt: HostRuntime) {
-    let cases: [(&[u8], RefusalCode, &[u8]); 21] = [
-        (
-            b"/nearest/v1/car/0,0;0,0?foo=1",
-            InvalidQuery,
-            b"2 coordinates",
-        ),
-        (
-            b"/nearest/v1/car/0,0?number=0",
-            InvalidOptions,
-            b"option number",
-        ),
-        (
-            b"/nearest/v1/car/0,0?number=101",
-            TooBig,
-            b"101 results, at most 100",
-        ),
-        (
-            b"/nearest/v1/car/0,91?number=101",
-            InvalidValue,
-            b"coordinate 0",
-        ),
-        (
-            b"/nearest/v1/car/0,0?steps=true",
-            InvalidOptions,
-            b"option steps",
-        ),
-        (
-            b"/route/v1/car/0,0;0,0?number=1",
-            InvalidOptions,
-            b"option number",
-        ),
-        (
-            b"/route/v1/car/0,0;0,0?sources=all",
-            InvalidOptions,
-            b"option sources",
-        ),
-        (
-            b"/table/v1/car/0,0;0,0?overview=false",
-            InvalidOptions,
-            b"option overview",
-        ),
-        (
-            b"/table/v1/car/0,0;0,0?annotations=nodes",
-            InvalidOptions,
-            b"option annotations",
-        ),
-        (
-            b"/table/v1/car/0,0;0,0?sources=2",
-            InvalidOptions,
-            b"option sources",
-        ),
-        (
-            b"/table/v1/car/0,0;0,0?destinations=0;2&foo=1",
-            InvalidOptions,
-            b"option foo",
-        ),
-        (
-            b"/table/v1/car/0,0;0,0?destinations=2&sources=2",
-            InvalidOptions,
-            b"option sources",
-        ),
-        (
-            b"/table/v1/car/0,0?sources=1&radiuses=;",
-            InvalidOptions,
-            b"option radiuses",
-        ),
-        (
-            b"/table/v1/car/0,0?radiuses=;&hints=;",
-            InvalidOptions,
-            b"option hints",
-        ),
-        (
-            b"/table/v1/car/0,0?approaches=;&bearings=;",
-            InvalidOptions,
-            b"option bearings",
-        ),
-        (
-            b"/table/v1/car/0,0?sources=1&approaches=;",
-            InvalidOptions,
-            b"option approaches",
-        ),
-        (
-            b"/table/v1/car/0,0?destinations=0;1&sources=",
-            InvalidOptions,
-            b"option sources",
-        ),
-        (
-            b"/table/v1/car/0,0?sources=0;1&destinations=",
-            InvalidOptions,
-            b"option destinations",
-        ),
-        (
-            b"/route/v1/car/0,0;0,0?radiuses=5;5&radiuses=5",
-            InvalidOptions,
-            b"option radiuses",
-        ),
-        (
-            b"/route/v1/car/0,0;0,0?radiuses=-5;5&radiuses=5;5",
-            InvalidOptions,
-            b"option radiuses",
-        ),
-        (
-            b"/route/v1/car/0,0;0,0?overview=false&Overview=false",
-            InvalidOptions,
-            b"option Overview",
-        ),
-    ];
-    for (target, code, message) in cases {
-        assert!(rt; is_refused(&rt, target, code, message), "{code:?}");
-    }
+fn a_target_of_any_service_has_its_first_refusal(rt: HostRuntime) -> Result<(), AllocError> {
+    assert_refused(&rt, rt.alloc(), REFUSED)
 }
+
+const TAKEN: &[u8] = b"/route/v1/car/0,0;0,1?radiuses=;
+/route/v1/car/0,0;0,1?radiuses=unlimited;0
+/route/v1/car/0,0;0,1?radiuses=007.25;99999999999999999999
+/route/v1/car/0,0;0,1?bearings=;
+/route/v1/car/0,0;0,1?bearings=360,180;000,0
+/route/v1/car/0,0;0,1?approaches=;unrestricted
+/route/v1/car/0,0;0,1?hints=;
+/route/v1/car/0,0;0,1?hints=a=b;%3D
+/route/v1/car/0,0;0,1?generate_hints=true
+/route/v1/car/0,0;0,1?skip_waypoints=false
+/route/v1/car/0,0;0,1?snapping=default
+/route/v1/car/0,0;0,1?since=4294967295
+/route/v1/car/0,0;0,1?since=00000000001
+/route/v1/car/0,0;0,1?alternatives=true
+/route/v1/car/0,0;0,1?alternatives=999999999
+/route/v1/car/0,0;0,1?steps=true
+/route/v1/car/0%2C0;0,1?o%76erview=f%61lse&radiuses=5;&bearings=45,10;&since=9
+/table/v1/car/polyline(????)
+/route/v1/car/0,0;0,1?annotations=true
+/route/v1/car/0,0;0,1?annotations=nodes,distance,duration,weight,nodes
+/route/v1/car/0,0;0,1?geometries=polyline6
+/route/v1/car/0,0;0,1?overview=simplified
+/route/v1/car/0,0;0,1?continue_straight=default
+/table/v1/car/0,0;0,1?sources=all
+/table/v1/car/0,0;0,1?sources=1;0;1
+/table/v1/car/0,0;0,1?destinations=000000001
+/table/v1/car/0,0;0,1?annotations=duration
+/table/v1/car/0,0;0,1?annotations=distance,duration
+/nearest/v1/car/0,0?number=100
+/nearest/v1/car/0,0?number=000000001
+/nearest/v1/car/0,0?radiuses=
+/nearest/v1/car/0,0?bearings=";
 
 #[test]
 fn each_option_has_its_values(rt: HostRuntime) {
-    let cases: [&[u8]; 32] = [
-        b"/route/v1/car/0,0;0,1?radiuses=;",
-        b"/route/v1/car/0,0;0,1?radiuses=unlimited;0",
-        b"/route/v1/car/0,0;0,1?radiuses=007.25;99999999999999999999",
-        b"/route/v1/car/0,0;0,1?bearings=;",
-        b"/route/v1/car/0,0;0,1?bearings=360,180;000,0",
-        b"/route/v1/car/0,0;0,1?approaches=;unrestricted",
-        b"/route/v1/car/0,0;0,1?hints=;",
-        b"/route/v1/car/0,0;0,1?hints=a=b;%3D",
-        b"/route/v1/car/0,0;0,1?generate_hints=true",
-        b"/route/v1/car/0,0;0,1?skip_waypoints=false",
-        b"/route/v1/car/0,0;0,1?snapping=default",
-        b"/route/v1/car/0,0;0,1?since=4294967295",
-        b"/route/v1/car/0,0;0,1?since=00000000001",
-        b"/route/v1/car/0,0;0,1?alternatives=true",
-        b"/route/v1/car/0,0;0,1?alternatives=999999999",
-        b"/route/v1/car/0,0;0,1?steps=true",
-        b"/route/v1/car/0%2C0;0,1?o%76erview=f%61lse&radiuses=5;&bearings=45,10;&since=9",
-        b"/table/v1/car/polyline(????)",
-        b"/route/v1/car/0,0;0,1?annotations=true",
-        b"/route/v1/car/0,0;0,1?annotations=nodes,distance,duration,weight,nodes",
-        b"/route/v1/car/0,0;0,1?geometries=polyline6",
-        b"/route/v1/car/0,0;0,1?overview=simplified",
-        b"/route/v1/car/0,0;0,1?continue_straight=default",
-        b"/table/v1/car/0,0;0,1?sources=all",
-        b"/table/v1/car/0,0;0,1?sources=1;0;1",
-        b"/table/v1/car/0,0;0,1?destinations=000000001",
-        b"/table/v1/car/0,0;0,1?annotations=duration",
-        b"/table/v1/car/0,0;0,1?annotations=distance,duration",
-        b"/nearest/v1/car/0,0?number=100",
-        b"/nearest/v1/car/0,0?number=000000001",
-        b"/nearest/v1/car/0,0?radiuses=",
-        b"/nearest/v1/car/0,0?bearings=",
-    ];
-    for target in cases {
+    for target in TAKEN.split(|byte| *byte == b'\n') {
         assert!(rt; request(rt.alloc(), target).is_ok());
     }
 }
 
+const OF_ANOTHER_FORM: &[u8] = b"/route/v1/car/0,0;0,1?radiuses=|InvalidOptions|option radiuses
+/route/v1/car/0,0;0,1?radiuses=;;|InvalidOptions|option radiuses
+/route/v1/car/0,0;0,1?radiuses=-1;|InvalidOptions|option radiuses
+/route/v1/car/0,0;0,1?radiuses=+1;|InvalidOptions|option radiuses
+/route/v1/car/0,0;0,1?radiuses=1.;|InvalidOptions|option radiuses
+/route/v1/car/0,0;0,1?radiuses=.5;|InvalidOptions|option radiuses
+/route/v1/car/0,0;0,1?radiuses=1e5;|InvalidOptions|option radiuses
+/route/v1/car/0,0;0,1?radiuses=Unlimited;|InvalidOptions|option radiuses
+/route/v1/car/0,0;0,1?bearings=361,10;|InvalidOptions|option bearings
+/route/v1/car/0,0;0,1?bearings=45,181;|InvalidOptions|option bearings
+/route/v1/car/0,0;0,1?bearings=45;|InvalidOptions|option bearings
+/route/v1/car/0,0;0,1?bearings=45,;|InvalidOptions|option bearings
+/route/v1/car/0,0;0,1?bearings=,10;|InvalidOptions|option bearings
+/route/v1/car/0,0;0,1?bearings=4.5,10;|InvalidOptions|option bearings
+/route/v1/car/0,0;0,1?bearings=1,2,3;|InvalidOptions|option bearings
+/route/v1/car/0,0;0,1?bearings=45,10|InvalidOptions|option bearings
+/route/v1/car/0,0;0,1?approaches=curb;|InvalidOptions|option approaches
+/route/v1/car/0,0;0,1?hints=a|InvalidOptions|option hints
+/route/v1/car/0,0;0,1?generate_hints=1|InvalidOptions|option generate_hints
+/route/v1/car/0,0;0,1?skip_waypoints=|InvalidOptions|option skip_waypoints
+/route/v1/car/0,0;0,1?snapping=any|InvalidOptions|option snapping
+/route/v1/car/0,0;0,1?since=4294967296|InvalidOptions|option since
+/route/v1/car/0,0;0,1?since=|InvalidOptions|option since
+/route/v1/car/0,0;0,1?since=+1|InvalidOptions|option since
+/route/v1/car/0,0;0,1?alternatives=1000000000|InvalidOptions|option alternatives
+/route/v1/car/0,0;0,1?steps=1|InvalidOptions|option steps
+/route/v1/car/0,0;0,1?annotations=|InvalidOptions|option annotations
+/route/v1/car/0,0;0,1?annotations=nodes,|InvalidOptions|option annotations
+/route/v1/car/0,0;0,1?annotations=true,nodes|InvalidOptions|option annotations
+/route/v1/car/0,0;0,1?geometries=polyline5|InvalidOptions|option geometries
+/route/v1/car/0,0;0,1?overview=true|InvalidOptions|option overview
+/route/v1/car/0,0;0,1?continue_straight=true|InvalidOptions|option continue_straight
+/table/v1/car/0,0;0,1?sources=2|InvalidOptions|option sources
+/table/v1/car/0,0;0,1?sources=0;|InvalidOptions|option sources
+/table/v1/car/0,0;0,1?sources=all;0|InvalidOptions|option sources
+/table/v1/car/0,0;0,1?sources=0000000000|InvalidOptions|option sources
+/table/v1/car/0,0;0,1?destinations=any|InvalidOptions|option destinations
+/table/v1/car/0,0;0,1?annotations=duration,duration|InvalidOptions|option annotations
+/table/v1/car/0,0;0,1?annotations=speed|InvalidOptions|option annotations
+/nearest/v1/car/0,0?number=000|InvalidOptions|option number
+/nearest/v1/car/0,0?number=0000000001|InvalidOptions|option number
+/nearest/v1/car/0,0?number=|InvalidOptions|option number
+/nearest/v1/car/0,0?number=1000000000|InvalidOptions|option number";
+
 #[test]
-fn a_value_of_another_form_is_refused(rt: HostRuntime) {
-    let cases: [(&[u8], &[u8]); 43] = [
-        (b"/route/v1/car/0,0;0,1?radiuses=", b"option radiuses"),
-        (b"/route/v1/car/0,0;0,1?radiuses=;;", b"option radiuses"),
-        (b"/route/v1/car/0,0;0,1?radiuses=-1;", b"option radiuses"),
-        (b"/route/v1/car/0,0;0,1?radiuses=+1;", b"option radiuses"),
-        (b"/route/v1/car/0,0;0,1?radiuses=1.;", b"option radiuses"),
-        (b"/route/v1/car/0,0;0,1?radiuses=.5;", b"option radiuses"),
-        (b"/route/v1/car/0,0;0,1?radiuses=1e5;", b"option radiuses"),
-        (
-            b"/route/v1/car/0,0;0,1?radiuses=Unlimited;",
-            b"option radiuses",
-        ),
-        (
-            b"/route/v1/car/0,0;0,1?bearings=361,10;",
-            b"option bearings",
-        ),
-        (
-            b"/route/v1/car/0,0;0,1?bearings=45,181;",
-            b"option bearings",
-        ),
-        (b"/route/v1/car/0,0;0,1?bearings=45;", b"option bearings"),
-        (b"/route/v1/car/0,0;0,1?bearings=45,;", b"option bearings"),
-        (b"/route/v1/car/0,0;0,1?bearings=,10;", b"option bearings"),
-        (
-            b"/route/v1/car/0,0;0,1?bearings=4.5,10;",
-            b"option bearings",
-        ),
-        (b"/route/v1/car/0,0;0,1?bearings=1,2,3;", b"option bearings"),
-        (b"/route/v1/car/0,0;0,1?bearings=45,10", b"option bearings"),
-        (
-            b"/route/v1/car/0,0;0,1?approaches=curb;",
-            b"option approaches",
-        ),
-        (b"/route/v1/car/0,0;0,1?hints=a", b"option hints"),
-        (
-            b"/route/v1/car/0,0;0,1?generate_hints=1",
-            b"option generate_hints",
-        ),
-        (
-            b"/route/v1/car/0,0;0,1?skip_waypoints=",
-            b"option skip_waypoints",
-        ),
-        (b"/route/v1/car/0,0;0,1?snapping=any", b"option snapping"),
-        (b"/route/v1/car/0,0;0,1?since=4294967296", b"option since"),
-        (b"/route/v1/car/0,0;0,1?since=", b"option since"),
-        (b"/route/v1/car/0,0;0,1?since=+1", b"option since"),
-        (
-            b"/route/v1/car/0,0;0,1?alternatives=1000000000",
-            b"option alternatives",
-        ),
-        (b"/route/v1/car/0,0;0,1?steps=1", b"option steps"),
-        (b"/route/v1/car/0,0;0,1?annotations=", b"option annotations"),
-        (
-            b"/route/v1/car/0,0;0,1?annotations=nodes,",
-            b"option annotations",
-        ),
-        (
-            b"/route/v1/car/0,0;0,1?annotations=true,nodes",
-            b"option annotations",
-        ),
-        (
-            b"/route/v1/car/0,0;0,1?geometries=polyline5",
-            b"option geometries",
-        ),
-        (b"/route/v1/car/0,0;0,1?overview=true", b"option overview"),
-        (
-            b"/route/v1/car/0,0;0,1?continue_straight=true",
-            b"option continue_straight",
-        ),
-        (b"/table/v1/car/0,0;0,1?sources=2", b"option sources"),
-        (b"/table/v1/car/0,0;0,1?sources=0;", b"option sources"),
-        (b"/table/v1/car/0,0;0,1?sources=all;0", b"option sources"),
-        (
-            b"/table/v1/car/0,0;0,1?sources=0000000000",
-            b"option sources",
-        ),
-        (
-            b"/table/v1/car/0,0;0,1?destinations=any",
-            b"option destinations",
-        ),
-        (
-            b"/table/v1/car/0,0;0,1?annotations=duration,duration",
-            b"option annotations",
-        ),
-        (
-            b"/table/v1/car/0,0;0,1?annotations=speed",
-            b"option annotations",
-        ),
-        (b"/nearest/v1/car/0,0?number=000", b"option number"),
-        (b"/nearest/v1/car/0,0?number=0000000001", b"option number"),
-        (b"/nearest/v1/car/0,0?number=", b"option number"),
-        (b"/nearest/v1/car/0,0?number=1000000000", b"option number"),
-    ];
-    for (target, message) in cases {
-        assert!(rt; is_refused(&rt, target, InvalidOptions, message));
-    }
+fn a_value_of_another_form_is_refused(rt: HostRuntime) -> Result<(), AllocError> {
+    assert_refused(&rt, rt.alloc(), OF_ANOTHER_FORM)
 }
 
 // The request of a target.

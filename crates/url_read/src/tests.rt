@@ -1,10 +1,9 @@
 //! Worked targets; expected values are from OSRM's API and this project's rules.
 
-use crate::RefusalCode::{
-    InvalidOptions, InvalidQuery, InvalidService, InvalidUrl, InvalidValue, InvalidVersion, TooBig,
-};
+use crate::RefusalCode::{InvalidQuery, InvalidValue, TooBig};
 use crate::{RefusalCode, RequestFault, request};
-use std::alloc::AllocError;
+use std::alloc::{AllocError, Global};
+use std::process::Abort;
 
 // Whether a target is refused with this code and message.
 fn is_refused(rt: &HostRuntime, target: &[u8], code: RefusalCode, message: &[u8]) -> bool {
@@ -17,195 +16,91 @@ fn is_refused(rt: &HostRuntime, target: &[u8], code: RefusalCode, message: &[u8]
     }
 }
 
-#[test]
-fn the_first_refusal_of_a_target_is_told(rt: HostRuntime) {
-    let cases: [(&[u8], RefusalCode, &[u8]); 54] = [
-        (b"", InvalidUrl, b"path"),
-        (b"route/v1/car/0,0;0,0", InvalidUrl, b"path"),
-        (b"/route/v1/car", InvalidUrl, b"path"),
-        (b"/route/v1//0,0;0,0", InvalidUrl, b"path"),
-        (b"/route/v1/car/0,0;0,0/", InvalidUrl, b"path"),
-        (b"/match/v2/car/0,0/x", InvalidUrl, b"path"),
-        (b"/a%ff/v1/car/0,0", InvalidUrl, b"path"),
-        (b"/match/v1/\xff/0,0", InvalidUrl, b"path"),
-        (b"/match/v1/car/0,0?\xff", InvalidUrl, b"path"),
-        (b"/match/v1/car/0,0?%e9", InvalidUrl, b"path"),
-        (b"/route/v1/car%2f0,0;0,0/x", InvalidUrl, b"path"),
-        (
-            b"/rou%74e/v1/car/0%2C0;0,0?%66oo=1",
-            InvalidOptions,
-            b"option foo",
-        ),
-        (b"/a+b/v1/car/0,0", InvalidService, b"service a+b"),
-        (b"/a%2/v1/car/0,0", InvalidService, b"service a%2"),
-        (
-            b"/match/v1/car/(?overview=false",
-            InvalidService,
-            b"service match",
-        ),
-        (b"/match/v2/car/0,0", InvalidService, b"service match"),
-        (
-            b"/table/v1/car/0,0;0,0?overview=false",
-            InvalidOptions,
-            b"option overview",
-        ),
-        (
-            b"/nearest/v1/car/0,0?overview=false",
-            InvalidOptions,
-            b"option overview",
-        ),
-        (
-            b"/Route/v1/car/0,0;0,0?overview=false",
-            InvalidService,
-            b"service Route",
-        ),
-        (
-            b"/route/v2/car/0,0;0,0?foo=1",
-            InvalidVersion,
-            b"version v2",
-        ),
-        (
-            b"/route/v2/car/x.flatbuffers",
-            InvalidVersion,
-            b"version v2",
-        ),
-        (
-            b"/route/v1/car/0,0;0,0.flatbuffers",
-            InvalidOptions,
-            b"option format",
-        ),
-        (
-            b"/route/v1/car/.flatbuffers?foo=1",
-            InvalidOptions,
-            b"option format",
-        ),
-        (b"/route/v1/car/0,0;x,0", InvalidQuery, b"coordinate 1"),
-        (
-            b"/route/v1/car/0,0;0,0.json.json?overview=false",
-            InvalidQuery,
-            b"coordinate 1",
-        ),
-        (
-            b"/route/v1/car/0,0;0,0;?foo=1",
-            InvalidQuery,
-            b"coordinate 2",
-        ),
-        (b"/route/v1/car/0;x", InvalidQuery, b"coordinate 0"),
-        (b"/route/v1/car/0,0,0;0,0", InvalidQuery, b"coordinate 0"),
-        (b"/route/v1/car/200,0;0,+1", InvalidQuery, b"coordinate 1"),
-        (
-            b"/route/v1/car/polyline(?\"?)?overview=false",
-            InvalidQuery,
-            b"polyline byte 1",
-        ),
-        (
-            b"/route/v1/car/polyline6(??;0,0",
-            InvalidQuery,
-            b"coordinate 0",
-        ),
-        (
-            b"/route/v1/car/polyline(??g).json",
-            InvalidQuery,
-            b"polyline byte 3",
-        ),
-        (b"/route/v1/car/polyline6()", InvalidQuery, b"0 coordinates"),
-        (
-            b"/table/v1/car/polyline(????",
-            InvalidQuery,
-            b"coordinate 0",
-        ),
-        (
-            b"/route/v1/a(b/0,0;0,0?overview=false",
-            InvalidQuery,
-            b"coordinate 1",
-        ),
-        (b"/route/v1/car/0,0", InvalidQuery, b"1 coordinates"),
-        (b"/route/v1/car/200,0?foo=1", InvalidQuery, b"1 coordinates"),
-        (
-            b"/route/v1/car/0,0;0,0?radiuses=1",
-            InvalidOptions,
-            b"option radiuses",
-        ),
-        (
-            b"/route/v1/car/0,0;0,0?since=4294967296",
-            InvalidOptions,
-            b"option since",
-        ),
-        (
-            b"/route/v1/car/0,0;0,0?overview=false&foo",
-            InvalidOptions,
-            b"option foo",
-        ),
-        (
-            b"/route/v1/car/0,0;0,0?overview=false&",
-            InvalidOptions,
-            b"option ",
-        ),
-        (
-            b"/route/v1/car/0,0;0,0?overview",
-            InvalidOptions,
-            b"option overview",
-        ),
-        (
-            b"/route/v1/car/0,0;0,0?overview=full&foo=1",
-            InvalidOptions,
-            b"option foo",
-        ),
-        (
-            b"/route/v1/car/0,0;0,0?overview=full&hints=a",
-            InvalidOptions,
-            b"option hints",
-        ),
-        (
-            b"/route/v1/car/0,0;0,0?steps=on&steps=true&overview=false",
-            InvalidOptions,
-            b"option steps",
-        ),
-        (
-            b"/route/v1/car/0,0;0,0.001?overview=false&bearings=361,10;",
-            InvalidOptions,
-            b"option bearings",
-        ),
-        (
-            b"/route/v1/car/200,0;0,0?overview=false&foo=1",
-            InvalidOptions,
-            b"option foo",
-        ),
-        (
-            b"/route/v1/car/0,0;0,0?b=1&a=1&overview=false",
-            InvalidOptions,
-            b"option b",
-        ),
-        (
-            b"/route/v1/car/0,0;0,0?overview=false=",
-            InvalidOptions,
-            b"option overview",
-        ),
-        (
-            b"/route/v1/car/0,0;0,0?\xc3\xa9 \"=?",
-            InvalidOptions,
-            b"option \xc3\xa9 \"",
-        ),
-        (b"/route/v1/car/200,0;0,0", InvalidValue, b"coordinate 0"),
-        (
-            b"/route/v1/car/200,0;0,0?overview=false",
-            InvalidValue,
-            b"coordinate 0",
-        ),
-        (
-            b"/route/v1/car/180,-90;-180,90;0,90.000001?overview=false",
-            InvalidValue,
-            b"coordinate 2",
-        ),
-        (
-            b"/route/v1/car/0,0;90.5,180?overview=false",
-            InvalidValue,
-            b"coordinate 1",
-        ),
-    ];
-    for (target, code, message) in cases {
-        assert!(rt; is_refused(&rt, target, code, message), "{code:?}");
+// The same, where the code is given by its name.
+fn is_told(alloc: Global, target: &[u8], code: &[u8], message: &[u8]) -> Result<bool, AllocError> {
+    match request(alloc, target) {
+        Err(RequestFault::Refused(refusal)) => {
+            let told = format!(in alloc; "{:?}", refusal.code)?;
+            Ok(told.as_bytes() == code && refusal.message.as_bytes() == message)
+        }
+        Err(RequestFault::Memory) => Err(AllocError),
+        Ok(_asked) => Ok(false),
     }
+}
+
+// Asserts that each target of a table is refused as its row says: the target, the code's name and the message, with a bar
+// between them. A table is one text, since a proof takes time for each value of a list.
+pub(crate) fn assert_refused(rt: &impl Abort, alloc: Global, table: &[u8]) -> Result<(), AllocError> {
+    for row in table.split(|byte| *byte == b'\n') {
+        let mut parts = row.split(|byte| *byte == b'|');
+        match (parts.next(), parts.next(), parts.next()) {
+            (Some(target), Some(code), Some(message)) => {
+                assert!(rt; is_told(alloc, target, code, message)?, "{message:?}");
+            }
+            _ => panic!(rt; "a row of three"),
+        }
+    }
+    Ok(())
+}
+
+const REFUSED: &[u8] = b"|InvalidUrl|path
+route/v1/car/0,0;0,0|InvalidUrl|path
+/route/v1/car|InvalidUrl|path
+/route/v1//0,0;0,0|InvalidUrl|path
+/route/v1/car/0,0;0,0/|InvalidUrl|path
+/match/v2/car/0,0/x|InvalidUrl|path
+/a%ff/v1/car/0,0|InvalidUrl|path
+/match/v1/\xff/0,0|InvalidUrl|path
+/match/v1/car/0,0?\xff|InvalidUrl|path
+/match/v1/car/0,0?%e9|InvalidUrl|path
+/route/v1/car%2f0,0;0,0/x|InvalidUrl|path
+/rou%74e/v1/car/0%2C0;0,0?%66oo=1|InvalidOptions|option foo
+/a+b/v1/car/0,0|InvalidService|service a+b
+/a%2/v1/car/0,0|InvalidService|service a%2
+/match/v1/car/(?overview=false|InvalidService|service match
+/match/v2/car/0,0|InvalidService|service match
+/table/v1/car/0,0;0,0?overview=false|InvalidOptions|option overview
+/nearest/v1/car/0,0?overview=false|InvalidOptions|option overview
+/Route/v1/car/0,0;0,0?overview=false|InvalidService|service Route
+/route/v2/car/0,0;0,0?foo=1|InvalidVersion|version v2
+/route/v2/car/x.flatbuffers|InvalidVersion|version v2
+/route/v1/car/0,0;0,0.flatbuffers|InvalidOptions|option format
+/route/v1/car/.flatbuffers?foo=1|InvalidOptions|option format
+/route/v1/car/0,0;x,0|InvalidQuery|coordinate 1
+/route/v1/car/0,0;0,0.json.json?overview=false|InvalidQuery|coordinate 1
+/route/v1/car/0,0;0,0;?foo=1|InvalidQuery|coordinate 2
+/route/v1/car/0;x|InvalidQuery|coordinate 0
+/route/v1/car/0,0,0;0,0|InvalidQuery|coordinate 0
+/route/v1/car/200,0;0,+1|InvalidQuery|coordinate 1
+/route/v1/car/polyline(?\"?)?overview=false|InvalidQuery|polyline byte 1
+/route/v1/car/polyline6(??;0,0|InvalidQuery|coordinate 0
+/route/v1/car/polyline(??g).json|InvalidQuery|polyline byte 3
+/route/v1/car/polyline6()|InvalidQuery|0 coordinates
+/table/v1/car/polyline(????|InvalidQuery|coordinate 0
+/route/v1/a(b/0,0;0,0?overview=false|InvalidQuery|coordinate 1
+/route/v1/car/0,0|InvalidQuery|1 coordinates
+/route/v1/car/200,0?foo=1|InvalidQuery|1 coordinates
+/route/v1/car/0,0;0,0?radiuses=1|InvalidOptions|option radiuses
+/route/v1/car/0,0;0,0?since=4294967296|InvalidOptions|option since
+/route/v1/car/0,0;0,0?overview=false&foo|InvalidOptions|option foo
+/route/v1/car/0,0;0,0?overview=false&|InvalidOptions|option 
+/route/v1/car/0,0;0,0?overview|InvalidOptions|option overview
+/route/v1/car/0,0;0,0?overview=full&foo=1|InvalidOptions|option foo
+/route/v1/car/0,0;0,0?overview=full&hints=a|InvalidOptions|option hints
+/route/v1/car/0,0;0,0?steps=on&steps=true&overview=false|InvalidOptions|option steps
+/route/v1/car/0,0;0,0.001?overview=false&bearings=361,10;|InvalidOptions|option bearings
+/route/v1/car/200,0;0,0?overview=false&foo=1|InvalidOptions|option foo
+/route/v1/car/0,0;0,0?b=1&a=1&overview=false|InvalidOptions|option b
+/route/v1/car/0,0;0,0?overview=false=|InvalidOptions|option overview
+/route/v1/car/0,0;0,0?\xc3\xa9 \"=?|InvalidOptions|option \xc3\xa9 \"
+/route/v1/car/200,0;0,0|InvalidValue|coordinate 0
+/route/v1/car/200,0;0,0?overview=false|InvalidValue|coordinate 0
+/route/v1/car/180,-90;-180,90;0,90.000001?overview=false|InvalidValue|coordinate 2
+/route/v1/car/0,0;90.5,180?overview=false|InvalidValue|coordinate 1";
+
+#[test]
+fn the_first_refusal_of_a_target_is_told(rt: HostRuntime) -> Result<(), AllocError> {
+    assert_refused(&rt, rt.alloc(), REFUSED)
 }
 
 #[test]

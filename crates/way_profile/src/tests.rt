@@ -1,8 +1,9 @@
 //! Worked settings and ways; expected values are from this project's rules.
 
-use crate::{Profile, SettingsFault, WayUse};
+use crate::{Profile, SettingsFault};
 use road_base::{Modifier, Tags};
 use std::alloc::{AllocError, Global};
+use std::process::Abort;
 
 const CAR: &str =
     "name = \"car\"\nvehicle = \"motorcar\"\naccess_keys = [\"motor_vehicle\", \"access\"]\ndenied = [\"no\", \"private\"]\nbarriers = [\"bollard\", \"gate\"]\nu_turn_penalty = 200\nsignal_penalty = 25\ndriving_side = \"left\"\n[speeds]\nresidential = 40\nmotorway = 130\n[turn_penalty]\nstraight = 1\nslight_right = 2\nright = 3\nsharp_right = 4\nuturn = 5\nsharp_left = 6\nleft = 7\nslight_left = 8\n";
@@ -19,105 +20,76 @@ fn told(alloc: Global, settings: &[u8]) -> Result<String, AllocError> {
     }
 }
 
+// Settings, each with what reading them tells. A bar stands behind settings, and a dollar sign behind what is told. A table is
+// one text, since a proof takes time for each value of a list.
+const SETTINGS: &[u8] = b"|Missing name$\
+name = \"car\"\nvehicle = \"motorcar\"\n|Missing speeds$\
+\xff|NotToml$\
+name = |NotToml$\
+colour = 1\n|UnknownKey colour$\
+[turn_penalty]\nup = 1\n|UnknownKey turn_penalty.up$\
+zoom = 1\ncolour = 1\n|UnknownKey colour$\
+name = 5\nvehicle = \"a\"\n[speeds]\n|BadValue name$\
+name = \"\"\nvehicle = \"a\"\n[speeds]\n|BadValue name$\
+version = 2\nname = 5\nvehicle = \"a\"\n[speeds]\n|BadValue version$\
+name = \"a\"\nvehicle = \"a\"\nspeeds = 3\n|BadValue speeds$\
+name = \"a\"\nvehicle = \"a\"\n[speeds]\nresidential = 0\n|BadValue speeds.residential$\
+name = \"a\"\nvehicle = \"a\"\naccess_keys = 1\n[speeds]\nprimary = true\n|BadValue speeds.primary$\
+name = \"a\"\nvehicle = \"a\"\n[speeds]\nresidential = 0\nprimary = 1001\n|BadValue speeds.primary$\
+name = \"a\"\nvehicle = \"a\"\n[speeds]\nresidential = 1\nprimary = 1000\n|Ok$\
+name = \"a\"\nvehicle = \"a\"\nu_turn_penalty = 1000001\n[speeds]\n|BadValue u_turn_penalty$";
+
 #[test]
 fn the_first_fault_of_settings_is_told(rt: HostRuntime) -> Result<(), AllocError> {
-    let cases: [(&[u8], &str); 17] = [
-        (CAR.as_bytes(), "Ok"),
-        (b"", "Missing name"),
-        (
-            b"name = \"car\"\nvehicle = \"motorcar\"\n",
-            "Missing speeds",
-        ),
-        (b"\xff", "NotToml"),
-        (b"name = ", "NotToml"),
-        (b"colour = 1\n", "UnknownKey colour"),
-        (b"[turn_penalty]\nup = 1\n", "UnknownKey turn_penalty.up"),
-        (b"zoom = 1\ncolour = 1\n", "UnknownKey colour"),
-        (b"name = 5\nvehicle = \"a\"\n[speeds]\n", "BadValue name"),
-        (b"name = \"\"\nvehicle = \"a\"\n[speeds]\n", "BadValue name"),
-        (
-            b"version = 2\nname = 5\nvehicle = \"a\"\n[speeds]\n",
-            "BadValue version",
-        ),
-        (
-            b"name = \"a\"\nvehicle = \"a\"\nspeeds = 3\n",
-            "BadValue speeds",
-        ),
-        (
-            b"name = \"a\"\nvehicle = \"a\"\n[speeds]\nresidential = 0\n",
-            "BadValue speeds.residential",
-        ),
-        (
-            b"name = \"a\"\nvehicle = \"a\"\naccess_keys = 1\n[speeds]\nprimary = true\n",
-            "BadValue speeds.primary",
-        ),
-        (
-            b"name = \"a\"\nvehicle = \"a\"\n[speeds]\nresidential = 0\nprimary = 1001\n",
-            "BadValue speeds.primary",
-        ),
-        (
-            b"name = \"a\"\nvehicle = \"a\"\n[speeds]\nresidential = 1\nprimary = 1000\n",
-            "Ok",
-        ),
-        (
-            b"name = \"a\"\nvehicle = \"a\"\nu_turn_penalty = 1000001\n[speeds]\n",
-            "BadValue u_turn_penalty",
-        ),
-    ];
-    for (settings, want) in cases {
-        assert_eq!(rt; told(rt.alloc(), settings)?.as_str(), want);
+    assert_eq!(rt; told(rt.alloc(), CAR.as_bytes())?.as_str(), "Ok");
+    for row in SETTINGS.split(|byte| *byte == b'$') {
+        let mut parts = row.split(|byte| *byte == b'|');
+        match (parts.next(), parts.next()) {
+            (Some(settings), Some(wanted)) => {
+                assert_eq!(rt; told(rt.alloc(), settings)?.as_bytes(), wanted);
+            }
+            _ => assert!(rt; row.is_empty()),
+        }
     }
     Ok(())
 }
 
+// Lines of settings that may be left out, in the same form.
+const OPTIONAL_SETTINGS: &str = "|Ok$\
+access_keys = [\"motorcar\"]\ndenied = []|Ok$\
+access_keys = \"access\"|BadValue access_keys$\
+denied = 1\naccess_keys = [1]|BadValue access_keys$\
+barriers = 1\ndenied = [\"no\", 1]|BadValue denied$\
+turn_penalty = 5\nbarriers = true|BadValue barriers$\
+u_turn_penalty = -1\nturn_penalty = 5|BadValue turn_penalty$\
+turn_penalty = { up = 1 }|UnknownKey turn_penalty.up$\
+turn_penalty = { up = 1, left = -1 }|UnknownKey turn_penalty.up$\
+turn_penalty = { up = 1 }\nzoom = 1|UnknownKey zoom$\
+turn_penalty = { right = 1000001, left = -1 }|BadValue turn_penalty.left$\
+turn_penalty = { right = 1000001, left = 0 }|BadValue turn_penalty.right$\
+turn_penalty = { right = 1000000, left = 0 }|Ok$\
+signal_penalty = 1\nu_turn_penalty = \"a\"|BadValue u_turn_penalty$\
+driving_side = 1\nsignal_penalty = 0.5|BadValue signal_penalty$\
+signal_penalty = 1000001|BadValue signal_penalty$\
+signal_penalty = 1000000\ndriving_side = \"right\"|Ok$\
+driving_side = \"left\"|Ok$\
+driving_side = \"Left\"|BadValue driving_side$\
+driving_side = true|BadValue driving_side$\
+version = 1|Ok$";
+
 #[test]
 fn the_first_fault_of_optional_settings_is_told(rt: HostRuntime) -> Result<(), AllocError> {
-    let cases: [(&str, &str); 21] = [
-        ("", "Ok"),
-        ("access_keys = [\"motorcar\"]\ndenied = []", "Ok"),
-        ("access_keys = \"access\"", "BadValue access_keys"),
-        ("denied = 1\naccess_keys = [1]", "BadValue access_keys"),
-        ("barriers = 1\ndenied = [\"no\", 1]", "BadValue denied"),
-        ("turn_penalty = 5\nbarriers = true", "BadValue barriers"),
-        (
-            "u_turn_penalty = -1\nturn_penalty = 5",
-            "BadValue turn_penalty",
-        ),
-        ("turn_penalty = { up = 1 }", "UnknownKey turn_penalty.up"),
-        (
-            "turn_penalty = { up = 1, left = -1 }",
-            "UnknownKey turn_penalty.up",
-        ),
-        ("turn_penalty = { up = 1 }\nzoom = 1", "UnknownKey zoom"),
-        (
-            "turn_penalty = { right = 1000001, left = -1 }",
-            "BadValue turn_penalty.left",
-        ),
-        (
-            "turn_penalty = { right = 1000001, left = 0 }",
-            "BadValue turn_penalty.right",
-        ),
-        ("turn_penalty = { right = 1000000, left = 0 }", "Ok"),
-        (
-            "signal_penalty = 1\nu_turn_penalty = \"a\"",
-            "BadValue u_turn_penalty",
-        ),
-        (
-            "driving_side = 1\nsignal_penalty = 0.5",
-            "BadValue signal_penalty",
-        ),
-        ("signal_penalty = 1000001", "BadValue signal_penalty"),
-        ("signal_penalty = 1000000\ndriving_side = \"right\"", "Ok"),
-        ("driving_side = \"left\"", "Ok"),
-        ("driving_side = \"Left\"", "BadValue driving_side"),
-        ("driving_side = true", "BadValue driving_side"),
-        ("version = 1", "Ok"),
-    ];
-    for (setting, want) in cases {
-        let settings = format!(in rt.alloc();
-            "name = \"a\"\nvehicle = \"a\"\n{setting}\n[speeds]\n"
-        )?;
-        assert_eq!(rt; told(rt.alloc(), settings.as_bytes())?.as_str(), want);
+    for row in OPTIONAL_SETTINGS.split('$') {
+        let mut parts = row.split('|');
+        match (parts.next(), parts.next()) {
+            (Some(setting), Some(wanted)) => {
+                let settings = format!(in rt.alloc();
+                    "name = \"a\"\nvehicle = \"a\"\n{setting}\n[speeds]\n"
+                )?;
+                assert_eq!(rt; told(rt.alloc(), settings.as_bytes())?.as_str(), wanted);
+            }
+            _ => assert!(rt; row.is_empty()),
+        }
     }
     Ok(())
 }
@@ -151,10 +123,30 @@ fn each_setting_has_its_answer(rt: HostRuntime) -> Result<(), AllocError> {
     Ok(())
 }
 
-fn tags(alloc: Global, pairs: &[(&str, &str)]) -> Result<Tags, AllocError> {
+// Tags, with a semicolon between each two, and how a way with them is used: forward, backward, and its speed in metres an hour.
+const WAYS: &str = "highway=residential|true true 40000
+highway=footway|false false 0
+name=Main Street|false false 0
+highway=residential;oneway=yes|true false 40000
+oneway=-1;highway=residential|false true 40000
+highway=motorway|true false 130000
+highway=motorway;oneway=no|true true 130000
+highway=residential;junction=roundabout;oneway=maybe|true false 40000
+highway=motorway;oneway=reverse|false true 130000
+highway=residential;access=no|false false 0
+highway=residential;access=destination|true true 40000
+access=no;highway=residential;motor_vehicle=yes|true true 40000
+access=yes;highway=residential;motor_vehicle=private|false false 0";
+
+// The tags of a text.
+fn tags(rt: &impl Abort, alloc: Global, text: &str) -> Result<Tags, AllocError> {
     let mut tags = Tags::new(alloc);
-    for (key, value) in pairs {
-        tags = tags.with(key, value)?;
+    for tag in text.split(';') {
+        let mut parts = tag.split('=');
+        match (parts.next(), parts.next()) {
+            (Some(key), Some(value)) => tags = tags.with(key, value)?,
+            _ => panic!(rt; "a tag"),
+        }
     }
     Ok(tags)
 }
@@ -165,88 +157,16 @@ fn ways_are_used_by_their_tags(rt: HostRuntime) -> Result<(), AllocError> {
     let profile = Profile::read(alloc, CAR.as_bytes())
         .ok()
         .expect(&rt, "good settings");
-    let cases: [(&[(&str, &str)], bool, bool, u32); 13] = [
-        (&[("highway", "residential")], true, true, 40_000),
-        (&[("highway", "footway")], false, false, 0),
-        (&[("name", "Main Street")], false, false, 0),
-        (
-            &[("highway", "residential"), ("oneway", "yes")],
-            true,
-            false,
-            40_000,
-        ),
-        (
-            &[("oneway", "-1"), ("highway", "residential")],
-            false,
-            true,
-            40_000,
-        ),
-        (&[("highway", "motorway")], true, false, 130_000),
-        (
-            &[("highway", "motorway"), ("oneway", "no")],
-            true,
-            true,
-            130_000,
-        ),
-        (
-            &[
-                ("highway", "residential"),
-                ("junction", "roundabout"),
-                ("oneway", "maybe"),
-            ],
-            true,
-            false,
-            40_000,
-        ),
-        (
-            &[("highway", "motorway"), ("oneway", "reverse")],
-            false,
-            true,
-            130_000,
-        ),
-        (
-            &[("highway", "residential"), ("access", "no")],
-            false,
-            false,
-            0,
-        ),
-        (
-            &[("highway", "residential"), ("access", "destination")],
-            true,
-            true,
-            40_000,
-        ),
-        (
-            &[
-                ("access", "no"),
-                ("highway", "residential"),
-                ("motor_vehicle", "yes"),
-            ],
-            true,
-            true,
-            40_000,
-        ),
-        (
-            &[
-                ("access", "yes"),
-                ("highway", "residential"),
-                ("motor_vehicle", "private"),
-            ],
-            false,
-            false,
-            0,
-        ),
-    ];
-    for (pairs, forward, backward, speed) in cases {
-        let found = profile.way(&tags(alloc, pairs)?);
-        assert_eq!(rt;
-            found,
-            WayUse {
-                forward,
-                backward,
-                speed
+    for row in WAYS.split('\n') {
+        let mut parts = row.split('|');
+        match (parts.next(), parts.next()) {
+            (Some(pairs), Some(wanted)) => {
+                let found = profile.way(&tags(&rt, alloc, pairs)?);
+                let told = format!(in alloc; "{} {} {}", found.forward, found.backward, found.speed)?;
+                assert_eq!(rt; told.as_str(), wanted);
             }
-        );
+            _ => panic!(rt; "a row of two"),
+        }
     }
     Ok(())
 }
