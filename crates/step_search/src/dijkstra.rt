@@ -8,7 +8,7 @@ ghost use Rattle.step_search.specs.Paths.{AreStarts, IsAnswer, IsBeyond, IsLeast
 ghost use Rattle.step_search.specs.Labelled.{label_of, settled_of, changed};
 ghost use Rattle.step_search.specs.Queued.{Adds};
 ghost use Rattle.step_search.specs.Progress.{LabelWithin, Expanded, IsBackward, IsFront, IsTrail};
-ghost use Rattle.step_search.specs.Stepping.{Begins, Improves, IsAtWork, IsFresh, IsNearest, IsTaken, NoneSettled, Offers, OnlyFalls, Settles, Skips};
+ghost use Rattle.step_search.specs.Stepping.{Begins, FewerOpen, Improves, IsAtWork, IsFresh, IsNearest, IsTaken, NoneSettled, Offers, OnlyFalls, Settles, Skips};
 ghost use Rattle.step_search.specs.UnderWay.{IsUnderWay, IsDone};
 
 use crate::hops::{Hop, Steps};
@@ -92,13 +92,11 @@ impl<C: Cost> Search<C> {
         requires ready { T.ready steps.now }
         requires under_way { IsUnderWay C.ops (T.space steps.now) starts.now self.old }
         ensures under_way { OnOk result (IsUnderWay C.ops (T.space steps.now) starts.now self.new) }
-        ensures done { OnOk result (IsDone self.new until) }
+        ensures done { OnOk result (IsDone C.ops (T.space steps.now) starts.now self.new until) }
     {
-        let _ = starts;
         while !self.labels.is_settled(until) {
-            match self.nearest() {
-                Some(v) => self.settle(steps, v)?,
-                None => return Ok(()),
+            if !self.settle_next(steps, starts)? {
+                return Ok(());
             }
         }
         Ok(())
@@ -119,17 +117,15 @@ impl<C: Cost> Search<C> {
         requires ready { T.ready steps.now }
         requires under_way { IsUnderWay C.ops (T.space steps.now) starts.now self.old }
         ensures under_way { OnOk result (IsUnderWay C.ops (T.space steps.now) starts.now self.new) }
-        ensures done { IfOk result (λ done. OnTrue done (IsDone self.new until)) }
+        ensures done { IfOk result (λ done. OnTrue done (IsDone C.ops (T.space steps.now) starts.now self.new until)) }
         ensures beyond { IfOk result (λ done. OnFalse done (IsBeyond C.ops (T.space steps.now) starts.now until limit)) }
     {
-        let _ = starts;
         while !self.labels.is_settled(until) {
             if self.queue.is_beyond(limit) {
                 return Ok(false);
             }
-            match self.nearest() {
-                Some(v) => self.settle(steps, v)?,
-                None => return Ok(true),
+            if !self.settle_next(steps, starts)? {
+                return Ok(true);
             }
         }
         Ok(true)
@@ -147,7 +143,7 @@ impl<C: Cost> Search<C> {
         target: u32,
     ) -> Result<Option<Reached<C>>, AllocError>
         requires under_way { IsUnderWay C.ops (T.space steps.now) starts.now self.now }
-        requires done { IsDone self.now target }
+        requires done { IsDone C.ops (T.space steps.now) starts.now self.now target }
         ensures { IfOk result (IsAnswer C.ops (T.space steps.now) starts.now target) }
     {
         let _ = steps;
@@ -172,7 +168,7 @@ impl<C: Cost> Search<C> {
     /// `steps` and `starts` are those with which the search began.
     pub fn cost<T: Steps<C>>(&self, steps: &T, starts: &[Start<C>], target: u32) -> Option<C>
         requires under_way { IsUnderWay C.ops (T.space steps.now) starts.now self.now }
-        requires done { IsDone self.now target }
+        requires done { IsDone C.ops (T.space steps.now) starts.now self.now target }
         ensures { IsLeastPathCost C.ops (T.space steps.now) starts.now target result }
     {
         let _ = steps;
@@ -220,6 +216,29 @@ impl<C: Cost> Search<C> {
         self.tree.push(node)?;
         self.expand(steps, at, node)?;
         Ok(())
+    }
+
+    // Settles the nearest vertex, and tells whether one was left to settle.
+    #[inline(always)]
+    fn settle_next<T: Steps<C>>(
+        &mut self,
+        steps: &T,
+        starts: &[Start<C>],
+    ) -> Result<bool, AllocError>
+        requires ready { T.ready steps.now }
+        requires under_way { IsUnderWay C.ops (T.space steps.now) starts.now self.old }
+        ensures under_way { OnOk result (IsUnderWay C.ops (T.space steps.now) starts.now self.new) }
+        ensures fewer { IfOk result (λ more. OnTrue more (FewerOpen (T.space steps.now) self.old self.new)) }
+        ensures empty { IfOk result (λ more. OnFalse more (self.new.queue ≡ [])) }
+    {
+        let _ = starts;
+        match self.nearest() {
+            Some(v) => {
+                self.settle(steps, v)?;
+                Ok(true)
+            }
+            None => Ok(false),
+        }
     }
 
     // Takes the entry of the least key whose vertex isn't settled, and gives the vertex.
