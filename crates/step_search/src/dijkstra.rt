@@ -43,6 +43,15 @@ pub struct Search<C: Cost> {
 }
 
 impl<C: Cost> Search<C> {
+    /// A search that has not begun. It has the memory in which others begin, by `restart`.
+    pub fn new(alloc: Global) -> Search<C> {
+        Search {
+            tree: Vec::new(alloc),
+            labels: Labels::new(alloc),
+            queue: Queue::new(alloc),
+        }
+    }
+
     /// A search that has begun at each start where a path may begin, or the error where memory runs out.
     pub fn begin<T: Steps<C>>(
         alloc: Global,
@@ -54,12 +63,8 @@ impl<C: Cost> Search<C> {
         requires starts { AreStarts C.ops (T.space steps.now) starts.now }
         ensures { IfOk result (IsUnderWay C.ops (T.space steps.now) starts.now) }
     {
-        let mut search = Search {
-            tree: Vec::new(alloc),
-            labels: Labels::new(alloc),
-            queue: Queue::new(alloc),
-        };
-        search.begin_all(steps, starts)?;
+        let mut search = Search::new(alloc);
+        search.restart(steps, starts)?;
         Ok(search)
     }
 
