@@ -22,6 +22,10 @@ nothing_in xs x e h = let none : Contains [] x = subst (λ ys. Contains ys x) e 
 abbrev IsEnded : {C : Type 0} → Search C → ℕ → Type 0
 IsEnded search target = (settled_of search.labels target ≡ true) ⊎ (search.queue ≡ [])
 
+none_from : {L : Type 0} (o : Option L) → ((l : L) → o ≡ Some l → ⊥) → o ≡ None
+none_from None f = refl
+none_from (Some l) f = absurd (f l refl)
+
 by_label : {L : Type 0} {P : Type 0} {Q : L → Type 0} (o : Option L) → (o ≡ None → P) → ((l : L) → o ≡ Some l → Q l) → MatchOption o P Q
 by_label None p q = p refl
 by_label (Some l) p q = q l refl
@@ -66,6 +70,11 @@ module _ {C : Type 0} {ops : CostOps C} (laws : CostLaws ops) (S : Space C) (sta
 
   pub done_empty : search.queue ≡ [] → IsDone ops S starts search target
   done_empty e = done laws S starts search under_way target (inr e)
+
+  -- where nothing is left to settle no path leads to what isn't settled
+  pub no_path_left : search.queue ≡ [] → settled_of search.labels target ≡ false → NoPathTo ops S starts target
+  no_path_left e s = no_path laws S starts search under_way target (inr e)
+      (none_from (label_of search.labels target) (λ l h. nothing_in search.queue (l.cost, target) e (under_way.front.queued target l s h)))
 
 module _ {C : Type 0} (ops : CostOps C) (S : Space C) (starts : List (Start C)) (search : Search C) (under_way : IsUnderWay ops S starts search) (target : ℕ) (done : IsDone ops S starts search target) where
   -- where a search that is done with the target has no label of it there is no path

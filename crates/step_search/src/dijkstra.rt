@@ -4,7 +4,7 @@ ghost use Rattle.std.specs.Prelude.{◌≡◌, ℕ, ◌<◌, ◌^◌, List, [], 
 ghost use Rattle.std.specs.Bool.{OnTrue, OnFalse};
 ghost use Rattle.std.specs.List.{Contains, slice_get};
 ghost use Rattle.step_search.specs.Spaces.{HasHop, IsSpace};
-ghost use Rattle.step_search.specs.Paths.{AreStarts, IsAnswer, IsBeyond, IsLeastPathCost};
+ghost use Rattle.step_search.specs.Paths.{AreStarts, IsAnswer, IsBeyond, IsLeastPathCost, NoPathTo};
 ghost use Rattle.step_search.specs.Labelled.{label_of, settled_of, changed};
 ghost use Rattle.step_search.specs.Queued.{Adds};
 ghost use Rattle.step_search.specs.Progress.{LabelWithin, Expanded, IsBackward, IsFront, IsTrail};
@@ -136,6 +136,34 @@ impl<C: Cost> Search<C> {
         Ok(true)
     }
 
+    /// Goes on until one of the targets is settled, and gives the place among them of one that is, or `None` where
+    /// nothing is left to settle: then no path leads to any of them. It ends in the error where memory runs out, and
+    /// the search is then of no use any more.
+    ///
+    /// `steps` and `starts` are those with which the search began. Before each vertex it looks at all targets, so there
+    /// should be few.
+    pub fn run_first<T: Steps<C>>(
+        &mut self,
+        steps: &T,
+        starts: &[Start<C>],
+        targets: &[u32],
+    ) -> Result<Option<usize>, AllocError>
+        requires ready { T.ready steps.now }
+        requires under_way { IsUnderWay C.ops (T.space steps.now) starts.now self.old }
+        ensures under_way { OnOk result (IsUnderWay C.ops (T.space steps.now) starts.now self.new) }
+        ensures first { IfOk result (λ first. IfSome first (λ k. (t : ℕ) × (slice_get targets.now k ≡ Some t) × IsDone C.ops (T.space steps.now) starts.now self.new t)) }
+        ensures none { IfOk result (λ first. IfNone first ((t : ℕ) → Contains targets.now t → NoPathTo C.ops (T.space steps.now) starts.now t)) }
+    {
+        loop {
+            if let Some(first) = self.first_settled(targets) {
+                return Ok(Some(first));
+            }
+            if !self.settle_next(steps, starts)? {
+                return Ok(None);
+            }
+        }
+    }
+
     /// A cheapest path to `target`, or `None` exactly where there is none, once the search has run until it.
     /// It answers the error where memory runs out.
     ///
@@ -223,6 +251,19 @@ impl<C: Cost> Search<C> {
         Ok(())
     }
 
+    // The place of the first of the targets that is settled, if one is.
+    fn first_settled(&self, targets: &[u32]) -> Option<usize>
+        ensures some { IfSome result (λ k. (t : ℕ) × (slice_get targets.now k ≡ Some t) × (settled_of self.now.labels t ≡ true)) }
+        ensures none { IfNone result ((t : ℕ) → Contains targets.now t → settled_of self.now.labels t ≡ false) }
+    {
+        for (place, target) in targets.iter().enumerate() {
+            if self.labels.is_settled(*target) {
+                return Some(place);
+            }
+        }
+        None
+    }
+
     // Settles the nearest vertex, and tells whether one was left to settle.
     #[inline(always)]
     fn settle_next<T: Steps<C>>(
@@ -235,6 +276,7 @@ impl<C: Cost> Search<C> {
         ensures under_way { OnOk result (IsUnderWay C.ops (T.space steps.now) starts.now self.new) }
         ensures fewer { IfOk result (λ more. OnTrue more (FewerOpen (T.space steps.now) self.old self.new)) }
         ensures empty { IfOk result (λ more. OnFalse more (self.new.queue ≡ [])) }
+        ensures labels { IfOk result (λ more. OnFalse more (self.new.labels ≡ self.old.labels)) }
     {
         let _ = starts;
         match self.nearest() {

@@ -116,3 +116,19 @@ fn a_search_that_begins_anew_forgets_where_it_began(rt: HostRuntime) -> Result<(
     assert_eq!(rt; search.cost(&ring, &second, 1), Some(cost(8, 3)));
     Ok(())
 }
+
+#[test]
+fn the_nearer_of_two_targets_is_told_first(rt: HostRuntime) -> Result<(), AllocError> {
+    let ring = ring_of_six(rt.alloc())?;
+    let starts = [Start {
+        vertex: 0,
+        cost: cost(1, 0),
+    }];
+    let mut search = Search::new(rt.alloc());
+    search.restart(&ring, &starts)?;
+    let first = search.run_first(&ring, &starts, &[3, 4, 2])?;
+    assert_eq!(rt; first, Some(2));
+    let none = search.run_first(&ring, &starts, &[3])?;
+    assert_eq!(rt; none, None);
+    Ok(())
+}
