@@ -8,7 +8,7 @@ use Rattle.search_graph.specs.OrderLaws.{le_trans}
 use Rattle.step_search.specs.Spaces.{Space}
 use Rattle.step_search.specs.Paths.{IsBeyond, IsPathTo, IsLeastPath, NoPathTo}
 use Rattle.step_search.specs.Labelled.{label_of, settled_of}
-use Rattle.step_search.specs.Progress.{IsTrail}
+use Rattle.step_search.specs.Progress.{IsTrail, LabelWithin}
 use Rattle.step_search.specs.UnderWay.{IsUnderWay, IsDone}
 use Rattle.step_search.specs.declared.labels.Label.{Label}
 use Rattle.step_search.specs.declared.dijkstra.Search.{Search}
@@ -75,6 +75,12 @@ module _ {C : Type 0} {ops : CostOps C} (laws : CostLaws ops) (S : Space C) (sta
   pub no_path_left : search.queue ≡ [] → settled_of search.labels target ≡ false → NoPathTo ops S starts target
   no_path_left e s = no_path laws S starts search under_way target (inr e)
       (none_from (label_of search.labels target) (λ l h. nothing_in search.queue (l.cost, target) e (under_way.front.queued target l s h)))
+
+-- a label that costs no more than what no path undercuts
+pub done_within : {C : Type 0} {ops : CostOps C} (laws : CostLaws ops) (S : Space C) (starts : List (Start C)) (search : Search C) (target : ℕ) (known : C) → LabelWithin ops (label_of search.labels) target known → IsBeyond ops S starts target known → IsDone ops S starts search target
+done_within {C} {ops} laws S starts search target known within far =
+    subst (λ (o : Option (Label C)). MatchOption o (NoPathTo ops S starts target) (λ l. IsBeyond ops S starts target l.cost)) (sym within.1)
+    (λ walk d p. le_trans laws within.0.cost known d within.2 (far walk d p))
 
 module _ {C : Type 0} (ops : CostOps C) (S : Space C) (starts : List (Start C)) (search : Search C) (under_way : IsUnderWay ops S starts search) (target : ℕ) (done : IsDone ops S starts search target) where
   -- where a search that is done with the target has no label of it there is no path

@@ -164,6 +164,36 @@ impl<C: Cost> Search<C> {
         }
     }
 
+    /// Goes on until it has a path to `until` that costs no more than `known`, than which no path to it costs less, or
+    /// `until` is settled, or nothing is left to settle. It ends in the error where memory runs out, and the search is
+    /// then of no use any more.
+    ///
+    /// `steps` and `starts` are those with which the search began. Where `known` is what a cheapest path costs, the
+    /// search needn't come as far as `until`: it ends as soon as a neighbour leads there at that cost.
+    pub fn run_to<T: Steps<C>>(
+        &mut self,
+        steps: &T,
+        starts: &[Start<C>],
+        until: u32,
+        known: C,
+    ) -> Result<(), AllocError>
+        requires ready { T.ready steps.now }
+        requires under_way { IsUnderWay C.ops (T.space steps.now) starts.now self.old }
+        requires known { IsBeyond C.ops (T.space steps.now) starts.now until known }
+        ensures under_way { OnOk result (IsUnderWay C.ops (T.space steps.now) starts.now self.new) }
+        ensures done { OnOk result (IsDone C.ops (T.space steps.now) starts.now self.new until) }
+    {
+        while !self.labels.is_settled(until) {
+            if self.is_within(until, known) {
+                return Ok(());
+            }
+            if !self.settle_next(steps, starts)? {
+                return Ok(());
+            }
+        }
+        Ok(())
+    }
+
     /// A cheapest path to `target`, or `None` exactly where there is none, once the search has run until it.
     /// It answers the error where memory runs out.
     ///
@@ -439,6 +469,13 @@ impl<C: Cost> Search<C> {
         self.labels.put(v, label)?;
         self.queue.push(label.cost, v)?;
         Ok(())
+    }
+
+    // Whether the vertex has a label that costs no more than `cost`.
+    fn is_within(&self, v: u32, cost: C) -> bool
+        ensures yes { OnTrue result (LabelWithin C.ops (label_of self.now.labels) v cost) }
+    {
+        !self.improves(v, cost)
     }
 
     // Whether `cost` is less than what the vertex's label costs, or it has none.

@@ -132,3 +132,23 @@ fn the_nearer_of_two_targets_is_told_first(rt: HostRuntime) -> Result<(), AllocE
     assert_eq!(rt; none, None);
     Ok(())
 }
+
+#[test]
+fn what_is_known_to_be_least_ends_the_search(rt: HostRuntime) -> Result<(), AllocError> {
+    let ring = ring_of_six(rt.alloc())?;
+    let starts = [Start {
+        vertex: 0,
+        cost: cost(1, 0),
+    }];
+    let mut search = Search::begin(rt.alloc(), &ring, &starts)?;
+    search.run(&ring, &starts, 4)?;
+    match search.cost(&ring, &starts, 4) {
+        Some(known) => {
+            search.restart(&ring, &starts)?;
+            search.run_to(&ring, &starts, 4, known)?;
+            assert_eq!(rt; search.cost(&ring, &starts, 4), Some(cost(11, 4)));
+        }
+        None => assert!(rt; false, "there is a way to 4"),
+    }
+    Ok(())
+}
