@@ -9,23 +9,13 @@ use Rattle.step_search.specs.Spaces.{Space, IsSpace}
 use Rattle.step_search.specs.Paths.{AreStarts}
 use Rattle.step_search.specs.Labelled.{changed, label_of, settled_of}
 use Rattle.step_search.specs.Progress.{HasNode, IsNode, IsTree, Expanded, NodesExpanded, StartsIn, IsFront}
-use Rattle.step_search.specs.Stepping.{IsFresh, IsTaken, Settles, Begins, node_of, start_node}
+use Rattle.step_search.specs.Stepping.{IsFresh, IsTaken, Settles, Begins, FewerOpen, node_of, one_if_open, open_below, start_node}
 use Rattle.step_search.specs.UnderWay.{IsUnderWay, IsBegun}
 use Rattle.step_search.specs.declared.labels.Label.{Label}
 use Rattle.step_search.specs.declared.dijkstra.Node.{Node}
 use Rattle.step_search.specs.declared.dijkstra.Search.{Search}
 use Rattle.step_search.proofs.Falls.{same_place, changed-here, changed-there, NodesExpanded-falls}
 use Rattle.step_search.proofs.Grown.{HasNode-left, HasNode-last, StartsIn-left, IsTree-push, NodesExpanded-push}
-
--- one for a vertex that isn't settled
-abbrev pub one_if_open : Bool → ℕ
-one_if_open true = 0
-one_if_open false = 1
-
--- how many of the first n vertices aren't settled
-abbrev pub open_below : (ℕ → Bool) → ℕ → ℕ
-open_below settled zero = 0
-open_below settled (suc n) = one_if_open (settled n) + open_below settled n
 
 fewer_here : (a b c d : ℕ) → a ≡ 0 → b ≡ 1 → c ≡ d → a + c < b + d
 fewer_here a b c d p q r = omega arith
@@ -79,7 +69,7 @@ module _ {C : Type 0} {ops : CostOps C} (laws : CostLaws ops) (S : Space C) (sta
     }
 
     -- and one vertex fewer is open
-    pub settled_fewer : open_below (settled_of new.labels) S.vertices < open_below (settled_of old.labels) S.vertices
+    pub settled_fewer : FewerOpen S old new
     settled_fewer =
         let m = taken.front.labelled v settles.label settles.had in
         subst (λ (f : ℕ → Bool). open_below f S.vertices < open_below (settled_of old.labels) S.vertices) (sym settles.settled)

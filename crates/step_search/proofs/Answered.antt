@@ -1,5 +1,5 @@
 -- The answer to a target that is settled, or when nothing is left to settle.
-use Rattle.std.proofs.Common.{◌≡◌, ℕ, ◌<◌, inl, inr, false, Some, None, List, [], ◌∷◌, ◌++◌, reverse, refl, sym, ◌∙◌, ap, subst, arith}
+use Rattle.std.proofs.Common.{◌≡◌, ℕ, ◌<◌, ◌⊎◌, inl, inr, true, false, Some, None, Option, MatchOption, List, [], ◌∷◌, ◌++◌, reverse, refl, sym, ◌∙◌, ap, subst, arith}
 use Rattle.std.specs.List.{Contains}
 use Rattle.std.proofs.lemmas.Option.{same_Some, none-some}
 use Rattle.search_graph.specs.Costs.{CostOps, CostLaws, NoDearer}
@@ -8,7 +8,7 @@ use Rattle.search_graph.specs.OrderLaws.{le_trans}
 use Rattle.step_search.specs.Spaces.{Space}
 use Rattle.step_search.specs.Paths.{IsBeyond, IsPathTo, IsLeastPath, NoPathTo}
 use Rattle.step_search.specs.Labelled.{label_of, settled_of}
-use Rattle.step_search.specs.Progress.{IsTrail}
+use Rattle.step_search.specs.Progress.{IsTrail, LabelWithin}
 use Rattle.step_search.specs.UnderWay.{IsUnderWay, IsDone}
 use Rattle.step_search.specs.declared.labels.Label.{Label}
 use Rattle.step_search.specs.declared.dijkstra.Search.{Search}
@@ -18,13 +18,25 @@ use Rattle.step_search.proofs.Trails.{trail_of, trail_exists}
 nothing_in : {E : Type 0} (xs : List E) (x : E) → xs ≡ [] → Contains xs x → ⊥
 nothing_in xs x e h = let none : Contains [] x = subst (λ ys. Contains ys x) e h in let lt : none.0 < 0 = none.1 in omega arith
 
-module _ {C : Type 0} {ops : CostOps C} (laws : CostLaws ops) (S : Space C) (starts : List (Start C)) (search : Search C) (under_way : IsUnderWay ops S starts search) (target : ℕ) (done : IsDone search target) where
+-- the vertex is settled, or nothing is left to settle
+abbrev IsEnded : {C : Type 0} → Search C → ℕ → Type 0
+IsEnded search target = (settled_of search.labels target ≡ true) ⊎ (search.queue ≡ [])
+
+none_from : {L : Type 0} (o : Option L) → ((l : L) → o ≡ Some l → ⊥) → o ≡ None
+none_from None f = refl
+none_from (Some l) f = absurd (f l refl)
+
+by_label : {L : Type 0} {P : Type 0} {Q : L → Type 0} (o : Option L) → (o ≡ None → P) → ((l : L) → o ≡ Some l → Q l) → MatchOption o P Q
+by_label None p q = p refl
+by_label (Some l) p q = q l refl
+
+module _ {C : Type 0} {ops : CostOps C} (laws : CostLaws ops) (S : Space C) (starts : List (Start C)) (search : Search C) (under_way : IsUnderWay ops S starts search) (target : ℕ) (ended : IsEnded search target) where
   -- a vertex without a label can't be reached
-  pub no_path : label_of search.labels target ≡ None → NoPathTo ops S starts target
+  no_path : label_of search.labels target ≡ None → NoPathTo ops S starts target
   no_path none walk d p =
       elim (path_far laws S under_way.space starts under_way.fit search.tree.items under_way.tree (label_of search.labels) (settled_of search.labels) search.queue under_way.front under_way.expanded
       (λ c. ⊥) (λ c e f g. f)
-      (λ v l s h. elim done [
+      (λ v l s h. elim ended [
         | inl k ↦ let r = under_way.front.in_tree target k in none-some r.0 (sym none ∙ r.1)
         | inr k ↦ nothing_in search.queue (l.cost, v) k (under_way.front.queued v l s h)
       ])
@@ -35,11 +47,11 @@ module _ {C : Type 0} {ops : CostOps C} (laws : CostLaws ops) (S : Space C) (sta
 
   module _ (l : Label C) (has : label_of search.labels target ≡ Some l) where
     -- no path costs less than the label
-    pub label_is_least : (walk : List ℕ) (d : C) → IsPathTo ops S starts target walk d → NoDearer ops l.cost d
+    label_is_least : (walk : List ℕ) (d : C) → IsPathTo ops S starts target walk d → NoDearer ops l.cost d
     label_is_least walk d p =
         elim (path_far laws S under_way.space starts under_way.fit search.tree.items under_way.tree (label_of search.labels) (settled_of search.labels) search.queue under_way.front under_way.expanded
         (λ c. NoDearer ops l.cost c) (λ c e f g. le_trans laws l.cost c e f g)
-        (λ v m s h. elim done [
+        (λ v m s h. elim ended [
           | inl k ↦ under_way.front.ordered m.cost v (under_way.front.queued v m s h) target l k has
           | inr k ↦ absurd (nothing_in search.queue (m.cost, v) k (under_way.front.queued v m s h))
         ])
@@ -47,6 +59,38 @@ module _ {C : Type 0} {ops : CostOps C} (laws : CostLaws ops) (S : Space C) (sta
           | inl w ↦ let e : w.0 ≡ l = same_Some w.0 l (sym w.1 ∙ has) in subst (λ (x : Label C). NoDearer ops x.cost d) e w.2
           | inr f ↦ f
         ]
+
+  -- so that the search is done with the target
+  done : IsDone ops S starts search target
+  done = by_label (label_of search.labels target) no_path label_is_least
+
+module _ {C : Type 0} {ops : CostOps C} (laws : CostLaws ops) (S : Space C) (starts : List (Start C)) (search : Search C) (under_way : IsUnderWay ops S starts search) (target : ℕ) where
+  pub done_settled : true ≡ settled_of search.labels target → IsDone ops S starts search target
+  done_settled s = done laws S starts search under_way target (inl (sym s))
+
+  pub done_empty : search.queue ≡ [] → IsDone ops S starts search target
+  done_empty e = done laws S starts search under_way target (inr e)
+
+  -- where nothing is left to settle no path leads to what isn't settled
+  pub no_path_left : search.queue ≡ [] → settled_of search.labels target ≡ false → NoPathTo ops S starts target
+  no_path_left e s = no_path laws S starts search under_way target (inr e)
+      (none_from (label_of search.labels target) (λ l h. nothing_in search.queue (l.cost, target) e (under_way.front.queued target l s h)))
+
+-- a label that costs no more than what no path undercuts
+pub done_within : {C : Type 0} {ops : CostOps C} (laws : CostLaws ops) (S : Space C) (starts : List (Start C)) (search : Search C) (target : ℕ) (known : C) → LabelWithin ops (label_of search.labels) target known → IsBeyond ops S starts target known → IsDone ops S starts search target
+done_within {C} {ops} laws S starts search target known within far =
+    subst (λ (o : Option (Label C)). MatchOption o (NoPathTo ops S starts target) (λ l. IsBeyond ops S starts target l.cost)) (sym within.1)
+    (λ walk d p. le_trans laws within.0.cost known d within.2 (far walk d p))
+
+module _ {C : Type 0} (ops : CostOps C) (S : Space C) (starts : List (Start C)) (search : Search C) (under_way : IsUnderWay ops S starts search) (target : ℕ) (done : IsDone ops S starts search target) where
+  -- where a search that is done with the target has no label of it there is no path
+  pub done_none : label_of search.labels target ≡ None → NoPathTo ops S starts target
+  done_none none = subst (λ (o : Option (Label C)). MatchOption o (NoPathTo ops S starts target) (λ l. IsBeyond ops S starts target l.cost)) none done
+
+  module _ (l : Label C) (has : label_of search.labels target ≡ Some l) where
+    -- and the label that it has is the least cost
+    done_some : IsBeyond ops S starts target l.cost
+    done_some = subst (λ (o : Option (Label C)). MatchOption o (NoPathTo ops S starts target) (λ l. IsBeyond ops S starts target l.cost)) has done
 
     -- and the trail of its node, with the target at its end, leads there at its cost
     pub trail_leads : (trail : List ℕ) → IsTrail search.tree.items (Some l.node) trail → IsPathTo ops S starts target (reverse trail ++ target ∷ []) l.cost
@@ -68,7 +112,7 @@ module _ {C : Type 0} {ops : CostOps C} (laws : CostLaws ops) (S : Space C) (sta
     pub least_path : (trail back walk : List ℕ) → IsTrail search.tree.items (Some l.node) trail → back ≡ reverse trail → walk ≡ back ++ target ∷ [] → IsLeastPath ops S starts target walk l.cost
     least_path trail back walk t e d = record {
       leads = subst (λ (x : List ℕ). IsPathTo ops S starts target x l.cost) (sym (d ∙ ap (λ (x : List ℕ). x ++ target ∷ []) e)) (trail_leads trail t);
-      least = label_is_least;
+      least = done_some;
     }
 
     -- there is such a trail

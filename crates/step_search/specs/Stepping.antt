@@ -1,5 +1,5 @@
 -- Private to this crate: what the private functions of the search do, one step each.
-use Rattle.std.specs.Prelude.{◌≡◌, ℕ, ◌<◌, ◌^◌, ◌⊎◌, Bool, true, false, List, [], ◌∷◌, ◌++◌, Option, Some, None}
+use Rattle.std.specs.Prelude.{◌≡◌, ℕ, zero, suc, ◌+◌, ◌<◌, ◌^◌, ◌⊎◌, Bool, true, false, List, [], ◌∷◌, ◌++◌, Option, Some, None}
 use Rattle.std.specs.List.{Contains, slice_get}
 use Rattle.std.specs.declared.cmp.Ordering.TheVariants.{Less}
 use Rattle.search_graph.specs.Costs.{CostOps}
@@ -91,3 +91,17 @@ pub record Begins {C : Type 0} (ops : CostOps C) (S : Space C) (old new : Search
   pub grows : (S.May s.vertex × (new.tree.items ≡ old.tree.items ++ start_node s ∷ []) × Expanded ops S (label_of new.labels) s.vertex s.cost) ⊎ ((¬ S.May s.vertex) × (new.tree.items ≡ old.tree.items))
   pub falls : LabelsFall ops (label_of old.labels) (label_of new.labels)
   pub settled : settled_of new.labels ≡ settled_of old.labels
+
+-- one for a vertex that isn't settled
+abbrev pub one_if_open : Bool → ℕ
+one_if_open true = 0
+one_if_open false = 1
+
+-- how many of the first n vertices aren't settled
+abbrev pub open_below : (ℕ → Bool) → ℕ → ℕ
+open_below settled zero = 0
+open_below settled (suc n) = one_if_open (settled n) + open_below settled n
+
+-- fewer vertices of the space are open in new than in old
+abbrev pub FewerOpen : {C : Type 0} → Space C → Search C → Search C → Type 0
+FewerOpen S old new = open_below (settled_of new.labels) S.vertices < open_below (settled_of old.labels) S.vertices

@@ -4,11 +4,11 @@ ghost use Rattle.std.specs.Prelude.{◌≡◌, ℕ, ◌<◌, ◌^◌, List, [], 
 ghost use Rattle.std.specs.Bool.{OnTrue, OnFalse};
 ghost use Rattle.std.specs.List.{Contains, slice_get};
 ghost use Rattle.step_search.specs.Spaces.{HasHop, IsSpace};
-ghost use Rattle.step_search.specs.Paths.{AreStarts, IsAnswer, IsBeyond, IsLeastPathCost};
+ghost use Rattle.step_search.specs.Paths.{AreStarts, IsAnswer, IsBeyond, IsLeastPathCost, NoPathTo};
 ghost use Rattle.step_search.specs.Labelled.{label_of, settled_of, changed};
 ghost use Rattle.step_search.specs.Queued.{Adds};
 ghost use Rattle.step_search.specs.Progress.{LabelWithin, Expanded, IsBackward, IsFront, IsTrail};
-ghost use Rattle.step_search.specs.Stepping.{Begins, Improves, IsAtWork, IsFresh, IsNearest, IsTaken, NoneSettled, Offers, OnlyFalls, Settles, Skips};
+ghost use Rattle.step_search.specs.Stepping.{Begins, FewerOpen, Improves, IsAtWork, IsFresh, IsNearest, IsTaken, NoneSettled, Offers, OnlyFalls, Settles, Skips};
 ghost use Rattle.step_search.specs.UnderWay.{IsUnderWay, IsDone};
 
 use crate::hops::{Hop, Steps};
@@ -43,6 +43,15 @@ pub struct Search<C: Cost> {
 }
 
 impl<C: Cost> Search<C> {
+    /// A search that has not begun. It has the memory in which others begin, by `restart`.
+    pub fn new(alloc: Global) -> Search<C> {
+        Search {
+            tree: Vec::new(alloc),
+            labels: Labels::new(alloc),
+            queue: Queue::new(alloc),
+        }
+    }
+
     /// A search that has begun at each start where a path may begin, or the error where memory runs out.
     pub fn begin<T: Steps<C>>(
         alloc: Global,
@@ -54,12 +63,8 @@ impl<C: Cost> Search<C> {
         requires starts { AreStarts C.ops (T.space steps.now) starts.now }
         ensures { IfOk result (IsUnderWay C.ops (T.space steps.now) starts.now) }
     {
-        let mut search = Search {
-            tree: Vec::new(alloc),
-            labels: Labels::new(alloc),
-            queue: Queue::new(alloc),
-        };
-        search.begin_all(steps, starts)?;
+        let mut search = Search::new(alloc);
+        search.restart(steps, starts)?;
         Ok(search)
     }
 
@@ -92,13 +97,11 @@ impl<C: Cost> Search<C> {
         requires ready { T.ready steps.now }
         requires under_way { IsUnderWay C.ops (T.space steps.now) starts.now self.old }
         ensures under_way { OnOk result (IsUnderWay C.ops (T.space steps.now) starts.now self.new) }
-        ensures done { OnOk result (IsDone self.new until) }
+        ensures done { OnOk result (IsDone C.ops (T.space steps.now) starts.now self.new until) }
     {
-        let _ = starts;
         while !self.labels.is_settled(until) {
-            match self.nearest() {
-                Some(v) => self.settle(steps, v)?,
-                None => return Ok(()),
+            if !self.settle_next(steps, starts)? {
+                return Ok(());
             }
         }
         Ok(())
@@ -119,20 +122,76 @@ impl<C: Cost> Search<C> {
         requires ready { T.ready steps.now }
         requires under_way { IsUnderWay C.ops (T.space steps.now) starts.now self.old }
         ensures under_way { OnOk result (IsUnderWay C.ops (T.space steps.now) starts.now self.new) }
-        ensures done { IfOk result (λ done. OnTrue done (IsDone self.new until)) }
+        ensures done { IfOk result (λ done. OnTrue done (IsDone C.ops (T.space steps.now) starts.now self.new until)) }
         ensures beyond { IfOk result (λ done. OnFalse done (IsBeyond C.ops (T.space steps.now) starts.now until limit)) }
     {
-        let _ = starts;
         while !self.labels.is_settled(until) {
             if self.queue.is_beyond(limit) {
                 return Ok(false);
             }
-            match self.nearest() {
-                Some(v) => self.settle(steps, v)?,
-                None => return Ok(true),
+            if !self.settle_next(steps, starts)? {
+                return Ok(true);
             }
         }
         Ok(true)
+    }
+
+    /// Goes on until one of the targets is settled, and gives the place among them of one that is, or `None` where
+    /// nothing is left to settle: then no path leads to any of them. It ends in the error where memory runs out, and
+    /// the search is then of no use any more.
+    ///
+    /// `steps` and `starts` are those with which the search began. Before each vertex it looks at all targets, so there
+    /// should be few.
+    pub fn run_first<T: Steps<C>>(
+        &mut self,
+        steps: &T,
+        starts: &[Start<C>],
+        targets: &[u32],
+    ) -> Result<Option<usize>, AllocError>
+        requires ready { T.ready steps.now }
+        requires under_way { IsUnderWay C.ops (T.space steps.now) starts.now self.old }
+        ensures under_way { OnOk result (IsUnderWay C.ops (T.space steps.now) starts.now self.new) }
+        ensures first { IfOk result (λ first. IfSome first (λ k. (t : ℕ) × (slice_get targets.now k ≡ Some t) × IsDone C.ops (T.space steps.now) starts.now self.new t)) }
+        ensures none { IfOk result (λ first. IfNone first ((t : ℕ) → Contains targets.now t → NoPathTo C.ops (T.space steps.now) starts.now t)) }
+    {
+        loop {
+            if let Some(first) = self.first_settled(targets) {
+                return Ok(Some(first));
+            }
+            if !self.settle_next(steps, starts)? {
+                return Ok(None);
+            }
+        }
+    }
+
+    /// Goes on until it has a path to `until` that costs no more than `known`, than which no path to it costs less, or
+    /// `until` is settled, or nothing is left to settle. It ends in the error where memory runs out, and the search is
+    /// then of no use any more.
+    ///
+    /// `steps` and `starts` are those with which the search began. Where `known` is what a cheapest path costs, the
+    /// search needn't come as far as `until`: it ends as soon as a neighbour leads there at that cost.
+    pub fn run_to<T: Steps<C>>(
+        &mut self,
+        steps: &T,
+        starts: &[Start<C>],
+        until: u32,
+        known: C,
+    ) -> Result<(), AllocError>
+        requires ready { T.ready steps.now }
+        requires under_way { IsUnderWay C.ops (T.space steps.now) starts.now self.old }
+        requires known { IsBeyond C.ops (T.space steps.now) starts.now until known }
+        ensures under_way { OnOk result (IsUnderWay C.ops (T.space steps.now) starts.now self.new) }
+        ensures done { OnOk result (IsDone C.ops (T.space steps.now) starts.now self.new until) }
+    {
+        while !self.labels.is_settled(until) {
+            if self.is_within(until, known) {
+                return Ok(());
+            }
+            if !self.settle_next(steps, starts)? {
+                return Ok(());
+            }
+        }
+        Ok(())
     }
 
     /// A cheapest path to `target`, or `None` exactly where there is none, once the search has run until it.
@@ -147,7 +206,7 @@ impl<C: Cost> Search<C> {
         target: u32,
     ) -> Result<Option<Reached<C>>, AllocError>
         requires under_way { IsUnderWay C.ops (T.space steps.now) starts.now self.now }
-        requires done { IsDone self.now target }
+        requires done { IsDone C.ops (T.space steps.now) starts.now self.now target }
         ensures { IfOk result (IsAnswer C.ops (T.space steps.now) starts.now target) }
     {
         let _ = steps;
@@ -172,7 +231,7 @@ impl<C: Cost> Search<C> {
     /// `steps` and `starts` are those with which the search began.
     pub fn cost<T: Steps<C>>(&self, steps: &T, starts: &[Start<C>], target: u32) -> Option<C>
         requires under_way { IsUnderWay C.ops (T.space steps.now) starts.now self.now }
-        requires done { IsDone self.now target }
+        requires done { IsDone C.ops (T.space steps.now) starts.now self.now target }
         ensures { IsLeastPathCost C.ops (T.space steps.now) starts.now target result }
     {
         let _ = steps;
@@ -220,6 +279,43 @@ impl<C: Cost> Search<C> {
         self.tree.push(node)?;
         self.expand(steps, at, node)?;
         Ok(())
+    }
+
+    // The place of the first of the targets that is settled, if one is.
+    fn first_settled(&self, targets: &[u32]) -> Option<usize>
+        ensures some { IfSome result (λ k. (t : ℕ) × (slice_get targets.now k ≡ Some t) × (settled_of self.now.labels t ≡ true)) }
+        ensures none { IfNone result ((t : ℕ) → Contains targets.now t → settled_of self.now.labels t ≡ false) }
+    {
+        for (place, target) in targets.iter().enumerate() {
+            if self.labels.is_settled(*target) {
+                return Some(place);
+            }
+        }
+        None
+    }
+
+    // Settles the nearest vertex, and tells whether one was left to settle.
+    #[inline(always)]
+    fn settle_next<T: Steps<C>>(
+        &mut self,
+        steps: &T,
+        starts: &[Start<C>],
+    ) -> Result<bool, AllocError>
+        requires ready { T.ready steps.now }
+        requires under_way { IsUnderWay C.ops (T.space steps.now) starts.now self.old }
+        ensures under_way { OnOk result (IsUnderWay C.ops (T.space steps.now) starts.now self.new) }
+        ensures fewer { IfOk result (λ more. OnTrue more (FewerOpen (T.space steps.now) self.old self.new)) }
+        ensures empty { IfOk result (λ more. OnFalse more (self.new.queue ≡ [])) }
+        ensures labels { IfOk result (λ more. OnFalse more (self.new.labels ≡ self.old.labels)) }
+    {
+        let _ = starts;
+        match self.nearest() {
+            Some(v) => {
+                self.settle(steps, v)?;
+                Ok(true)
+            }
+            None => Ok(false),
+        }
     }
 
     // Takes the entry of the least key whose vertex isn't settled, and gives the vertex.
@@ -373,6 +469,13 @@ impl<C: Cost> Search<C> {
         self.labels.put(v, label)?;
         self.queue.push(label.cost, v)?;
         Ok(())
+    }
+
+    // Whether the vertex has a label that costs no more than `cost`.
+    fn is_within(&self, v: u32, cost: C) -> bool
+        ensures yes { OnTrue result (LabelWithin C.ops (label_of self.now.labels) v cost) }
+    {
+        !self.improves(v, cost)
     }
 
     // Whether `cost` is less than what the vertex's label costs, or it has none.

@@ -116,3 +116,39 @@ fn a_search_that_begins_anew_forgets_where_it_began(rt: HostRuntime) -> Result<(
     assert_eq!(rt; search.cost(&ring, &second, 1), Some(cost(8, 3)));
     Ok(())
 }
+
+#[test]
+fn the_nearer_of_two_targets_is_told_first(rt: HostRuntime) -> Result<(), AllocError> {
+    let ring = ring_of_six(rt.alloc())?;
+    let starts = [Start {
+        vertex: 0,
+        cost: cost(1, 0),
+    }];
+    let mut search = Search::new(rt.alloc());
+    search.restart(&ring, &starts)?;
+    let first = search.run_first(&ring, &starts, &[3, 4, 2])?;
+    assert_eq!(rt; first, Some(2));
+    let none = search.run_first(&ring, &starts, &[3])?;
+    assert_eq!(rt; none, None);
+    Ok(())
+}
+
+#[test]
+fn what_is_known_to_be_least_ends_the_search(rt: HostRuntime) -> Result<(), AllocError> {
+    let ring = ring_of_six(rt.alloc())?;
+    let starts = [Start {
+        vertex: 0,
+        cost: cost(1, 0),
+    }];
+    let mut search = Search::begin(rt.alloc(), &ring, &starts)?;
+    search.run(&ring, &starts, 4)?;
+    match search.cost(&ring, &starts, 4) {
+        Some(known) => {
+            search.restart(&ring, &starts)?;
+            search.run_to(&ring, &starts, 4, known)?;
+            assert_eq!(rt; search.cost(&ring, &starts, 4), Some(cost(11, 4)));
+        }
+        None => assert!(rt; false, "there is a way to 4"),
+    }
+    Ok(())
+}

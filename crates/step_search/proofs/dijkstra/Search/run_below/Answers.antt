@@ -1,38 +1,16 @@
--- Each vertex that the queue gives up is settled, until the target is, the queue is empty, or each key is past the limit.
-use Rattle.std.proofs.Common.{◌<◌, subst, sym}
-use Rattle.step_search.specs.Labelled.{settled_of}
-use Rattle.step_search.proofs.Advanced.{open_below, settled_under_way, settled_fewer}
-use Rattle.step_search.proofs.Answered.{beyond}
-use Rattle.step_search.proofs.Taken.{skipped_under_way, taken_from_near, still_tree, still_expanded, still_starts}
+-- The search is done with a vertex that is settled, and with each once the queue is empty.
+use Rattle.std.proofs.Common.{sym}
+use Rattle.step_search.proofs.Answered.{beyond, done_settled, done_empty}
 use Rattle.step_search.proofs.dijkstra.Search.run_below.Goals as goal
-
-pub settle-requires-clause-taken : goal.settle-requires-clause-taken
-settle-requires-clause-taken g c =
-    taken_from_near g.met.C.Cost.laws (g.T.Steps.space c.args.steps.now) c.args.starts.now c.loop-limit.self c.loop-limit.invariant c.nearest.new.self c.in-Some.ensures.labels c.in-Some.ensures.tree c.in-Some.v c.in-Some.ensures.some
-
-pub loop-limit-smaller : goal.loop-limit-smaller
-loop-limit-smaller g c =
-    let taken = taken_from_near g.met.C.Cost.laws (g.T.Steps.space c.args.steps.now) c.args.starts.now c.loop-limit.self c.loop-limit.invariant c.nearest.new.self c.in-Some.ensures.labels c.in-Some.ensures.tree c.in-Some.v c.in-Some.ensures.some in
-    subst (λ x. open_below (settled_of c.settle.new.self.labels) (g.T.Steps.space c.args.steps.now).vertices < open_below (settled_of x) (g.T.Steps.space c.args.steps.now).vertices) c.in-Some.ensures.labels
-    (settled_fewer g.met.C.Cost.laws (g.T.Steps.space c.args.steps.now) c.args.starts.now c.nearest.new.self c.settle.new.self c.in_ok-settle-in-Some.ensures.front c.in-Some.v c.loop-limit.invariant.fit
-    (still_tree g.met.C.Cost.laws (g.T.Steps.space c.args.steps.now) c.args.starts.now c.loop-limit.self c.loop-limit.invariant c.nearest.new.self c.in-Some.ensures.labels c.in-Some.ensures.tree)
-    (still_expanded g.met.C.Cost.laws (g.T.Steps.space c.args.steps.now) c.args.starts.now c.loop-limit.self c.loop-limit.invariant c.nearest.new.self c.in-Some.ensures.labels c.in-Some.ensures.tree)
-    (still_starts g.met.C.Cost.laws (g.T.Steps.space c.args.steps.now) c.args.starts.now c.loop-limit.self c.loop-limit.invariant c.nearest.new.self c.in-Some.ensures.labels c.in-Some.ensures.tree)
-    taken c.in_ok-settle-in-Some.ensures.settles)
-
-pub loop-limit-preserved : goal.loop-limit-preserved
-loop-limit-preserved g c =
-    let taken = taken_from_near g.met.C.Cost.laws (g.T.Steps.space c.args.steps.now) c.args.starts.now c.loop-limit.self c.loop-limit.invariant c.nearest.new.self c.in-Some.ensures.labels c.in-Some.ensures.tree c.in-Some.v c.in-Some.ensures.some in
-    settled_under_way g.met.C.Cost.laws (g.T.Steps.space c.args.steps.now) c.args.starts.now c.nearest.new.self c.settle.new.self c.in_ok-settle-in-Some.ensures.front c.in-Some.v c.loop-limit.invariant.fit
-    (still_tree g.met.C.Cost.laws (g.T.Steps.space c.args.steps.now) c.args.starts.now c.loop-limit.self c.loop-limit.invariant c.nearest.new.self c.in-Some.ensures.labels c.in-Some.ensures.tree)
-    (still_expanded g.met.C.Cost.laws (g.T.Steps.space c.args.steps.now) c.args.starts.now c.loop-limit.self c.loop-limit.invariant c.nearest.new.self c.in-Some.ensures.labels c.in-Some.ensures.tree)
-    (still_starts g.met.C.Cost.laws (g.T.Steps.space c.args.steps.now) c.args.starts.now c.loop-limit.self c.loop-limit.invariant c.nearest.new.self c.in-Some.ensures.labels c.in-Some.ensures.tree)
-    taken c.in_ok-settle-in-Some.ensures.settles c.in_ok-settle-in-Some.ensures.expanded
-
-pub returns-in-None-clause-under_way : goal.returns-in-None-clause-under_way
-returns-in-None-clause-under_way g c =
-    skipped_under_way g.met.C.Cost.laws (g.T.Steps.space c.args.steps.now) c.args.starts.now c.loop-limit.self c.loop-limit.invariant c.nearest.new.self c.in-None.ensures.labels c.in-None.ensures.tree c.in-None.ensures.none
 
 pub returns-then-is_beyond-clause-beyond : goal.returns-then-is_beyond-clause-beyond
 returns-then-is_beyond-clause-beyond g c =
     beyond g.met.C.Cost.laws (g.T.Steps.space c.args.steps.now) c.args.starts.now c.loop-limit.self c.loop-limit.invariant c.args.until c.args.limit (sym c.loop-limit-test.ensures) c.if-is_beyond.ensures.yes
+
+pub returns-then-not-branch-clause-done : goal.returns-then-not-branch-clause-done
+returns-then-not-branch-clause-done g c =
+    done_empty g.met.C.Cost.laws (g.T.Steps.space c.args.steps.now) c.args.starts.now c.settle_next.new.self c.in_ok-settle_next.ensures.under_way c.args.until (rw c.if-not-branch.true at c.in_ok-settle_next.ensures.empty)
+
+pub returns-clause-done : goal.returns-clause-done
+returns-clause-done g c =
+    done_settled g.met.C.Cost.laws (g.T.Steps.space c.args.steps.now) c.args.starts.now c.loop-limit.self c.loop-limit.invariant c.args.until c.loop-limit-test.ensures

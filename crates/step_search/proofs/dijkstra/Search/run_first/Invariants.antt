@@ -1,0 +1,11 @@
+-- The search stays under way, with fewer and fewer open vertices.
+use Rattle.step_search.specs.Labelled.{settled_of}
+use Rattle.step_search.specs.Stepping.{open_below}
+use Rattle.step_search.specs.UnderWay.{IsUnderWay}
+use Rattle.step_search.proofs.dijkstra.Search.run_first.Given as goal
+
+abbrev pub invariant-loop-first : goal.invariant-loop-first
+invariant-loop-first g l = IsUnderWay g.C.Cost.ops (g.T.Steps.space l.steps) l.starts l.self
+
+abbrev pub decreases-loop-first : goal.decreases-loop-first
+decreases-loop-first g l = open_below (settled_of l.self.labels) (g.T.Steps.space l.steps).vertices
