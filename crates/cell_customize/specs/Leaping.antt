@@ -75,4 +75,5 @@ leap_space {C} S bundles hops = record {
   Arc = λ u i v c. IsLeapOf bundles u i × (slice_get hops i ≡ Some (record { head = v; cost = c }));
   heads = λ u. [];
   Costs = λ u j c. ⊥;
+  row = λ u. (0, 0);
 }

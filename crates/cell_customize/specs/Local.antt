@@ -65,4 +65,5 @@ local_space {C} S names spans hops heads = record {
   Arc = λ a i b s. IsHopOf spans a i × (slice_get hops i ≡ Some (record { head = b; cost = s }));
   heads = λ a. row_in heads (slice_get spans a);
   Costs = λ a j s. (u : ℕ) × (slice_get names a ≡ Some u) × HasPlaces spans a × S.Costs u j s;
+  row = λ a. (0, a);
 }

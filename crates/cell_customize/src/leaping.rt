@@ -45,4 +45,10 @@ impl<'a, 'b, C: Cost, T: Steps<C>> Steps<C> for Leaping<'a, 'b, C, T> {
         let _ = v;
         CostRow::empty()
     }
+
+    fn row(&self, v: u32) -> (u32, u32) {
+        let _ = &self.steps;
+        let _ = v;
+        (0, 0)
+    }
 }

@@ -47,6 +47,11 @@ impl<'a, 'b, C: Cost, T: Steps<C>> Steps<C> for Renamed<'a, 'b, C, T> {
         }
         self.steps.costs(self.local.numbers.name(v))
     }
+
+    fn row(&self, v: u32) -> (u32, u32) {
+        let _ = &self.steps;
+        (0, v)
+    }
 }
 
 // The numbers from one place up to another.

@@ -12,6 +12,10 @@ use Rattle.cell_frame.specs.Parts.{whole_at, ShareCell, part_cut}
 abbrev pub row_heads : Framed → (ℕ → ℕ) → ℕ → List ℕ
 row_heads f level u = if nat_eq (level u) 0 then [] else at_cell f.exits (whole_at f.cells level u)
 
+-- and the name of that row: the level of the part, and the number of its cell
+abbrev pub row_name : Framed → (ℕ → ℕ) → ℕ → ℕ × ℕ
+row_name f level u = if nat_eq (level u) 0 then (0, 0) else (level u, (whole_at f.cells level u).number)
+
 -- A path may begin at an open vertex that is alone or an entry of its part. Arcs lead from part to part, and out of an
 -- entry its row leads to the exits.
 abbrev pub part_space : {C : Type 0} → CostOps C → Framed → Weighting C → (ℕ → Type 0) → (ℕ → ℕ) → Space C
@@ -22,6 +26,7 @@ part_space {C} ops f w In level = record {
   Arc = λ u i v s. (a : C) × (x : C) × IsArc f.graph i u v × (slice_get w.arc i ≡ Some a) × IsOpen w v x × (s ≡ ops.plus a x) × In v × (¬ ShareCell f.cells level u v);
   heads = row_heads f level;
   Costs = λ u j s. (v : ℕ) × (slice_get (row_heads f level u) j ≡ Some v) × (part_cut ops f.graph f.cells w In level).Shortcut u v s;
+  row = row_name f level;
 }
 
 -- what is true of each search over parts: its cut is lawful, its hops are those over the parts, it can be searched, and

@@ -140,4 +140,14 @@ impl<'a, C: Cost, P: Parts> Steps<C> for Over<'a, C, P> {
         };
         self.cliques.row(self.frame, cell, i)
     }
+
+    fn row(&self, v: u32) -> (u32, u32) {
+        self.frame.known();
+        self.parts.known(self.frame);
+        let level = self.parts.level(self.frame, v);
+        if level == 0 {
+            return (0, 0);
+        }
+        (level, self.frame.cell(level, v).number)
+    }
 }

@@ -53,4 +53,9 @@ impl<'a, C: Cost> Steps<C> for Along<'a, C> {
         let _ = v;
         CostRow::empty()
     }
+
+    fn row(&self, v: u32) -> (u32, u32) {
+        let _ = v;
+        (0, 0)
+    }
 }

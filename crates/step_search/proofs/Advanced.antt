@@ -8,12 +8,13 @@ use Rattle.search_graph.specs.declared.ends.Start.{Start}
 use Rattle.step_search.specs.Spaces.{Space, IsSpace}
 use Rattle.step_search.specs.Paths.{AreStarts}
 use Rattle.step_search.specs.Labelled.{changed, label_of, settled_of}
-use Rattle.step_search.specs.Progress.{HasNode, IsNode, IsTree, Expanded, NodesExpanded, StartsIn, IsFront}
+use Rattle.step_search.specs.Progress.{HasNode, IsNode, IsTree, Expanded, NodesExpanded, StartsIn, IsFront, AreBounds}
 use Rattle.step_search.specs.Stepping.{IsFresh, IsTaken, Settles, Begins, FewerOpen, node_of, one_if_open, open_below, start_node}
 use Rattle.step_search.specs.UnderWay.{IsUnderWay, IsBegun}
 use Rattle.step_search.specs.declared.labels.Label.{Label}
 use Rattle.step_search.specs.declared.dijkstra.Node.{Node}
 use Rattle.step_search.specs.declared.dijkstra.Search.{Search}
+use Rattle.step_search.proofs.Bounded.{AreBounds-none}
 use Rattle.step_search.proofs.Falls.{same_place, changed-here, changed-there, NodesExpanded-falls}
 use Rattle.step_search.proofs.Grown.{HasNode-left, HasNode-last, StartsIn-left, IsTree-push, NodesExpanded-push}
 
@@ -57,8 +58,8 @@ module _ {C : Type 0} {ops : CostOps C} (laws : CostLaws ops) (S : Space C) (sta
         }
 
     -- once a vertex is settled the search is still under way
-    pub settled_under_way : ((l : Label C) → label_of old.labels v ≡ Some l → Expanded ops S (label_of new.labels) v l.cost) → IsUnderWay ops S starts new
-    settled_under_way opened = record {
+    pub settled_under_way : ((l : Label C) → label_of old.labels v ≡ Some l → Expanded ops S (label_of new.labels) v l.cost) → AreBounds ops S (label_of new.labels) new.rows.rows → IsUnderWay ops S starts new
+    settled_under_way opened rows = record {
       space = taken.space;
       fit = fit;
       tree = subst (λ (t : List (Node C)). IsTree ops S starts t) (sym settles.grows) (IsTree-push ops S starts old.tree.items (node_of v settles.label) is_tree settled_node);
@@ -66,6 +67,7 @@ module _ {C : Type 0} {ops : CostOps C} (laws : CostLaws ops) (S : Space C) (sta
       expanded = subst (λ (t : List (Node C)). NodesExpanded ops S t (label_of new.labels)) (sym settles.grows)
           (NodesExpanded-push ops S old.tree.items (node_of v settles.label) (label_of new.labels) (NodesExpanded-falls laws S old.tree.items (label_of old.labels) (label_of new.labels) settles.falls expanded) (opened settles.label settles.had));
       starts_in = subst (λ (t : List (Node C)). StartsIn S starts t) (sym settles.grows) (StartsIn-left S starts old.tree.items (node_of v settles.label) starts_in);
+      rows = rows;
     }
 
     -- and one vertex fewer is open
@@ -84,8 +86,8 @@ module _ {C : Type 0} {ops : CostOps C} (laws : CostLaws ops) (S : Space C) (sta
     }
 
     -- once the search has begun at one start more it has begun at all of these
-    pub begun_more : IsBegun ops S starts (done ++ s ∷ []) new
-    begun_more = elim begins.grows [
+    pub begun_more : AreBounds ops S (label_of new.labels) new.rows.rows → IsBegun ops S starts (done ++ s ∷ []) new
+    begun_more rows = elim begins.grows [
       | inl h ↦ record {
         space = begun.space;
         fit = begun.fit;
@@ -99,6 +101,7 @@ module _ {C : Type 0} {ops : CostOps C} (laws : CostLaws ops) (S : Space C) (sta
             | inr q ↦ subst (λ (x : Start C). HasNode (old.tree.items ++ start_node s ∷ []) x.vertex x.cost) q (HasNode-last old.tree.items (start_node s))
           ];
         });
+        rows = rows;
       }
       | inr h ↦ record {
         space = begun.space;
@@ -112,6 +115,7 @@ module _ {C : Type 0} {ops : CostOps C} (laws : CostLaws ops) (S : Space C) (sta
             | inr q ↦ absurd (h.0 (subst (λ (x : Start C). S.May x.vertex) (sym q) m))
           ];
         });
+        rows = rows;
       }
     ]
 
@@ -143,4 +147,5 @@ module _ {C : Type 0} (ops : CostOps C) (S : Space C) (starts : List (Start C)) 
     };
     expanded = record { each = λ i n h. absurd (no_node i n h) };
     starts_in = record { node = λ s h m. absurd (no_start s h) };
+    rows = AreBounds-none ops S (label_of search.labels) search.rows.rows fresh.rows;
   }

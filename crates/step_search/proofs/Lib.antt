@@ -1,8 +1,10 @@
 mod Advanced
 mod Answered
+mod Bounded
 mod Falls
 mod Far
 mod Grown
+mod Laid
 mod Offered
 mod Paged
 mod Queues

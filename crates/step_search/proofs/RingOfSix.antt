@@ -20,6 +20,7 @@ ring = record {
   Arc = λ u i v c. (i ≡ 0) × (v ≡ (u + 1) % 6) × (v ≢ 3) × (c.duration ≡ 3) × (c.length ≡ 1);
   heads = λ u. slice_range six u (u + 1);
   Costs = λ u j c. (j ≡ 0) × (u ≢ 1) × (c.duration ≡ 5) × (c.length ≡ 2);
+  row = λ u. (0, u);
 }
 
 below_six : (v w : ℕ) → v ≡ w % 6 → v < 6

@@ -6,7 +6,7 @@ use Rattle.search_graph.specs.OrderLaws.{le_trans}
 use Rattle.step_search.specs.Spaces.{Space}
 use Rattle.step_search.specs.Queued.{TakesLeast}
 use Rattle.step_search.specs.Labelled.{label_of, settled_of}
-use Rattle.step_search.specs.Progress.{IsFront, IsTree, NodesExpanded, StartsIn}
+use Rattle.step_search.specs.Progress.{IsFront, IsTree, NodesExpanded, StartsIn, AreBounds}
 use Rattle.step_search.specs.Stepping.{Skips, IsNearest, IsTaken}
 use Rattle.step_search.specs.UnderWay.{IsUnderWay}
 use Rattle.step_search.specs.declared.labels.Label.{Label}
@@ -52,9 +52,12 @@ module _ {C : Type 0} {ops : CostOps C} (laws : CostLaws ops) (S : Space C) (sta
   pub still_starts : StartsIn S starts mid.tree.items
   still_starts = subst (λ (t : List (Node C)). StartsIn S starts t) (sym tree) under_way.starts_in
 
+  pub still_rows : mid.rows ≡ old.rows → AreBounds ops S (label_of mid.labels) mid.rows.rows
+  still_rows rows = subst (λ (x : ℕ → Option (Label C)). AreBounds ops S x mid.rows.rows) (sym (ap label_of labels)) (subst (λ x. AreBounds ops S (label_of old.labels) x) (sym (ap (λ x. x.rows) rows)) under_way.rows)
+
   -- the search that has skipped entries is still under way
-  pub skipped_under_way : Skips (settled_of old.labels) old.queue mid.queue → IsUnderWay ops S starts mid
-  skipped_under_way k = record {
+  pub skipped_under_way : Skips (settled_of old.labels) old.queue mid.queue → mid.rows ≡ old.rows → IsUnderWay ops S starts mid
+  skipped_under_way k rows = record {
     space = under_way.space;
     fit = under_way.fit;
     tree = still_tree;
@@ -62,6 +65,7 @@ module _ {C : Type 0} {ops : CostOps C} (laws : CostLaws ops) (S : Space C) (sta
         (IsFront-skips (settled_of old.labels) ops S old.tree.items (label_of old.labels) old.queue mid.queue k under_way.front);
     expanded = still_expanded;
     starts_in = still_starts;
+    rows = still_rows rows;
   }
 
   module _ (v : ℕ) (near : IsNearest ops (settled_of old.labels) old.queue mid.queue v) where

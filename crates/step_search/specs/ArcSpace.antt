@@ -15,4 +15,5 @@ arc_space {C} ops g w = record {
   Arc = λ u i v s. (a : C) × (x : C) × IsArc g i u v × (slice_get w.arc i ≡ Some a) × IsOpen w v x × (s ≡ ops.plus a x);
   heads = λ u. [];
   Costs = λ u j s. ⊥;
+  row = λ u. (0, 0);
 }

@@ -4,6 +4,7 @@ use Rattle.std.specs.List.{Contains, slice_get}
 use Rattle.search_graph.specs.Costs.{CostOps, NoDearer}
 use Rattle.search_graph.specs.declared.ends.Start.{Start}
 use Rattle.step_search.specs.Spaces.{Space, HasHop, StepBy}
+use Rattle.step_search.specs.Rowed.{value_of}
 use Rattle.step_search.specs.declared.labels.Label.{Label}
 use Rattle.step_search.specs.declared.dijkstra.Node.{Node}
 
@@ -72,3 +73,7 @@ pub record NodesExpanded {C : Type 0} (ops : CostOps C) (S : Space C) (tree : Li
 -- each of these starts where a path may begin has a node
 pub record StartsIn {C : Type 0} (S : Space C) (starts : List (Start C)) (tree : List (Node C)) : Type 0 where
   pub node : (s : Start C) → Contains starts s → S.May s.vertex → HasNode tree s.vertex s.cost
+
+-- what is kept of each row bounds the labels of its heads
+pub record AreBounds {C : Type 0} (ops : CostOps C) (S : Space C) (label : ℕ → Option (Label C)) (rows : List (List (List (Option C)))) : Type 0 where
+  pub each : (u j w : ℕ) (d : C) → slice_get (S.heads u) j ≡ Some w → value_of rows (S.row u) j ≡ Some d → LabelWithin ops label w d

@@ -7,7 +7,7 @@ use Rattle.search_graph.specs.Walks.{Chain, Paying}
 -- The vertices are those below `vertices`, and a path may begin at those of `May`.
 -- Out of u lead hops of two kinds: by the arcs that `Name` names, `Arc u i v s` from u by arc i to v at the cost s,
 -- and by the places of a row: place j of `heads u` is where it leads, and `Costs u j s` says that it costs s; a place
--- without a cost is closed.
+-- without a cost is closed. `row u` is a name of the row out of u.
 -- What a hop costs has the cost of the vertex that it leads to in it.
 pub record Space (C : Type 0) : Type 1 where
   pub vertices : ℕ
@@ -16,6 +16,7 @@ pub record Space (C : Type 0) : Type 1 where
   pub Arc : ℕ → ℕ → ℕ → C → Type 0
   pub heads : ℕ → List ℕ
   pub Costs : ℕ → ℕ → C → Type 0
+  pub row : ℕ → ℕ × ℕ
 
 -- a hop of either kind leads from u to v at the cost s
 abbrev pub HasHop : {C : Type 0} → Space C → ℕ → ℕ → C → Type 0

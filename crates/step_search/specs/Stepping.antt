@@ -7,6 +7,7 @@ use Rattle.search_graph.specs.declared.ends.Start.{Start}
 use Rattle.step_search.specs.Spaces.{Space, IsSpace}
 use Rattle.step_search.specs.Queued.{Adds, TakesLeast}
 use Rattle.step_search.specs.Labelled.{label_of, settled_of, changed}
+use Rattle.step_search.specs.Rowed.{value_of}
 use Rattle.step_search.specs.Progress.{LabelWithin, LabelsFall, SettledWithin, Expanded, IsFront}
 use Rattle.step_search.specs.declared.labels.Label.{Label}
 use Rattle.step_search.specs.declared.dijkstra.Node.{Node}
@@ -22,6 +23,7 @@ pub record IsFresh {C : Type 0} (search : Search C) : Type 0 where
   pub unlabelled : (v : ℕ) → label_of search.labels v ≡ None
   pub unsettled : NoneSettled (settled_of search.labels)
   pub queue : search.queue ≡ []
+  pub rows : (row : ℕ × ℕ) (j : ℕ) → value_of search.rows.rows row j ≡ None
 
 -- c is less than what the label of v costs, if it has one
 abbrev pub Improves : {C : Type 0} → CostOps C → (ℕ → Option (Label C)) → ℕ → C → Type 0

@@ -7,7 +7,7 @@ ghost use Rattle.step_search.specs.Spaces.{HasHop, IsSpace};
 ghost use Rattle.step_search.specs.Paths.{AreStarts, IsAnswer, IsBeyond, IsLeastPathCost, NoPathTo};
 ghost use Rattle.step_search.specs.Labelled.{label_of, settled_of, changed};
 ghost use Rattle.step_search.specs.Queued.{Adds};
-ghost use Rattle.step_search.specs.Progress.{LabelWithin, Expanded, IsBackward, IsFront, IsTrail};
+ghost use Rattle.step_search.specs.Progress.{LabelWithin, Expanded, IsBackward, IsFront, IsTrail, AreBounds};
 ghost use Rattle.step_search.specs.Stepping.{Begins, FewerOpen, Improves, IsAtWork, IsFresh, IsNearest, IsTaken, NoneSettled, Offers, OnlyFalls, Settles, Skips};
 ghost use Rattle.step_search.specs.UnderWay.{IsUnderWay, IsDone};
 
@@ -15,6 +15,7 @@ use crate::hops::{Hop, Steps};
 use crate::labels::{Label, Labels};
 use crate::links::Link;
 use crate::queue::Queue;
+use crate::rows::RowLabels;
 use cost_lists::CostRow;
 use search_graph::{Cost, Start};
 use std::alloc::{AllocError, Global};
@@ -40,6 +41,7 @@ pub struct Search<C: Cost> {
     tree: Vec<Node<C>>,
     labels: Labels<C>,
     queue: Queue<C>,
+    rows: RowLabels<C>,
 }
 
 impl<C: Cost> Search<C> {
@@ -49,6 +51,7 @@ impl<C: Cost> Search<C> {
             tree: Vec::new(alloc),
             labels: Labels::new(alloc),
             queue: Queue::new(alloc),
+            rows: RowLabels::new(alloc),
         }
     }
 
@@ -81,6 +84,7 @@ impl<C: Cost> Search<C> {
         self.tree.clear();
         self.labels.clear();
         self.queue.clear();
+        self.rows.clear();
         self.begin_all(steps, starts)
     }
 
@@ -264,8 +268,10 @@ impl<C: Cost> Search<C> {
         requires units { C.ops.units start.cost 1 }
         requires front { IsFront C.ops (T.space steps.now) self.old.tree.items (label_of self.old.labels) (settled_of self.old.labels) self.old.queue }
         requires unsettled { NoneSettled (settled_of self.old.labels) }
+        requires rows { AreBounds C.ops (T.space steps.now) (label_of self.old.labels) self.old.rows.rows }
         ensures front { OnOk result (IsFront C.ops (T.space steps.now) self.new.tree.items (label_of self.new.labels) (settled_of self.new.labels) self.new.queue) }
         ensures begins { OnOk result (Begins C.ops (T.space steps.now) self.old self.new start) }
+        ensures rows { OnOk result (AreBounds C.ops (T.space steps.now) (label_of self.new.labels) self.new.rows.rows) }
     {
         if !steps.may_begin(start.vertex) {
             return Ok(());
@@ -325,6 +331,7 @@ impl<C: Cost> Search<C> {
         ensures empty { IfNone result (self.new.queue ≡ []) }
         ensures labels { self.new.labels ≡ self.old.labels }
         ensures tree { self.new.tree.items ≡ self.old.tree.items }
+        ensures rows { self.new.rows ≡ self.old.rows }
     {
         while let Some((_, v)) = self.queue.pop() {
             if !self.labels.is_settled(v) {
@@ -338,9 +345,11 @@ impl<C: Cost> Search<C> {
     fn settle<T: Steps<C>>(&mut self, steps: &T, v: u32) -> Result<(), AllocError>
         requires ready { T.ready steps.now }
         requires taken { IsTaken C.ops (T.space steps.now) self.old v }
+        requires rows { AreBounds C.ops (T.space steps.now) (label_of self.old.labels) self.old.rows.rows }
         ensures front { OnOk result (IsFront C.ops (T.space steps.now) self.new.tree.items (label_of self.new.labels) (settled_of self.new.labels) self.new.queue) }
         ensures settles { OnOk result (Settles C.ops self.old self.new v) }
         ensures expanded { OnOk result ((l : _) → label_of self.old.labels v ≡ Some l → Expanded C.ops (T.space steps.now) (label_of self.new.labels) v l.cost) }
+        ensures rows { OnOk result (AreBounds C.ops (T.space steps.now) (label_of self.new.labels) self.new.rows.rows) }
     {
         let label = self.labels.label(v).unwrap();
         let at = self.tree.len();
@@ -359,9 +368,11 @@ impl<C: Cost> Search<C> {
     fn expand<T: Steps<C>>(&mut self, steps: &T, at: usize, node: Node<C>) -> Result<(), AllocError>
         requires ready { T.ready steps.now }
         requires at_work { IsAtWork C.ops (T.space steps.now) self.old at node }
+        requires rows { AreBounds C.ops (T.space steps.now) (label_of self.old.labels) self.old.rows.rows }
         ensures at_work { OnOk result (IsAtWork C.ops (T.space steps.now) self.new at node) }
         ensures falls { OnOk result (OnlyFalls C.ops self.old self.new) }
         ensures expanded { OnOk result (Expanded C.ops (T.space steps.now) (label_of self.new.labels) node.vertex node.cost) }
+        ensures rows { OnOk result (AreBounds C.ops (T.space steps.now) (label_of self.new.labels) self.new.rows.rows) }
     {
         self.expand_arcs(steps, at, node)?;
         self.expand_row(steps, at, node)?;
@@ -380,6 +391,7 @@ impl<C: Cost> Search<C> {
         ensures at_work { OnOk result (IsAtWork C.ops (T.space steps.now) self.new at node) }
         ensures falls { OnOk result (OnlyFalls C.ops self.old self.new) }
         ensures found { OnOk result ((i w : ℕ) (s : _) → (T.space steps.now).Arc node.vertex i w s → LabelWithin C.ops (label_of self.new.labels) w (C.ops.plus node.cost s)) }
+        ensures rows { OnOk result (self.new.rows ≡ self.old.rows) }
     {
         let arcs = steps.arcs(node.vertex);
         for place in 0..arcs.len() {
@@ -398,14 +410,44 @@ impl<C: Cost> Search<C> {
     ) -> Result<(), AllocError>
         requires ready { T.ready steps.now }
         requires at_work { IsAtWork C.ops (T.space steps.now) self.old at node }
+        requires rows { AreBounds C.ops (T.space steps.now) (label_of self.old.labels) self.old.rows.rows }
         ensures at_work { OnOk result (IsAtWork C.ops (T.space steps.now) self.new at node) }
         ensures falls { OnOk result (OnlyFalls C.ops self.old self.new) }
         ensures found { OnOk result ((j w : ℕ) (s : _) → slice_get ((T.space steps.now).heads node.vertex) j ≡ Some w → (T.space steps.now).Costs node.vertex j s → LabelWithin C.ops (label_of self.new.labels) w (C.ops.plus node.cost s)) }
+        ensures rows { OnOk result (AreBounds C.ops (T.space steps.now) (label_of self.new.labels) self.new.rows.rows) }
     {
-        let heads = steps.heads(node.vertex);
         let costs = steps.costs(node.vertex);
-        for place in 0..heads.len() {
-            let hop = hop_at(heads, &costs, place);
+        if costs.is_empty() {
+            return Ok(());
+        }
+        let heads = steps.heads(node.vertex);
+        let name = steps.row(node.vertex);
+        self.rows.lower(name, node.cost, &costs, heads.len())?;
+        self.offer_improved(steps, at, node, heads, &costs)?;
+        Ok(())
+    }
+
+    // Offers a label along each improved place of the node's row.
+    fn offer_improved<T: Steps<C>>(
+        &mut self,
+        steps: &T,
+        at: usize,
+        node: Node<C>,
+        heads: &[u32],
+        costs: &CostRow<'_, C>,
+    ) -> Result<(), AllocError>
+        requires at_work { IsAtWork C.ops (T.space steps.now) self.old at node }
+        requires heads { heads.now ≡ (T.space steps.now).heads node.vertex }
+        requires costs { (j : ℕ) (s : _) → slice_get costs.now j ≡ Some (Some s) → (T.space steps.now).Costs node.vertex j s }
+        requires within { (j : ℕ) → Contains self.old.rows.improved.items j → j < length heads.now }
+        ensures at_work { OnOk result (IsAtWork C.ops (T.space steps.now) self.new at node) }
+        ensures falls { OnOk result (OnlyFalls C.ops self.old self.new) }
+        ensures rows { OnOk result (self.new.rows ≡ self.old.rows) }
+        ensures found { OnOk result ((j w : ℕ) (s : _) → Contains self.old.rows.improved.items j → slice_get heads.now j ≡ Some w → slice_get costs.now j ≡ Some (Some s) → LabelWithin C.ops (label_of self.new.labels) w (C.ops.plus node.cost s)) }
+    {
+        for k in 0..self.rows.improved.len() {
+            let place = self.rows.improved[k];
+            let hop = hop_at(heads, costs, place);
             self.relax(steps, at, node, hop)?;
         }
         Ok(())
@@ -425,6 +467,7 @@ impl<C: Cost> Search<C> {
         ensures at_work { OnOk result (IsAtWork C.ops (T.space steps.now) self.new at node) }
         ensures falls { OnOk result (OnlyFalls C.ops self.old self.new) }
         ensures found { OnOk result ((w : ℕ) (s : _) → hop ≡ Some (record { head = w; cost = s }) → LabelWithin C.ops (label_of self.new.labels) w (C.ops.plus node.cost s)) }
+        ensures rows { OnOk result (self.new.rows ≡ self.old.rows) }
     {
         let _ = steps;
         match hop {
@@ -445,6 +488,7 @@ impl<C: Cost> Search<C> {
         ensures offers { OnOk result (Offers C.ops (label_of self.old.labels) (label_of self.new.labels) (settled_of self.old.labels) self.old.queue self.new.queue hop.head (record { cost = C.ops.plus paid hop.cost; node = at })) }
         ensures settled { OnOk result (settled_of self.new.labels ≡ settled_of self.old.labels) }
         ensures tree { OnOk result (self.new.tree.items ≡ self.old.tree.items) }
+        ensures rows { OnOk result (self.new.rows ≡ self.old.rows) }
     {
         let label = Label {
             cost: paid.plus(hop.cost),
@@ -465,6 +509,7 @@ impl<C: Cost> Search<C> {
         ensures queue { OnOk result (Adds self.old.queue self.new.queue (label.cost, v)) }
         ensures settled { OnOk result (settled_of self.new.labels ≡ settled_of self.old.labels) }
         ensures tree { OnOk result (self.new.tree.items ≡ self.old.tree.items) }
+        ensures rows { OnOk result (self.new.rows ≡ self.old.rows) }
     {
         self.labels.put(v, label)?;
         self.queue.push(label.cost, v)?;

@@ -59,4 +59,12 @@ pub trait Steps<C: Narrow> {
         requires vertex { v < (space self.now).vertices }
         ensures some { (j : ℕ) (s : C) → slice_get result j ≡ Some (Some s) → (space self.now).Costs v j s }
         ensures all { (j : ℕ) (s : C) → (space self.now).Costs v j s → slice_get result j ≡ Some (Some s) };
+
+    /// A name of the row out of `v`: rows of one name have the same heads. It is the number of a level and a number within
+    /// that, both counted from 0 without wide gaps, since who keeps something by row has a list of each level's rows.
+    fn row(&self, v: u32) -> (u32, u32)
+        requires ready { ready self.now }
+        requires vertex { v < (space self.now).vertices }
+        ensures name { result ≡ (space self.now).row v }
+        ensures same { (u : ℕ) → (space self.now).row u ≡ (space self.now).row v → (space self.now).heads u ≡ (space self.now).heads v };
 }

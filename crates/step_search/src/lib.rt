@@ -20,6 +20,7 @@ mod labels;
 mod links;
 mod pages;
 mod queue;
+mod rows;
 #[cfg(test)]
 mod tests;
 

@@ -41,6 +41,7 @@ impl Steps<DurLen> for Ring {
       Arc = λ u i v c. (i ≡ 0) × (v ≡ (u + 1) % 6) × (v ≢ 3) × (c.duration ≡ 3) × (c.length ≡ 1);
       heads = λ u. slice_range (2 ∷ 3 ∷ 4 ∷ 5 ∷ 0 ∷ 1 ∷ []) u (u + 1);
       Costs = λ u j c. (j ≡ 0) × (u ≢ 1) × (c.duration ≡ 5) × (c.length ≡ 2);
+      row = λ u. (0, u);
     } };
 
     ghost ready = { λ s. (s.heads ≡ 2 ∷ 3 ∷ 4 ∷ 5 ∷ 0 ∷ 1 ∷ []) × (s.costs ≡ Some (record { duration = 5; length = 2 }) ∷ []) };
@@ -75,6 +76,10 @@ impl Steps<DurLen> for Ring {
             return CostRow::empty();
         }
         self.costs.row(0, 1)
+    }
+
+    fn row(&self, v: u32) -> (u32, u32) {
+        (0, v)
     }
 }
 

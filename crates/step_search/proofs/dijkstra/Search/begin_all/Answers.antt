@@ -18,7 +18,7 @@ begin_at-requires-clause-vertex g c = (c.requires.starts c.start-item.result (c.
 pub loop-start-preserved : goal.loop-start-preserved
 loop-start-preserved g c =
     let among : Contains c.args.starts.now c.start-item.result = (c.loop-start.start-index, c.loop-start-test.true, sym c.start-item.is) in
-    let more = begun_more g.met.C.Cost.laws (g.T.Steps.space c.args.steps.now) c.args.starts.now c.loop-start.self c.begin_at.new.self c.in_ok-begin_at.ensures.front (take c.loop-start.start-index c.args.starts.now) c.loop-start.invariant.begun c.start-item.result among c.in_ok-begin_at.ensures.begins in
+    let more = begun_more g.met.C.Cost.laws (g.T.Steps.space c.args.steps.now) c.args.starts.now c.loop-start.self c.begin_at.new.self c.in_ok-begin_at.ensures.front (take c.loop-start.start-index c.args.starts.now) c.loop-start.invariant.begun c.start-item.result among c.in_ok-begin_at.ensures.begins c.in_ok-begin_at.ensures.rows in
     record {
       begun = subst (λ ss. IsBegun g.C.Cost.ops (g.T.Steps.space c.args.steps.now) c.args.starts.now ss c.begin_at.new.self)
           (ap (λ x. take c.loop-start.start-index c.args.starts.now ++ x ∷ []) c.start-item.is ∙ sym (take_more c.args.starts.now c.loop-start.start-index c.start-item.result c.loop-start-test.true)) more;

@@ -1,9 +1,16 @@
 -- The arcs and the row are all hops out of the node.
-use Rattle.std.proofs.Common.{inl, inr}
+use Rattle.std.proofs.Common.{inl, inr, sym, subst}
 use Rattle.step_search.specs.Labelled.{label_of}
+use Rattle.step_search.specs.Progress.{AreBounds}
+use Rattle.step_search.proofs.Bounded.{AreBounds-falls}
 use Rattle.step_search.proofs.Falls.{LabelWithin-falls}
 use Rattle.step_search.proofs.Offered.{OnlyFalls-trans}
 use Rattle.step_search.proofs.dijkstra.Search.expand.Goals as goal
+
+pub expand_row-requires-clause-rows : goal.expand_row-requires-clause-rows
+expand_row-requires-clause-rows g c =
+    subst (λ x. AreBounds g.C.Cost.ops (g.T.Steps.space c.args.steps.now) (label_of c.expand_arcs.new.self.labels) x.rows) (sym c.in_ok-expand_arcs.ensures.rows)
+    (AreBounds-falls g.met.C.Cost.laws (g.T.Steps.space c.args.steps.now) (label_of c.args.self.now.labels) (label_of c.expand_arcs.new.self.labels) c.in_ok-expand_arcs.ensures.falls.falls c.args.self.now.rows.rows c.requires.rows)
 
 pub returns-clause-falls : goal.returns-clause-falls
 returns-clause-falls g c =

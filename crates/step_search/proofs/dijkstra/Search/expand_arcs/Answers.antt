@@ -1,5 +1,5 @@
 -- What an arc found stays found while labels fall.
-use Rattle.std.proofs.Common.{◌≡◌, ℕ, ◌<◌, Some, List, length, sym, ◌∙◌, subst, arith, below_more}
+use Rattle.std.proofs.Common.{◌≡◌, ℕ, ◌<◌, Some, List, length, refl, sym, ◌∙◌, subst, arith, below_more}
 use Rattle.std.specs.List.{slice_get}
 use Rattle.std.proofs.lemmas.Option.{same_Some, slice_get_within}
 use Rattle.list_lemmas.proofs.Gets.{Contains_get, get_Contains}
@@ -12,6 +12,7 @@ pub loop-place-init : goal.loop-place-init
 loop-place-init g c = record {
   at_work = c.requires.at_work;
   falls = OnlyFalls-refl g.met.C.Cost.laws c.args.self.now;
+  rows = refl;
   found = λ k lt. absurd (omega (arith, lt));
 }
 
@@ -25,6 +26,7 @@ pub loop-place-preserved : goal.loop-place-preserved
 loop-place-preserved g c = record {
   at_work = c.in_ok-relax.ensures.at_work;
   falls = OnlyFalls-trans g.met.C.Cost.laws c.args.self.now c.loop-place.self c.relax.new.self c.loop-place.invariant.falls c.in_ok-relax.ensures.falls;
+  rows = c.in_ok-relax.ensures.rows ∙ c.loop-place.invariant.rows;
   found = below_more _ _
       (λ k lt i w s e h. LabelWithin-falls g.met.C.Cost.laws (label_of c.loop-place.self.labels) (label_of c.relax.new.self.labels) w (g.C.Cost.ops.plus c.args.node.cost s) c.in_ok-relax.ensures.falls.falls (c.loop-place.invariant.found k lt i w s e h))
       (λ i w s e h.

@@ -1,42 +1,48 @@
--- What a place found stays found while labels fall.
-use Rattle.std.proofs.Common.{◌≡◌, ℕ, ◌<◌, List, length, Some, sym, subst, arith, below_more}
-use Rattle.std.specs.List.{slice_get}
+-- Offers that are passed over find the labels of their heads within them.
+use Rattle.std.proofs.Common.{◌≡◌, ℕ, ◌<◌, List, length, Some, refl, sym, subst, arith}
+use Rattle.std.specs.List.{Contains, slice_get}
 use Rattle.std.proofs.lemmas.Option.{slice_get_within}
 use Rattle.step_search.specs.Labelled.{label_of}
-use Rattle.step_search.proofs.Falls.{LabelWithin-falls}
-use Rattle.step_search.proofs.Offered.{OnlyFalls-refl, OnlyFalls-trans, hop_by_place}
+use Rattle.step_search.specs.Progress.{AreBounds}
+use Rattle.step_search.proofs.Offered.{OnlyFalls-refl}
+use Rattle.step_search.proofs.Bounded.{AreBounds-lowered, row_found, row_fits, no_cost}
 use Rattle.step_search.proofs.dijkstra.Search.expand_row.Goals as goal
 
-pub loop-place-init : goal.loop-place-init
-loop-place-init g c = record {
-  at_work = c.requires.at_work;
-  falls = OnlyFalls-refl g.met.C.Cost.laws c.args.self.now;
-  found = λ k lt. absurd (omega (arith, lt));
+pub returns-then-is_empty-clause-falls : goal.returns-then-is_empty-clause-falls
+returns-then-is_empty-clause-falls g c = OnlyFalls-refl g.met.C.Cost.laws c.args.self.now
+
+pub returns-then-is_empty-clause-found : goal.returns-then-is_empty-clause-found
+returns-then-is_empty-clause-found g c j w s h k = absurd (no_cost c.costs-costs.result j s (c.if-is_empty.ensures.0 refl) (c.costs-costs.ensures.all j s k))
+
+pub lower-requires : goal.lower-requires
+lower-requires g c = record {
+  fits = row_fits g.met.C.Cost.laws (g.T.Steps.space c.args.steps.now) c.args.self.now c.args.at c.args.node c.requires.at_work c.heads-heads.result.now c.heads-heads.ensures c.costs-costs.result c.costs-costs.ensures.some;
 }
 
-pub relax-requires-clause-at_work : goal.relax-requires-clause-at_work
-relax-requires-clause-at_work g c = c.loop-place.invariant.at_work
+pub offer_improved-requires-clause-at_work : goal.offer_improved-requires-clause-at_work
+offer_improved-requires-clause-at_work g c = let w = c.requires.at_work in record { space = w.space; front = w.front; here = w.here; vertex = w.vertex; units = w.units; within = w.within }
 
-pub relax-requires-clause-hop : goal.relax-requires-clause-hop
-relax-requires-clause-hop g c = hop_by_place (g.T.Steps.space c.args.steps.now) c.args.node.vertex c.loop-place.place c.heads-heads.result.now c.costs-costs.result c.hop_at-hop.result c.heads-heads.ensures c.costs-costs.ensures.some c.hop_at-hop.ensures.some
-
-pub loop-place-preserved : goal.loop-place-preserved
-loop-place-preserved g c = record {
-  at_work = c.in_ok-relax.ensures.at_work;
-  falls = OnlyFalls-trans g.met.C.Cost.laws c.args.self.now c.loop-place.self c.relax.new.self c.loop-place.invariant.falls c.in_ok-relax.ensures.falls;
-  found = below_more _ _
-      (λ k lt w s h e. LabelWithin-falls g.met.C.Cost.laws (label_of c.loop-place.self.labels) (label_of c.relax.new.self.labels) w (g.C.Cost.ops.plus c.args.node.cost s) c.in_ok-relax.ensures.falls.falls (c.loop-place.invariant.found k lt w s h e))
-      (λ w s h e. c.in_ok-relax.ensures.found w s (c.hop_at-hop.ensures.all w s h e));
-}
-
-pub returns-clause-at_work : goal.returns-clause-at_work
-returns-clause-at_work g c = c.loop-place.invariant.at_work
+pub offer_improved-requires-clause-within : goal.offer_improved-requires-clause-within
+offer_improved-requires-clause-within g c = c.in_ok-lower.ensures.within
 
 pub returns-clause-falls : goal.returns-clause-falls
-returns-clause-falls g c = c.loop-place.invariant.falls
+returns-clause-falls g c = let f = c.in_ok-offer_improved.ensures.falls in record { falls = f.falls; settled = f.settled; tree = f.tree }
 
 pub returns-clause-found : goal.returns-clause-found
 returns-clause-found g c j w s h k =
-    let in_heads : slice_get c.heads-heads.result.now j ≡ Some w = subst (λ (xs : List ℕ). slice_get xs j ≡ Some w) (sym c.heads-heads.ensures) h in
-    let lt : j < length c.heads-heads.result.now = slice_get_within c.heads-heads.result.now j w in_heads in
-    c.loop-place.invariant.found j (omega arith) w s in_heads (c.costs-costs.ensures.all j s k)
+    let S = g.T.Steps.space c.args.steps.now in
+    let lt : j < length c.heads-heads.result.now = slice_get_within c.heads-heads.result.now j w (subst (λ (xs : List ℕ). slice_get xs j ≡ Some w) (sym c.heads-heads.ensures) h) in
+    row_found g.met.C.Cost.laws S (label_of c.args.self.now.labels) (label_of c.offer_improved.new.self.labels) c.in_ok-offer_improved.ensures.falls.falls c.args.node.vertex c.row-name.result c.row-name.ensures.name c.row-name.ensures.same
+    c.args.self.now.rows.rows c.lower.new.self.rows c.args.node.cost c.costs-costs.result (length c.heads-heads.result.now) c.lower.new.self.improved.items c.in_ok-lower.ensures
+    (λ i x t b e q. c.in_ok-offer_improved.ensures.found i x t b (subst (λ (xs : List ℕ). slice_get xs i ≡ Some x) (sym c.heads-heads.ensures) e) q)
+    c.requires.rows j w s lt h (c.costs-costs.ensures.all j s k)
+
+pub returns-clause-rows : goal.returns-clause-rows
+returns-clause-rows g c =
+    let S = g.T.Steps.space c.args.steps.now in
+    let bounds : AreBounds g.C.Cost.ops S (label_of c.offer_improved.new.self.labels) c.lower.new.self.rows =
+    AreBounds-lowered g.met.C.Cost.laws S (label_of c.args.self.now.labels) (label_of c.offer_improved.new.self.labels) c.in_ok-offer_improved.ensures.falls.falls c.args.node.vertex c.row-name.result c.row-name.ensures.name c.row-name.ensures.same
+    c.args.self.now.rows.rows c.lower.new.self.rows c.args.node.cost c.costs-costs.result (length c.heads-heads.result.now) c.lower.new.self.improved.items c.in_ok-lower.ensures
+    (λ i x t b e q. c.in_ok-offer_improved.ensures.found i x t b (subst (λ (xs : List ℕ). slice_get xs i ≡ Some x) (sym c.heads-heads.ensures) e) q)
+    c.requires.rows in
+    subst (λ x. AreBounds g.C.Cost.ops S (label_of c.offer_improved.new.self.labels) x.rows) (sym c.in_ok-offer_improved.ensures.rows) bounds

@@ -10,4 +10,5 @@ loop-v-preserved g c = record {
       (sym (ap (λ x. settled_of x c.in-Some.v) c.loop-v.invariant.labels) ∙ sym c.is_settled.ensures ∙ c.if-not-is_settled.false);
   labels = c.loop-v.invariant.labels;
   tree = c.loop-v.invariant.tree;
+  rows = c.loop-v.invariant.rows;
 }

@@ -9,6 +9,7 @@ invariant-loop-v g l = record {
   skips : Skips (settled_of l.initial.self.labels) l.initial.self.queue l.self.queue;
   labels : l.self.labels ≡ l.initial.self.labels;
   tree : l.self.tree.items ≡ l.initial.self.tree.items;
+  rows : l.self.rows ≡ l.initial.self.rows;
 }
 
 abbrev pub decreases-loop-v : goal.decreases-loop-v

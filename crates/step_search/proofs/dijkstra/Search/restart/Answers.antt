@@ -7,4 +7,5 @@ begin_all-requires-clause-fresh g c = record {
   unlabelled = c.clear-2.ensures.label;
   unsettled = c.clear-2.ensures.settled;
   queue = c.clear-3.ensures;
+  rows = c.clear-4.ensures;
 }
