@@ -1,11 +1,10 @@
 -- What is kept of rows bounds the labels of their heads while these fall, and after offers along a row.
-use Rattle.std.proofs.Common.{◌≡◌, ℕ, ◌^◌, ◌<◌, inl, inr, Option, Some, None, IfSome, List, [], length, refl, sym, ◌∙◌, ap, subst, arith}
+use Rattle.std.proofs.Common.{◌≡◌, ℕ, ◌^◌, ◌<◌, inl, inr, Option, Some, None, List, [], length, sym, ◌∙◌, subst, arith}
 use Rattle.std.specs.List.{Contains, slice_get}
 use Rattle.std.proofs.lemmas.Option.{none-some, slice_get_within}
 use Rattle.list_lemmas.proofs.Gets.{get_some}
 use Rattle.search_graph.specs.Costs.{CostOps, CostLaws}
 use Rattle.step_search.specs.Spaces.{Space}
-use Rattle.step_search.specs.Labelled.{label_of}
 use Rattle.step_search.specs.Rowed.{value_of, LowersRow}
 use Rattle.step_search.specs.Progress.{LabelWithin, LabelsFall, AreBounds}
 use Rattle.step_search.specs.Stepping.{IsAtWork}

@@ -1,5 +1,5 @@
 -- What offers along a row leave of its block, and what a change to one block leaves of all.
-use Rattle.std.proofs.Common.{◌≡◌, ℕ, ◌+◌, ◌<◌, ◌≤◌, ◌⊎◌, inl, inr, Bool, false, Option, Some, None, List, [], ◌∷◌, ◌++◌, length, get_or, Result, Ok, Err, OnOk, refl, sym, ◌∙◌, ap, subst, arith, get_or-set_same, get_or-set_other}
+use Rattle.std.proofs.Common.{◌≡◌, ℕ, ◌+◌, ◌<◌, ◌≤◌, ◌⊎◌, inl, inr, false, Option, Some, None, List, [], ◌∷◌, ◌++◌, length, get_or, Result, Ok, Err, OnOk, refl, sym, ◌∙◌, ap, subst, arith, get_or-set_same, get_or-set_other}
 use Rattle.std.proofs.Math.ListN.{set}
 use Rattle.std.proofs.lemmas.Bool.{cases_eq, cases_lt}
 use Rattle.std.specs.List.{Contains, slice_get}
@@ -77,8 +77,12 @@ module _ {C : Type 0} (ops : CostOps C) (old : List (Option C)) (paid : C) (cost
   Lowers-more mid new place before after s room at h (lowered e q) =
       subst (λ (xs : List (Option C)). Lowers ops old xs paid costs (place + 1) after) (sym e) (subst (λ (xs : List ℕ). Lowers ops old (set mid place (Some (ops.plus paid s))) paid costs (place + 1) xs) (sym q) (record {
         kept = λ j d v. elim (cases_eq j place) [
-          | inl same ↦ inr (subst (λ (i : ℕ). Contains (before ++ place ∷ []) i) (sym same) (last_in before place), s, ap (slice_get costs) same ∙ at,
-              same_Some d (ops.plus paid s) (sym v ∙ ap (value_on (set mid place (Some (ops.plus paid s)))) same ∙ get_or-set_same mid place (Some (ops.plus paid s)) None room))
+          | inl same ↦ inr (
+            subst (λ (i : ℕ). Contains (before ++ place ∷ []) i) (sym same) (last_in before place),
+            s,
+            ap (slice_get costs) same ∙ at,
+            same_Some d (ops.plus paid s) (sym v ∙ ap (value_on (set mid place (Some (ops.plus paid s)))) same ∙ get_or-set_same mid place (Some (ops.plus paid s)) None room),
+          )
           | inr other ↦ elim (h.kept j d (sym (get_or-set_other mid place j (Some (ops.plus paid s)) None other) ∙ v)) [ inl o ↦ inl o | inr i ↦ inr (Contains_push before place j i.0, i.1, i.2, i.3) ]
         ];
         found = λ j t lt k. elim (cases_eq j place) [

@@ -1,10 +1,9 @@
 //! What the offers along each row have cost so far, the places of a row side by side, so that most offers are seen to
 //! improve nothing without a look at their heads' labels, which lie anywhere.
 
-ghost use Rattle.std.specs.Prelude.{◌≡◌, ℕ, ◌<◌, ◌≤◌, ◌^◌, ◌↔◌, List, [], length, set, slice_index_or, IsTrue, Option, Some, OnOk};
-ghost use Rattle.std.specs.Bool.{OnTrue, OnFalse};
+ghost use Rattle.std.specs.Prelude.{◌≡◌, ℕ, ◌<◌, ◌≤◌, ◌^◌, [], length, Some, None, OnOk};
+ghost use Rattle.std.specs.Bool.{OnTrue};
 ghost use Rattle.std.specs.List.{slice_get};
-ghost use Rattle.search_graph.specs.Costs.{NoDearer};
 ghost use Rattle.step_search.specs.Rowed.{level_of, block_of, value_on, value_of, AreLaid, Lowers, LowersRow, LowersAt};
 
 use cost_lists::CostRow;
@@ -136,22 +135,12 @@ fn lower_values<C: Cost>(
     ensures lowers { OnOk result (Lowers C.ops values.old values.new paid costs.now count improved.new.items) }
     ensures long { length values.new ≡ length values.old }
 {
-    for place in 0..lesser(count, costs.len()) {
+    for place in 0..count.min(costs.len()) {
         if let Some(cost) = costs.get(place) {
             lower_value(values, place, paid.plus(cost), improved)?;
         }
     }
     Ok(())
-}
-
-// The lesser of two numbers.
-#[inline(always)]
-fn lesser(a: usize, b: usize) -> usize
-    ensures one { result ≤ a }
-    ensures other { result ≤ b }
-    ensures least { (n : ℕ) → n < a → n < b → n < result }
-{
-    if a < b { a } else { b }
 }
 
 // Offers a cost along one place.
@@ -371,6 +360,7 @@ impl<C: Cost> RowLabels<C> {
         ensures { OnOk result (LowersRow C.ops self.old.rows self.new.rows name paid costs.now count self.new.improved.items) }
     {
         self.improved.clear();
-        self.rows.lower(name, paid, costs, count, &mut self.improved)
+        self.rows
+            .lower(name, paid, costs, count, &mut self.improved)
     }
 }

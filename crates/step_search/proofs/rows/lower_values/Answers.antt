@@ -1,5 +1,5 @@
 -- One place more is gone along, if it has a cost.
-use Rattle.std.proofs.Common.{◌≡◌, ◌+◌, ◌<◌, ◌≤◌, None, Some, Option, List, length, refl, sym, ◌∙◌, ap, subst, arith, ℕ}
+use Rattle.std.proofs.Common.{◌≡◌, ◌+◌, ◌<◌, ◌≤◌, Some, length, refl, sym, ◌∙◌, ap, subst, arith}
 use Rattle.std.specs.List.{slice_get}
 use Rattle.step_search.specs.Rowed.{Lowers, LowersAt}
 use Rattle.step_search.proofs.Laid.{Lowers-none, Lowers-closed, Lowers-more, Lowers-all}
@@ -23,7 +23,7 @@ loop-place-preserved g c =
           let new = w.lower_value.new.values in
           let before = c.loop-place.improved.items in
           let after = w.lower_value.new.improved.items in
-          let room : place < length mid = omega (arith, c.requires.room, c.loop-place.invariant.room, c.lesser-place-end.ensures.one, c.loop-place-test.true) in
+          let room : place < length mid = omega (arith, c.requires.room, c.loop-place.invariant.room, c.min-place-end.ensures, c.loop-place-test.true) in
           let at : slice_get c.args.costs.now place ≡ Some (Some w.in-Some.cost) = c.get.ensures ∙ ap Some w.in-Some.is in
           let offered : LowersAt ops mid new place (ops.plus c.args.paid w.in-Some.cost) before after = subst (λ x. LowersAt ops mid new place x before after) w.plus.ensures w.in_ok-lower_value.ensures.lowers in
           let more : Lowers ops old new c.args.paid c.args.costs.now (place + 1) after = Lowers-more ops old c.args.paid c.args.costs.now mid new place before after w.in-Some.cost room at c.loop-place.invariant.lowers offered in
@@ -44,7 +44,7 @@ loop-place-preserved g c =
 
 pub returns-clause-lowers : goal.returns-clause-lowers
 returns-clause-lowers g c =
-    let le : c.loop-place.place ≤ c.args.count = omega (arith, c.lesser-place-end.ensures.one, c.loop-place.auto.place-end) in
+    let le : c.loop-place.place ≤ c.args.count = omega (arith, c.min-place-end.ensures, c.loop-place.auto.place-end) in
     Lowers-all g.C.Cost.ops c.args.values.now c.args.paid c.args.costs.now c.loop-place.values c.loop-place.place c.args.count c.loop-place.improved.items le
-    (λ j lt long. let less : j < c.lesser-place-end.result = c.lesser-place-end.ensures.least j lt (omega (arith, c.len.ensures, long)) in omega (arith, less, c.loop-place-test.false))
+    (λ j lt long. omega (arith, lt, long, c.len.ensures, c.min-place-end.ensures, c.loop-place-test.false))
     c.loop-place.invariant.lowers

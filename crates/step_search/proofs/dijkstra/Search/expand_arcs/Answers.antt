@@ -1,8 +1,7 @@
 -- What an arc found stays found while labels fall.
-use Rattle.std.proofs.Common.{◌≡◌, ℕ, ◌<◌, Some, List, length, refl, sym, ◌∙◌, subst, arith, below_more}
-use Rattle.std.specs.List.{slice_get}
+use Rattle.std.proofs.Common.{◌≡◌, ℕ, ◌<◌, length, refl, sym, ◌∙◌, subst, arith, below_more}
 use Rattle.std.proofs.lemmas.Option.{same_Some, slice_get_within}
-use Rattle.list_lemmas.proofs.Gets.{Contains_get, get_Contains}
+use Rattle.list_lemmas.proofs.Gets.{get_Contains}
 use Rattle.step_search.specs.Labelled.{label_of}
 use Rattle.step_search.proofs.Falls.{LabelWithin-falls}
 use Rattle.step_search.proofs.Offered.{OnlyFalls-refl, OnlyFalls-trans, hop_by_arc}

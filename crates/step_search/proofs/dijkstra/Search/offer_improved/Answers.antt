@@ -1,6 +1,6 @@
 -- What a place found stays found while labels fall.
-use Rattle.std.proofs.Common.{◌≡◌, ℕ, ◌<◌, List, length, Some, refl, sym, ◌∙◌, ap, subst, arith, below_more}
-use Rattle.std.specs.List.{Contains, slice_get}
+use Rattle.std.proofs.Common.{◌≡◌, ℕ, ◌<◌, length, Some, refl, sym, ◌∙◌, subst, arith, below_more}
+use Rattle.std.specs.List.{slice_get}
 use Rattle.std.proofs.lemmas.Option.{slice_get_within, same_Some}
 use Rattle.list_lemmas.proofs.Gets.{Contains_get, get_Contains, get_is}
 use Rattle.step_search.specs.Labelled.{label_of}
@@ -21,7 +21,7 @@ hop_at-hop-requires g c =
     let same = c.loop-k.invariant.rows in
     let lt : c.loop-k.k < length c.args.self.now.rows.improved.items = omega (arith, c.loop-k-test.true, c.len-k-end.ensures, c.args.self.now.rows.improved.ok.0) in
     let at : slice_get c.args.self.now.rows.improved.items c.loop-k.k ≡ Some c.index-place.result.now = subst (λ x. slice_get x.improved.items c.loop-k.k ≡ Some c.index-place.result.now) same
-        (get_is c.loop-k.self.rows.improved.items c.loop-k.k c.index-place.result.now (subst (λ x. c.loop-k.k < length x.improved.items) (sym same) lt) (sym c.index-place.ensures)) in
+    (get_is c.loop-k.self.rows.improved.items c.loop-k.k c.index-place.result.now (subst (λ x. c.loop-k.k < length x.improved.items) (sym same) lt) (sym c.index-place.ensures)) in
     c.requires.within c.index-place.result.now (Contains_get c.args.self.now.rows.improved.items c.loop-k.k c.index-place.result.now at)
 
 pub relax-requires-clause-at_work : goal.relax-requires-clause-at_work
@@ -35,7 +35,7 @@ loop-k-preserved g c =
     let same = c.loop-k.invariant.rows in
     let lt : c.loop-k.k < length c.args.self.now.rows.improved.items = omega (arith, c.loop-k-test.true, c.len-k-end.ensures, c.args.self.now.rows.improved.ok.0) in
     let at : slice_get c.args.self.now.rows.improved.items c.loop-k.k ≡ Some c.index-place.result.now = subst (λ x. slice_get x.improved.items c.loop-k.k ≡ Some c.index-place.result.now) same
-        (get_is c.loop-k.self.rows.improved.items c.loop-k.k c.index-place.result.now (subst (λ x. c.loop-k.k < length x.improved.items) (sym same) lt) (sym c.index-place.ensures)) in
+    (get_is c.loop-k.self.rows.improved.items c.loop-k.k c.index-place.result.now (subst (λ x. c.loop-k.k < length x.improved.items) (sym same) lt) (sym c.index-place.ensures)) in
     record {
       at_work = c.in_ok-relax.ensures.at_work;
       falls = OnlyFalls-trans g.met.C.Cost.laws c.args.self.now c.loop-k.self c.relax.new.self c.loop-k.invariant.falls c.in_ok-relax.ensures.falls;

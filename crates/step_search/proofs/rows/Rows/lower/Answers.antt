@@ -1,5 +1,5 @@
 -- One block's values are lowered.
-use Rattle.std.proofs.Common.{sym, ◌∙◌, ap}
+use Rattle.std.proofs.Common.{◌∙◌, ap}
 use Rattle.step_search.specs.Rowed.{value_of}
 use Rattle.step_search.proofs.Laid.{AreLaid-kept, on_ok-LowersRow}
 use Rattle.step_search.proofs.rows.Rows.lower.Goals as goal
