@@ -1,9 +1,9 @@
 -- How far a search is, to those who call its parts.
-use Rattle.std.specs.Prelude.{◌≡◌, ℕ, ◌⊎◌, true, List, []}
+use Rattle.std.specs.Prelude.{ℕ, List, MatchOption}
 use Rattle.search_graph.specs.Costs.{CostOps}
 use Rattle.search_graph.specs.declared.ends.Start.{Start}
 use Rattle.step_search.specs.Spaces.{Space, IsSpace}
-use Rattle.step_search.specs.Paths.{AreStarts}
+use Rattle.step_search.specs.Paths.{AreStarts, NoPathTo, IsBeyond}
 use Rattle.step_search.specs.Labelled.{label_of, settled_of}
 use Rattle.step_search.specs.Progress.{IsTree, IsFront, NodesExpanded, StartsIn}
 use Rattle.step_search.specs.declared.dijkstra.Search.{Search}
@@ -21,6 +21,6 @@ pub record IsBegun {C : Type 0} (ops : CostOps C) (S : Space C) (starts begun : 
 abbrev pub IsUnderWay : {C : Type 0} → CostOps C → Space C → List (Start C) → Search C → Type 0
 IsUnderWay ops S starts search = IsBegun ops S starts starts search
 
--- the search has settled the vertex, or has nothing left to settle
-abbrev pub IsDone : {C : Type 0} → Search C → ℕ → Type 0
-IsDone search until = (settled_of search.labels until ≡ true) ⊎ (search.queue ≡ [])
+-- the search has found what a cheapest path to the vertex costs, or that there is none
+abbrev pub IsDone : {C : Type 0} → CostOps C → Space C → List (Start C) → Search C → ℕ → Type 0
+IsDone ops S starts search until = MatchOption (label_of search.labels until) (NoPathTo ops S starts until) (λ l. IsBeyond ops S starts until l.cost)

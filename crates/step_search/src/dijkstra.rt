@@ -43,6 +43,15 @@ pub struct Search<C: Cost> {
 }
 
 impl<C: Cost> Search<C> {
+    /// A search that has not begun, in whose memory others begin.
+    pub fn new(alloc: Global) -> Search<C> {
+        Search {
+            tree: Vec::new(alloc),
+            labels: Labels::new(alloc),
+            queue: Queue::new(alloc),
+        }
+    }
+
     /// A search that has begun at each start where a path may begin, or the error where memory runs out.
     pub fn begin<T: Steps<C>>(
         alloc: Global,
@@ -92,7 +101,7 @@ impl<C: Cost> Search<C> {
         requires ready { T.ready steps.now }
         requires under_way { IsUnderWay C.ops (T.space steps.now) starts.now self.old }
         ensures under_way { OnOk result (IsUnderWay C.ops (T.space steps.now) starts.now self.new) }
-        ensures done { OnOk result (IsDone self.new until) }
+        ensures done { OnOk result (IsDone C.ops (T.space steps.now) starts.now self.new until) }
     {
         let _ = starts;
         while !self.labels.is_settled(until) {
@@ -119,7 +128,7 @@ impl<C: Cost> Search<C> {
         requires ready { T.ready steps.now }
         requires under_way { IsUnderWay C.ops (T.space steps.now) starts.now self.old }
         ensures under_way { OnOk result (IsUnderWay C.ops (T.space steps.now) starts.now self.new) }
-        ensures done { IfOk result (λ done. OnTrue done (IsDone self.new until)) }
+        ensures done { IfOk result (λ done. OnTrue done (IsDone C.ops (T.space steps.now) starts.now self.new until)) }
         ensures beyond { IfOk result (λ done. OnFalse done (IsBeyond C.ops (T.space steps.now) starts.now until limit)) }
     {
         let _ = starts;
@@ -135,6 +144,70 @@ impl<C: Cost> Search<C> {
         Ok(true)
     }
 
+    /// Goes on until one of the targets is settled, and tells its place; `None` where none of them can be reached. It ends
+    /// in the error where memory runs out, and the search is then of no use any more.
+    ///
+    /// `steps` and `starts` are those with which the search began.
+    pub fn run_first<T: Steps<C>>(
+        &mut self,
+        steps: &T,
+        starts: &[Start<C>],
+        targets: &[u32],
+    ) -> Result<Option<usize>, AllocError>
+        requires ready { T.ready steps.now }
+        requires under_way { IsUnderWay C.ops (T.space steps.now) starts.now self.old }
+        ensures under_way { OnOk result (IsUnderWay C.ops (T.space steps.now) starts.now self.new) }
+        ensures first { IfOk result (λ first. IfSome first (λ k. (t : ℕ) × (slice_get targets.now k ≡ Some t) × IsDone C.ops (T.space steps.now) starts.now self.new t)) }
+        ensures none { IfOk result (λ first. IfNone first ((t : ℕ) → Contains targets.now t → IsDone C.ops (T.space steps.now) starts.now self.new t)) }
+    {
+        let _ = starts;
+        let mut going = true;
+        while going {
+            for k in 0..targets.len() {
+                if self.labels.is_settled(targets[k]) {
+                    return Ok(Some(k));
+                }
+            }
+            match self.nearest() {
+                Some(v) => self.settle(steps, v)?,
+                None => going = false,
+            }
+        }
+        Ok(None)
+    }
+
+    /// Goes on until the label of `until` costs no more than `known`, than which no path to it costs less, or nothing is left
+    /// to settle. It ends in the error where memory runs out, and the search is then of no use any more.
+    ///
+    /// `steps` and `starts` are those with which the search began.
+    pub fn run_to<T: Steps<C>>(
+        &mut self,
+        steps: &T,
+        starts: &[Start<C>],
+        until: u32,
+        known: C,
+    ) -> Result<(), AllocError>
+        requires ready { T.ready steps.now }
+        requires under_way { IsUnderWay C.ops (T.space steps.now) starts.now self.old }
+        requires known { IsBeyond C.ops (T.space steps.now) starts.now until known }
+        ensures under_way { OnOk result (IsUnderWay C.ops (T.space steps.now) starts.now self.new) }
+        ensures done { OnOk result (IsDone C.ops (T.space steps.now) starts.now self.new until) }
+    {
+        let _ = starts;
+        while !self.labels.is_settled(until) {
+            if let Some(label) = self.labels.label(until) {
+                if !label.cost.cmp(&known).is_gt() {
+                    return Ok(());
+                }
+            }
+            match self.nearest() {
+                Some(v) => self.settle(steps, v)?,
+                None => return Ok(()),
+            }
+        }
+        Ok(())
+    }
+
     /// A cheapest path to `target`, or `None` exactly where there is none, once the search has run until it.
     /// It answers the error where memory runs out.
     ///
@@ -147,7 +220,7 @@ impl<C: Cost> Search<C> {
         target: u32,
     ) -> Result<Option<Reached<C>>, AllocError>
         requires under_way { IsUnderWay C.ops (T.space steps.now) starts.now self.now }
-        requires done { IsDone self.now target }
+        requires done { IsDone C.ops (T.space steps.now) starts.now self.now target }
         ensures { IfOk result (IsAnswer C.ops (T.space steps.now) starts.now target) }
     {
         let _ = steps;
@@ -172,7 +245,7 @@ impl<C: Cost> Search<C> {
     /// `steps` and `starts` are those with which the search began.
     pub fn cost<T: Steps<C>>(&self, steps: &T, starts: &[Start<C>], target: u32) -> Option<C>
         requires under_way { IsUnderWay C.ops (T.space steps.now) starts.now self.now }
-        requires done { IsDone self.now target }
+        requires done { IsDone C.ops (T.space steps.now) starts.now self.now target }
         ensures { IsLeastPathCost C.ops (T.space steps.now) starts.now target result }
     {
         let _ = steps;
