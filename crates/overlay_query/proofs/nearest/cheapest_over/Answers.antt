@@ -16,9 +16,9 @@ cheaper-requires-clause-best g c = IsBest-priced g.met.C.Cost.laws c.args.over.n
 
 pub loop-target-preserved : goal.loop-target-preserved
 loop-target-preserved g c = record {
-  under_way = c.in_ok-best.ensures.under_way;
+  under_way = c.in_ok-best-2.ensures.under_way;
   best = IsBest-more g.met.C.Cost.laws c.args.over.now.frame.now c.args.over.now.weights.now c.args.over.now.parts.now.vertices.items c.args.starts.now c.args.targets.now c.loop-target.target-index c.target-item.result (get_is c.args.targets.now c.loop-target.target-index c.target-item.result c.loop-target-test.true (sym c.target-item.is))
-      c.loop-target.best c.in_ok-best.best c.loop-target.invariant.best c.in_ok-best.ensures.better;
+      c.loop-target.best c.in_ok-best-2.best c.loop-target.invariant.best c.in_ok-best-2.ensures.better;
 }
 
 pub returns-in-None : goal.returns-in-None
