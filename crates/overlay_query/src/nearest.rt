@@ -143,21 +143,22 @@ fn cheapest_over<C: Cost>(
     over: &Over<C, TerminalCells>,
     starts: &[Start<C>],
     targets: &[Target<C>],
+    search: &mut Search<C>,
 ) -> Result<Option<PackedFound<C>>, AllocError>
     requires query { IsQuery C.ops over.now.frame.now over.now.weights.now over.now.cliques.now over.now.parts.now.vertices.items starts.now }
     requires cells { AreTerminalCells over.now.frame.now over.now.parts.now.vertices.items over.now.parts.now.levels.items }
     requires targets { (t : Target C) → Contains targets.now t → IsAsked C.ops over.now.frame.now over.now.parts.now.vertices.items t }
     ensures { IfOk result (IsPackedCheapest C.ops over.now.frame.now over.now.weights.now over.now.parts.now.vertices.items starts.now targets.now) }
 {
-    let mut search = Search::begin(alloc, over, starts)?;
-    let mut best = first_reached(alloc, over, &mut search, starts, targets)?;
+    search.restart(over, starts)?;
+    let mut best = first_reached(alloc, over, search, starts, targets)?;
     for target in targets {
-        best = cheaper(over, &mut search, starts, best, *target)?;
+        best = cheaper(over, search, starts, best, *target)?;
     }
     match best {
         None => Ok(None),
         Some(best) => {
-            let found = find(alloc, over, &mut search, starts, best.target)?;
+            let found = find(alloc, over, search, starts, best.target)?;
             Ok(found)
         }
     }
@@ -169,7 +170,7 @@ fn cheapest_over<C: Cost>(
 /// No hop by an arc is inside a cell that is the part of both its vertices, where all starts and targets are terminals
 /// (see `Frame::part_of`). The search ends where no target that is left can cost less.
 ///
-/// It answers `Memory` where memory runs out.
+/// `search` is memory that is used again; nothing is asked of it. It answers `Memory` where memory runs out.
 pub fn cheapest<C: Cost>(
     alloc: Global,
     frame: &Frame,
@@ -177,6 +178,7 @@ pub fn cheapest<C: Cost>(
     cliques: &Cliques<C>,
     starts: &[Start<C>],
     targets: &[Target<C>],
+    search: &mut Search<C>,
 ) -> Result<Option<PackedFound<C>>, SearchFault>
     requires weights { AreSmall C.ops frame.now.graph weights.now }
     requires cliques { AreExact C.ops frame.now weights.now cliques.now (length frame.now.cells.levels) }
@@ -195,6 +197,6 @@ pub fn cheapest<C: Cost>(
     parts.alone(frame);
     parts.known(frame);
     over.known();
-    let found = cheapest_over(alloc, &over, starts, targets)?;
+    let found = cheapest_over(alloc, &over, starts, targets, search)?;
     Ok(found)
 }
