@@ -1,11 +1,12 @@
 -- The best of several targets: with one target more, and as the answer.
-use Rattle.std.proofs.Common.{◌≡◌, ℕ, ◌+◌, ◌<◌, ◌≤◌, ◌^◌, ◌*◌, inl, inr, true, false, Option, Some, None, List, length, arith, refl, sym, ◌∙◌, ap, subst}
+use Rattle.std.proofs.Common.{◌≡◌, ℕ, ◌+◌, ◌<◌, ◌≤◌, ◌^◌, ◌*◌, inl, inr, true, false, Option, Some, None, List, map, length, arith, refl, sym, ◌∙◌, ap, subst}
 use Rattle.std.specs.Prelude.{IfSome}
 use Rattle.std.specs.List.{Contains, slice_get}
 use Rattle.std.specs.declared.cmp.Ordering.{Ordering}
 use Rattle.std.specs.declared.cmp.Ordering.TheVariants.{Less, Equal, Greater}
 use Rattle.std.specs.Ordering.{is_gt, is_lt}
 use Rattle.std.proofs.lemmas.Bool.{cases_lt, true≢false}
+use Rattle.std.proofs.lemmas.List.{length-map}
 use Rattle.std.proofs.lemmas.Option.{same_Some, slice_get_within}
 use Rattle.list_lemmas.proofs.Gets.{Contains_get, get_Contains}
 use Rattle.search_graph.specs.declared.ends.Start.{Start}
@@ -33,6 +34,13 @@ lt_not_gt : (o : Ordering) → is_lt o ≡ true → is_gt o ≡ false
 lt_not_gt Less e = refl
 lt_not_gt Equal e = refl
 lt_not_gt Greater e = absurd (true≢false (sym e))
+
+-- a place among the targets' vertices is one among the targets
+pub place_within : {C : Type 0} (targets : List (Target C)) (vertices given : List ℕ) (k v : ℕ) → vertices ≡ map (λ t. t.vertex) targets → given ≡ vertices → slice_get given k ≡ Some v → k < length targets
+place_within {C} targets vertices given k v are same at =
+    let lt : k < length given = slice_get_within given k v at in
+    let n : length given ≡ length targets = ap length same ∙ ap length are ∙ length-map targets (λ (t : Target C). t.vertex) in
+    omega (arith, lt, n)
 
 module _ {C : Type 0} {ops : CostOps C} (laws : CostLaws ops) (cmp : C → C → Ordering) (same : ops.cmp ≡ cmp) (a b : C) where
   -- a cost that is less is no dearer
@@ -77,6 +85,15 @@ module _ {C : Type 0} {ops : CostOps C} (laws : CostLaws ops) (f : Framed) (w : 
     pub IsBest-priced : (m : ℕ) (best : Option (Priced C)) → IsBest ops f w terminals starts targets m best → IfSome best (IsPriced ops f w terminals starts)
     IsBest-priced m None h = tt
     IsBest-priced m (Some b) h = h.1
+
+    -- each of the targets may be the best to begin with
+    pub IsBest-first : (t : Target C) → Contains targets t → (new : Option (Priced C)) → IsBetter ops f w terminals starts None t new → IsBest ops f w terminals starts targets 0 new
+    IsBest-first t among None h = λ k x lt e. absurd (omega (arith, lt))
+    IsBest-first t among (Some n) h = (
+      elim h.0 [ inl e ↦ absurd (none_some n e) | inr e ↦ subst (λ (x : Target C). Contains targets x) (sym e) among ],
+      h.1,
+      λ k x lt e. absurd (omega (arith, lt)),
+    )
 
     module _ (m : ℕ) (t : Target C) (at : slice_get targets m ≡ Some t) where
       -- what holds of the first targets and of one more

@@ -1,6 +1,6 @@
 //! The query for the cheapest of several targets.
 
-ghost use Rattle.std.specs.Prelude.{ℕ, ◌<◌, length, IfOk, IfSome, OnOk};
+ghost use Rattle.std.specs.Prelude.{◌≡◌, ℕ, ◌<◌, map, length, IfOk, IfSome, OnOk};
 ghost use Rattle.std.specs.Bool.{OnTrue, OnFalse};
 ghost use Rattle.std.specs.List.{Contains};
 ghost use Rattle.search_graph.specs.declared.ends.Start.{Start};
@@ -9,7 +9,7 @@ ghost use Rattle.search_graph.specs.Weighted.{AreSmall};
 ghost use Rattle.step_search.specs.UnderWay.{IsUnderWay, IsDone};
 ghost use Rattle.cell_frame.specs.Cliqued.{AreExact};
 ghost use Rattle.overlay_query.specs.Answers.{IsPackedCheapest, terminals_of};
-ghost use Rattle.overlay_query.specs.Best.{IsPriced, IsBehind, IsBetter, IsLesser};
+ghost use Rattle.overlay_query.specs.Best.{IsPriced, IsBehind, IsBetter, IsLesser, IsBest};
 ghost use Rattle.overlay_query.specs.Query.{IsQuery, IsAsked, query_space};
 ghost use Rattle.overlay_query.specs.TerminalCells.{AreTerminalCells};
 
@@ -44,7 +44,7 @@ fn reaches<C: Cost>(
     requires best { IfSome best (IsPriced C.ops over.now.frame.now over.now.weights.now over.now.parts.now.vertices.items starts.now) }
     requires under_way { IsUnderWay C.ops (query_space C.ops over.now.frame.now over.now.weights.now over.now.parts.now.vertices.items) starts.now search.old }
     ensures under_way { OnOk result (IsUnderWay C.ops (query_space C.ops over.now.frame.now over.now.weights.now over.now.parts.now.vertices.items) starts.now search.new) }
-    ensures done { IfOk result (λ done. OnTrue done (IsDone search.new target.vertex)) }
+    ensures done { IfOk result (λ done. OnTrue done (IsDone C.ops (query_space C.ops over.now.frame.now over.now.weights.now over.now.parts.now.vertices.items) starts.now search.new target.vertex)) }
     ensures behind { IfOk result (λ done. OnFalse done (IsBehind C.ops over.now.frame.now over.now.weights.now starts.now best target)) }
 {
     let Some(best) = best else {
@@ -105,27 +105,60 @@ fn lesser<C: Cost>(best: Option<Priced<C>>, other: Priced<C>) -> Priced<C>
     }
 }
 
+// The target that the search comes to first, with what a cheapest walk to it costs, or none where it comes to none.
+fn first_reached<C: Cost>(
+    alloc: Global,
+    over: &Over<C, TerminalCells>,
+    search: &mut Search<C>,
+    starts: &[Start<C>],
+    targets: &[Target<C>],
+) -> Result<Option<Priced<C>>, AllocError>
+    requires query { IsQuery C.ops over.now.frame.now over.now.weights.now over.now.cliques.now over.now.parts.now.vertices.items starts.now }
+    requires cells { AreTerminalCells over.now.frame.now over.now.parts.now.vertices.items over.now.parts.now.levels.items }
+    requires targets { (t : Target C) → Contains targets.now t → IsAsked C.ops over.now.frame.now over.now.parts.now.vertices.items t }
+    requires under_way { IsUnderWay C.ops (query_space C.ops over.now.frame.now over.now.weights.now over.now.parts.now.vertices.items) starts.now search.old }
+    ensures under_way { OnOk result (IsUnderWay C.ops (query_space C.ops over.now.frame.now over.now.weights.now over.now.parts.now.vertices.items) starts.now search.new) }
+    ensures best { IfOk result (IsBest C.ops over.now.frame.now over.now.weights.now over.now.parts.now.vertices.items starts.now targets.now 0) }
+{
+    let vertices = vertices(alloc, targets)?;
+    match search.run_first(over, starts, vertices.as_slice())? {
+        None => Ok(None),
+        Some(first) => {
+            let best = cheaper(over, search, starts, None, targets[first])?;
+            Ok(best)
+        }
+    }
+}
+
+// The vertex of each target.
+fn vertices<C: Cost>(alloc: Global, targets: &[Target<C>]) -> Result<Vec<u32>, AllocError>
+    ensures { IfOk result (λ vertices. vertices.items ≡ map (λ t. t.vertex) targets.now) }
+{
+    targets.iter().map(|t| t.vertex).collect(alloc)
+}
+
 // The cheapest walk to one of the targets over the parts.
 fn cheapest_over<C: Cost>(
     alloc: Global,
     over: &Over<C, TerminalCells>,
     starts: &[Start<C>],
     targets: &[Target<C>],
+    search: &mut Search<C>,
 ) -> Result<Option<PackedFound<C>>, AllocError>
     requires query { IsQuery C.ops over.now.frame.now over.now.weights.now over.now.cliques.now over.now.parts.now.vertices.items starts.now }
     requires cells { AreTerminalCells over.now.frame.now over.now.parts.now.vertices.items over.now.parts.now.levels.items }
     requires targets { (t : Target C) → Contains targets.now t → IsAsked C.ops over.now.frame.now over.now.parts.now.vertices.items t }
     ensures { IfOk result (IsPackedCheapest C.ops over.now.frame.now over.now.weights.now over.now.parts.now.vertices.items starts.now targets.now) }
 {
-    let mut search = Search::begin(alloc, over, starts)?;
-    let mut best = None;
+    search.restart(over, starts)?;
+    let mut best = first_reached(alloc, over, search, starts, targets)?;
     for target in targets {
-        best = cheaper(over, &mut search, starts, best, *target)?;
+        best = cheaper(over, search, starts, best, *target)?;
     }
     match best {
         None => Ok(None),
         Some(best) => {
-            let found = find(alloc, over, &mut search, starts, best.target)?;
+            let found = find(alloc, over, search, starts, best.target)?;
             Ok(found)
         }
     }
@@ -137,7 +170,7 @@ fn cheapest_over<C: Cost>(
 /// No hop by an arc is inside a cell that is the part of both its vertices, where all starts and targets are terminals
 /// (see `Frame::part_of`). The search ends where no target that is left can cost less.
 ///
-/// It answers `Memory` where memory runs out.
+/// `search` is memory that is used again; nothing is asked of it. It answers `Memory` where memory runs out.
 pub fn cheapest<C: Cost>(
     alloc: Global,
     frame: &Frame,
@@ -145,6 +178,7 @@ pub fn cheapest<C: Cost>(
     cliques: &Cliques<C>,
     starts: &[Start<C>],
     targets: &[Target<C>],
+    search: &mut Search<C>,
 ) -> Result<Option<PackedFound<C>>, SearchFault>
     requires weights { AreSmall C.ops frame.now.graph weights.now }
     requires cliques { AreExact C.ops frame.now weights.now cliques.now (length frame.now.cells.levels) }
@@ -163,6 +197,6 @@ pub fn cheapest<C: Cost>(
     parts.alone(frame);
     parts.known(frame);
     over.known();
-    let found = cheapest_over(alloc, &over, starts, targets)?;
+    let found = cheapest_over(alloc, &over, starts, targets, search)?;
     Ok(found)
 }

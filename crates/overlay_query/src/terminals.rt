@@ -129,15 +129,14 @@ impl Parts for TerminalCells {
 
     fn share(&self, frame: &Frame, u: u32, v: u32) -> bool {
         frame.known();
-        for below in 0..frame.levels() {
-            let one = frame.cell(below + 1, u);
-            let other = frame.cell(below + 1, v);
-            if one.number == other.number {
-                let held = self.has_terminal(frame, below + 1, u);
-                return !held;
-            }
+        self.known(frame);
+        let level = self.level(frame, u);
+        if level == 0 {
+            return false;
         }
-        false
+        let one = frame.cell(level, u);
+        let other = frame.cell(level, v);
+        one.number == other.number
     }
 
     fn known(&self, frame: &Frame) {

@@ -16,6 +16,7 @@ use search_graph::{DurLen, Graph, Start, Target, Weights, small_weights};
 use std::alloc::{AllocError, Global};
 use std::process::Abort;
 use std::test::Fail;
+use step_search::Search;
 
 fn cost(duration: u64, length: u64) -> DurLen
     ensures { result ≡ record { duration = duration; length = length } }
@@ -128,7 +129,16 @@ fn the_second_of_two_targets_is_the_cheapest(rt: HostRuntime) -> Result<(), Fail
     let cliques = customize(rt.alloc(), &frame, &weights)?;
     let starts = [start(3, cost(49, 555))];
     let targets = [target(3, cost(50, 556)), target(2, cost(50, 556))];
-    let found = cheapest(rt.alloc(), &frame, &weights, &cliques, &starts, &targets)?;
+    let mut search = Search::new(rt.alloc());
+    let found = cheapest(
+        rt.alloc(),
+        &frame,
+        &weights,
+        &cliques,
+        &starts,
+        &targets,
+        &mut search,
+    )?;
     let hops = [by_arc(1), by_cell(0, 1, 0), by_arc(2)];
     check(&rt, &found, cost(497, 3333), 3, &hops);
     let costs = least_costs(rt.alloc(), &frame, &weights, &cliques, &starts, &targets)?;
@@ -243,14 +253,31 @@ fn no_walk_leads_to_a_closed_vertex(rt: HostRuntime) -> Result<(), Fail> {
     let cliques = customize(rt.alloc(), &frame, &weights)?;
     let starts = [start(1, cost(5, 0))];
     let closed = [target(6, cost(2, 2))];
-    let none = cheapest(rt.alloc(), &frame, &weights, &cliques, &starts, &closed)?;
+    let mut search = Search::new(rt.alloc());
+    let none = cheapest(
+        rt.alloc(),
+        &frame,
+        &weights,
+        &cliques,
+        &starts,
+        &closed,
+        &mut search,
+    )?;
     assert!(rt; none.is_none());
     let targets = [
         target(6, cost(2, 2)),
         target(0, cost(2, 2)),
         target(6, cost(2, 2)),
     ];
-    let found = cheapest(rt.alloc(), &frame, &weights, &cliques, &starts, &targets)?;
+    let found = cheapest(
+        rt.alloc(),
+        &frame,
+        &weights,
+        &cliques,
+        &starts,
+        &targets,
+        &mut search,
+    )?;
     assert!(rt; found.is_some());
     let costs = least_costs(rt.alloc(), &frame, &weights, &cliques, &starts, &targets)?;
     let want = [None, Some(cost(91, 13)), None];

@@ -6,7 +6,7 @@ ghost use Rattle.overlay_query.specs.Packed.{IsBy};
 ghost use Rattle.path_unpack.specs.Finer.{IsOverlay, LeadOn, StandFor, Opens, IsUpTo, AreUpTo};
 
 use crate::opening::opened;
-use crate::overlay::{Overlay, idle_search};
+use crate::overlay::Overlay;
 use overlay_query::Hop;
 use search_graph::Cost;
 use std::alloc::{AllocError, Global};
@@ -65,10 +65,11 @@ fn refined<C: Cost>(
     Ok(finer)
 }
 
-/// The hops with all shortcuts opened, down to arcs. One search's memory serves all of them.
+/// The hops with all shortcuts opened, down to arcs. The search's memory serves all of them; nothing is asked of it.
 pub fn arcs_of<C: Cost>(
     alloc: Global,
     overlay: &Overlay<C>,
+    search: &mut Search<C>,
     first: u32,
     hops: &[Hop],
 ) -> Result<Vec<Hop>, AllocError>
@@ -77,11 +78,10 @@ pub fn arcs_of<C: Cost>(
     ensures stand { IfOk result (λ arcs. StandFor C.ops overlay.now.frame.now overlay.now.weights.now first hops.now arcs.items) }
     ensures arcs { IfOk result (λ arcs. AreUpTo 0 arcs.items) }
 {
-    let mut search = idle_search(alloc, overlay)?;
     let mut finer = Vec::from_slice(alloc, hops)?;
     let mut level = overlay.frame.levels();
     while level > 0 {
-        finer = refined(alloc, overlay, &mut search, level, first, finer.as_slice())?;
+        finer = refined(alloc, overlay, search, level, first, finer.as_slice())?;
         level -= 1;
     }
     Ok(finer)

@@ -16,6 +16,7 @@ use search_graph::{DurLen, Graph, Start, Target, Weights, small_weights};
 use std::alloc::{AllocError, Global};
 use std::process::Abort;
 use std::test::Fail;
+use step_search::Search;
 
 fn cost(duration: u64, length: u64) -> DurLen
     ensures { result ≡ record { duration = duration; length = length } }
@@ -136,6 +137,7 @@ fn shortcuts_of_both_levels_are_opened(rt: HostRuntime) -> Result<(), Fail> {
     let frame = ring(&rt, rt.alloc())?;
     let weights = weights(rt.alloc(), frame.graph())?;
     let cliques = customize(rt.alloc(), &frame, &weights)?;
+    let mut search = Search::new(rt.alloc());
     let starts = [start(4, cost(5, 0))];
     let targets = [target(3, cost(2, 2))];
     let found = least(rt.alloc(), &frame, &weights, &cliques, &starts, &targets)?;
@@ -152,7 +154,14 @@ fn shortcuts_of_both_levels_are_opened(rt: HostRuntime) -> Result<(), Fail> {
             ];
             assert_eq!(rt; found.cost, cost(91, 12));
             assert_eq!(rt; found.packed.hops.as_slice(), hops.as_slice());
-            let walk = unpack(rt.alloc(), &frame, &weights, &cliques, &found.packed)?;
+            let walk = unpack(
+                rt.alloc(),
+                &frame,
+                &weights,
+                &cliques,
+                &found.packed,
+                &mut search,
+            )?;
             let want = [4, 5, 6, 7, 9, 0, 1, 2, 3];
             assert_eq!(rt; walk.as_slice(), want.as_slice());
         }
@@ -165,16 +174,33 @@ fn the_nearer_of_two_targets_is_the_cheapest(rt: HostRuntime) -> Result<(), Fail
     let frame = ring(&rt, rt.alloc())?;
     let weights = weights(rt.alloc(), frame.graph())?;
     let cliques = customize(rt.alloc(), &frame, &weights)?;
+    let mut search = Search::new(rt.alloc());
     let starts = [start(4, cost(5, 0))];
     let closed = [target(8, cost(2, 2))];
-    let none = cheapest_from(rt.alloc(), &frame, &weights, &cliques, &starts, &closed)?;
+    let none = cheapest_from(
+        rt.alloc(),
+        &frame,
+        &weights,
+        &cliques,
+        &starts,
+        &closed,
+        &mut search,
+    )?;
     assert!(rt; none.is_none());
     let targets = [
         target(8, cost(2, 2)),
         target(3, cost(2, 2)),
         target(5, cost(2, 2)),
     ];
-    match cheapest_from(rt.alloc(), &frame, &weights, &cliques, &starts, &targets)? {
+    match cheapest_from(
+        rt.alloc(),
+        &frame,
+        &weights,
+        &cliques,
+        &starts,
+        &targets,
+        &mut search,
+    )? {
         None => panic!(rt; "no walk"),
         Some(found) => {
             assert_eq!(rt; found.cost, cost(8, 2));

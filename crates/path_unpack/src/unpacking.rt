@@ -12,6 +12,7 @@ use overlay_query::{Hop, PackedWalk};
 use plain_search::SearchFault;
 use search_graph::{Cost, Weights};
 use std::alloc::{AllocError, Global};
+use step_search::Search;
 
 // The vertices of a walk, by its first, its hops and its last.
 fn vertices(alloc: Global, first: u32, hops: &[Hop], last: u32) -> Result<Vec<u32>, AllocError>
@@ -29,13 +30,15 @@ fn vertices(alloc: Global, first: u32, hops: &[Hop], last: u32) -> Result<Vec<u3
 /// A walk along arcs that a packed walk stands for: from its first vertex to its last, over open vertices, at exactly its
 /// cost. Each shortcut becomes a cheapest walk inside its cell. Its vertices are answered, the first and the last with them.
 ///
-/// The weights and the cliques are those under which the walk was packed. It answers `Memory` where memory runs out.
+/// The weights and the cliques are those under which the walk was packed. `search` is memory that is used again; nothing is
+/// asked of it. It answers `Memory` where memory runs out.
 pub fn unpack<C: Cost>(
     alloc: Global,
     frame: &Frame,
     weights: &Weights<C>,
     cliques: &Cliques<C>,
     packed: &PackedWalk,
+    search: &mut Search<C>,
 ) -> Result<Vec<u32>, SearchFault>
     requires weights { AreSmall C.ops frame.now.graph weights.now }
     requires cliques { AreExact C.ops frame.now weights.now cliques.now (length frame.now.cells.levels) }
@@ -50,7 +53,7 @@ pub fn unpack<C: Cost>(
     };
     let hops = packed.hops.as_slice();
     let end = hops.len() - 1;
-    let arcs = arcs_of(alloc, &overlay, packed.first, &hops[..end])?;
+    let arcs = arcs_of(alloc, &overlay, search, packed.first, &hops[..end])?;
     let walk = vertices(alloc, packed.first, arcs.as_slice(), hops[end].to)?;
     Ok(walk)
 }

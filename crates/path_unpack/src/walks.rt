@@ -16,6 +16,7 @@ use overlay_query::{PackedFound, cheapest, least};
 use plain_search::{Found, SearchFault};
 use search_graph::{Cost, Numbers, Start, Target, Weights};
 use std::alloc::Global;
+use step_search::Search;
 
 // The answer to a target, with its walk unpacked.
 fn unpacked<C: Cost>(
@@ -26,6 +27,7 @@ fn unpacked<C: Cost>(
     starts: &[Start<C>],
     target: Target<C>,
     answer: &Option<PackedFound<C>>,
+    search: &mut Search<C>,
 ) -> Result<Option<Found<C>>, SearchFault>
     requires weights { AreSmall C.ops frame.now.graph weights.now }
     requires cliques { AreExact C.ops frame.now weights.now cliques.now (length frame.now.cells.levels) }
@@ -38,7 +40,7 @@ fn unpacked<C: Cost>(
     match answer {
         None => Ok(None),
         Some(found) => {
-            let walk = unpack(alloc, frame, weights, cliques, &found.packed)?;
+            let walk = unpack(alloc, frame, weights, cliques, &found.packed, search)?;
             Ok(Some(Found {
                 cost: found.cost,
                 walk: Numbers::of(walk),
@@ -68,10 +70,18 @@ pub fn least_from<C: Cost>(
     ensures least { IfOk result (λ found. (k : ℕ) (t : Target C) (answer : _) → slice_get targets.now k ≡ Some t → slice_get found.items k ≡ Some answer → IsFound C.ops frame.now.graph weights.now starts.now t answer) }
 {
     let packed = least(alloc, frame, weights, cliques, starts, targets)?;
+    let mut search = Search::new(alloc);
     let mut found = Vec::with_capacity(alloc, targets.len())?;
     for i in 0..targets.len() {
         let answer = unpacked(
-            alloc, frame, weights, cliques, starts, targets[i], &packed[i],
+            alloc,
+            frame,
+            weights,
+            cliques,
+            starts,
+            targets[i],
+            &packed[i],
+            &mut search,
         )?;
         found.push(answer)?;
     }
@@ -81,7 +91,8 @@ pub fn least_from<C: Cost>(
 /// Of the cheapest walks from one of the starts to each of the targets one that costs least, or `None` exactly where there is
 /// no walk to any. Where a walk begins and ends at one vertex, it leads round. That walk alone is unpacked.
 ///
-/// It answers `Memory` where memory runs out.
+/// `search` is memory that is used again, by the query and by the opening of shortcuts; nothing is asked of it. It answers
+/// `Memory` where memory runs out.
 pub fn cheapest_from<C: Cost>(
     alloc: Global,
     frame: &Frame,
@@ -89,6 +100,7 @@ pub fn cheapest_from<C: Cost>(
     cliques: &Cliques<C>,
     starts: &[Start<C>],
     targets: &[Target<C>],
+    search: &mut Search<C>,
 ) -> Result<Option<Found<C>>, SearchFault>
     requires weights { AreSmall C.ops frame.now.graph weights.now }
     requires cliques { AreExact C.ops frame.now weights.now cliques.now (length frame.now.cells.levels) }
@@ -96,10 +108,10 @@ pub fn cheapest_from<C: Cost>(
     requires targets { (t : Target C) → Contains targets.now t → (t.vertex < frame.now.graph.vertices) × C.ops.units t.cost 1 }
     ensures { IfOk result (IsCheapest C.ops frame.now.graph weights.now starts.now targets.now) }
 {
-    match cheapest(alloc, frame, weights, cliques, starts, targets)? {
+    match cheapest(alloc, frame, weights, cliques, starts, targets, search)? {
         None => Ok(None),
         Some(nearest) => {
-            let walk = unpack(alloc, frame, weights, cliques, &nearest.packed)?;
+            let walk = unpack(alloc, frame, weights, cliques, &nearest.packed, search)?;
             Ok(Some(Found {
                 cost: nearest.cost,
                 walk: Numbers::of(walk),

@@ -19,6 +19,7 @@ use road_base::Place;
 use road_places::{Route, starts, targets};
 use search_graph::{DurLen, Start, Target};
 use std::alloc::{AllocError, Global};
+use step_search::Search;
 
 /// Where a walk from a place may start: each is a vertex of the frame, and costs at most one unit.
 pub(crate) fn starts_from(
@@ -68,7 +69,16 @@ fn over_turns(
     let frame = under.frame();
     let base = under.base();
     let cliques = under.cliques();
-    match cheapest_from(alloc, frame, base.weights(), cliques, starts, targets) {
+    let mut search = Search::new(alloc);
+    match cheapest_from(
+        alloc,
+        frame,
+        base.weights(),
+        cliques,
+        starts,
+        targets,
+        &mut search,
+    ) {
         Ok(found) => Ok(found),
         Err(SearchFault::Memory) => Err(AllocError),
     }

@@ -18,3 +18,6 @@ opened_over-requires-clause-inner g c = record {
 
 pub opened_over-requires-clause-starts : goal.opened_over-requires-clause-starts
 opened_over-requires-clause-starts g c = c.as_slice.ensures.value ∙ c.in_ok-starts.ensures ∙ one_is c.args.entry g.met.C.Cost.zero_is
+
+pub opened_over-requires-clause-exact : goal.opened_over-requires-clause-exact
+opened_over-requires-clause-exact g c = λ k i u at le e. c.requires.overlay.exact k i u at at.1 e
