@@ -30,7 +30,11 @@ fn is_told(alloc: Global, target: &[u8], code: &[u8], message: &[u8]) -> Result<
 
 // Asserts that each target of a table is refused as its row says: the target, the code's name and the message, with a bar
 // between them. A table is one text, since a proof takes time for each value of a list.
-pub(crate) fn assert_refused(rt: &impl Abort, alloc: Global, table: &[u8]) -> Result<(), AllocError> {
+pub(crate) fn assert_refused(
+    rt: &impl Abort,
+    alloc: Global,
+    table: &[u8],
+) -> Result<(), AllocError> {
     for row in table.split(|byte| *byte == b'\n') {
         let mut parts = row.split(|byte| *byte == b'|');
         match (parts.next(), parts.next(), parts.next()) {

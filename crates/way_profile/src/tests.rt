@@ -162,7 +162,10 @@ fn ways_are_used_by_their_tags(rt: HostRuntime) -> Result<(), AllocError> {
         match (parts.next(), parts.next()) {
             (Some(pairs), Some(wanted)) => {
                 let found = profile.way(&tags(&rt, alloc, pairs)?);
-                let told = format!(in alloc; "{} {} {}", found.forward, found.backward, found.speed)?;
+                let told = format!(in alloc;
+                    "{} {} {}",
+                    found.forward, found.backward, found.speed
+                )?;
                 assert_eq!(rt; told.as_str(), wanted);
             }
             _ => panic!(rt; "a row of two"),
