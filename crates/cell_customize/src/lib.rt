@@ -18,8 +18,6 @@ mod renamed;
 mod rows;
 mod scratch;
 mod side_by_side;
-#[cfg(test)]
-mod tests;
 
 pub use customizing::customize;
 pub use pieces::Piece;

@@ -12,8 +12,6 @@ mod marking;
 mod pieces;
 mod recustomizing;
 mod side_by_side;
-#[cfg(test)]
-mod tests;
 
 pub use recustomizing::{Recustomized, recustomize};
 pub use side_by_side::recustomize_in_threads;

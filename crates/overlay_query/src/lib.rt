@@ -19,8 +19,6 @@ mod nearest;
 mod packed;
 mod query;
 mod terminals;
-#[cfg(test)]
-mod tests;
 
 pub use costs::least_costs;
 pub use hops::pack;

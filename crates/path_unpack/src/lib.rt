@@ -14,8 +14,6 @@
 mod opening;
 mod overlay;
 mod refining;
-#[cfg(test)]
-mod tests;
 mod unpacking;
 mod walks;
 

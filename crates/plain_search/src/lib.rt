@@ -13,8 +13,6 @@ mod along;
 mod finish;
 mod found;
 mod queries;
-#[cfg(test)]
-mod tests;
 
 pub use along::Along;
 pub use found::{Found, SearchFault};

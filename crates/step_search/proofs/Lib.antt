@@ -9,7 +9,6 @@ mod Offered
 mod Paged
 mod Queues
 mod Rewritten
-mod RingOfSix
 mod Settled
 mod Taken
 mod Trails

@@ -23,8 +23,6 @@ mod links;
 mod pages;
 mod queue;
 mod rows;
-#[cfg(test)]
-mod tests;
 
 pub use dijkstra::{Reached, Search, least};
 pub use hops::{Hop, Steps};

@@ -14,8 +14,6 @@ mod choosing;
 mod columns;
 mod lists;
 mod tables;
-#[cfg(test)]
-mod tests;
 
 pub use choosing::lesser;
 pub use lists::{Row, Starts, Targets};

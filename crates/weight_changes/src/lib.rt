@@ -8,5 +8,3 @@ mod places;
 pub use changes::changed;
 pub use places::Changed;
 
-#[cfg(test)]
-mod tests;

@@ -1,5 +1,0 @@
-use Rattle.step_search.proofs.RingOfSix.{ring_space}
-use Rattle.step_search.proofs.tests.the_nearer_of_two_targets_is_told_first.Goals as goal
-
-pub restart-requires-clause-space : goal.restart-requires-clause-space
-restart-requires-clause-space g c = ring_space

@@ -1,0 +1,8 @@
+use Rattle.worked_graphs.proofs.RingOfSix.{ring_space}
+use Rattle.worked_graphs.proofs.rings.what_is_known_to_be_least_ends_the_search.Goals as goal
+
+pub begin-requires-clause-space : goal.begin-requires-clause-space
+begin-requires-clause-space g c = ring_space
+
+pub restart-requires-clause-space : goal.restart-requires-clause-space
+restart-requires-clause-space g c = ring_space

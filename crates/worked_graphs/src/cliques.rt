@@ -1,0 +1,170 @@
+//! What walks cost inside cells, for given weights and for changed ones.
+
+ghost use Rattle.std.specs.Prelude.{◌≡◌, length, IfOk};
+ghost use Rattle.search_graph.specs.Durations.{durlen_ops};
+ghost use Rattle.search_graph.specs.Weighted.{AreSmall};
+ghost use Rattle.cell_frame.specs.Cliqued.{AreExact};
+
+use crate::drawings::{Drawing, STREETS, cost_told, frame, weights};
+use cell_customize::{customize, customize_in_threads};
+use cell_frame::{Cliques, Frame};
+use cell_recustomize::{Recustomized, recustomize, recustomize_in_threads};
+use search_graph::DurLen;
+use std::alloc::{AllocError, Global};
+use std::process::Abort;
+use std::test::Fail;
+use std::thread::Threads;
+use weight_changes::changed;
+
+// What the walks cost inside the cell of this level that holds an entry, from there to each exit.
+fn row_told(
+    rt: &impl Abort,
+    alloc: Global,
+    frame: &Frame,
+    cliques: &Cliques<DurLen>,
+    level: u32,
+    entry: u32,
+) -> Result<String, AllocError>
+    requires { (w : _) × AreExact durlen_ops frame.now w cliques.now (length frame.now.cells.levels) }
+{
+    assert!(rt; level >= 1 && level <= frame.levels() && entry < frame.graph().vertices());
+    let cell = frame.cell(level, entry);
+    let Some(place) = frame.entry(cell, entry) else {
+        return String::from_str(alloc, "no entry");
+    };
+    let mut text = String::new(alloc);
+    let row = cliques.row(frame, cell, place);
+    for i in 0..row.len() {
+        text.push_str(cost_told(alloc, row.get(i))?.as_str())?;
+    }
+    Ok(text)
+}
+
+// Each way of a street is a cell of level 1, in which nothing is paid, and the street is one of level 2: a way into it and out
+// again turns back at its end.
+fn turns_back(
+    rt: &impl Abort,
+    alloc: Global,
+    frame: &Frame,
+    cliques: &Cliques<DurLen>,
+) -> Result<(), AllocError>
+    requires { (w : _) × AreExact durlen_ops frame.now w cliques.now (length frame.now.cells.levels) }
+{
+    assert_eq!(rt; row_told(rt, alloc, frame, cliques, 1, 1)?.as_str(), "0/0 ");
+    assert_eq!(rt;
+        row_told(rt, alloc, frame, cliques, 2, 1)?.as_str(),
+        "299/1111 "
+    );
+    assert_eq!(rt;
+        row_told(rt, alloc, frame, cliques, 2, 2)?.as_str(),
+        "299/1111 "
+    );
+    Ok(())
+}
+
+#[test]
+fn a_way_into_a_street_turns_back_at_its_end(rt: HostRuntime) -> Result<(), Fail> {
+    let alloc = rt.alloc();
+    let frame = frame(&rt, alloc, &STREETS, &[1, 2])?;
+    let weights = weights(&rt, alloc, frame.graph(), &STREETS)?;
+    let cliques = customize(alloc, &frame, &weights)?;
+    turns_back(&rt, alloc, &frame, &cliques)?;
+    let in_threads = customize_in_threads(&rt, alloc, &frame, &weights)?;
+    turns_back(&rt, alloc, &frame, &in_threads)?;
+    Ok(())
+}
+
+// The cliques of the two streets after their costs changed to those of a drawing.
+fn after(
+    rt: &impl Abort,
+    alloc: Global,
+    frame: &Frame,
+    drawing: &Drawing,
+) -> Result<Recustomized<DurLen>, Fail>
+    ensures { IfOk result (λ made. (w : _) × AreExact durlen_ops frame.now w made.cliques (length frame.now.cells.levels)) }
+{
+    let before = weights(rt, alloc, frame.graph(), &STREETS)?;
+    let old = customize(alloc, frame, &before)?;
+    let after = weights(rt, alloc, frame.graph(), drawing)?;
+    let places = changed(alloc, frame.graph(), &before, &after)?;
+    let vertices = places.vertices.as_slice();
+    let arcs = places.arcs.as_slice();
+    let made = recustomize(alloc, frame, &after, &old, vertices, arcs)?;
+    Ok(made)
+}
+
+// The same by threads.
+fn after_in_threads(
+    rt: &(impl Abort + Threads + Sync),
+    alloc: Global,
+    frame: &Frame,
+    drawing: &Drawing,
+) -> Result<Recustomized<DurLen>, Fail>
+    ensures { IfOk result (λ made. (w : _) × AreExact durlen_ops frame.now w made.cliques (length frame.now.cells.levels)) }
+{
+    let before = weights(rt, alloc, frame.graph(), &STREETS)?;
+    let old = customize(alloc, frame, &before)?;
+    let after = weights(rt, alloc, frame.graph(), drawing)?;
+    let places = changed(alloc, frame.graph(), &before, &after)?;
+    let vertices = places.vertices.as_slice();
+    let arcs = places.arcs.as_slice();
+    let made = recustomize_in_threads(rt, alloc, frame, &after, &old, vertices, arcs)?;
+    Ok(made)
+}
+
+/// The two streets with the first way slower.
+const SLOWER: Drawing = Drawing {
+    vertex_costs: "199/1111 99/1111 99/1111 99/1111",
+    ..STREETS
+};
+
+#[test]
+fn a_slower_way_touches_its_street(rt: HostRuntime) -> Result<(), Fail> {
+    let alloc = rt.alloc();
+    let frame = frame(&rt, alloc, &STREETS, &[2, 4])?;
+    let made = after(&rt, alloc, &frame, &SLOWER)?;
+    assert_eq!(rt; made.searches, 1);
+    assert_eq!(rt;
+        row_told(&rt, alloc, &frame, &made.cliques, 1, 1)?.as_str(),
+        "399/1111 "
+    );
+    assert_eq!(rt;
+        row_told(&rt, alloc, &frame, &made.cliques, 1, 2)?.as_str(),
+        "299/1111 "
+    );
+    Ok(())
+}
+
+#[test]
+fn a_dearer_turn_between_streets_touches_neither(rt: HostRuntime) -> Result<(), Fail> {
+    let alloc = rt.alloc();
+    let frame = frame(&rt, alloc, &STREETS, &[2, 4])?;
+    let dearer = Drawing {
+        arc_costs: "100/0 0/0 200/0 200/0",
+        ..STREETS
+    };
+    let made = after(&rt, alloc, &frame, &dearer)?;
+    assert_eq!(rt; made.searches, 0);
+    assert_eq!(rt;
+        row_told(&rt, alloc, &frame, &made.cliques, 1, 1)?.as_str(),
+        "299/1111 "
+    );
+    Ok(())
+}
+
+#[test]
+fn threads_find_what_one_thread_finds(rt: HostRuntime) -> Result<(), Fail> {
+    let alloc = rt.alloc();
+    let frame = frame(&rt, alloc, &STREETS, &[2, 4])?;
+    let made = after_in_threads(&rt, alloc, &frame, &SLOWER)?;
+    assert_eq!(rt; made.searches, 1);
+    assert_eq!(rt;
+        row_told(&rt, alloc, &frame, &made.cliques, 1, 1)?.as_str(),
+        "399/1111 "
+    );
+    assert_eq!(rt;
+        row_told(&rt, alloc, &frame, &made.cliques, 1, 2)?.as_str(),
+        "299/1111 "
+    );
+    Ok(())
+}

@@ -1,0 +1,271 @@
+//! Small graphs as texts: a proof takes time for each value of a list, and none for a text.
+
+ghost use Rattle.std.specs.Prelude.{◌≡◌, ◌<◌, ◌≤◌, length, All, IfOk, IfSome};
+ghost use Rattle.std.specs.Option.{ForSome};
+ghost use Rattle.std.specs.List.Sorted.{IsStrictlyIncreasing};
+ghost use Rattle.search_graph.specs.Durations.{durlen_ops};
+ghost use Rattle.search_graph.specs.Weighted.{AreSmall};
+ghost use Rattle.cell_frame.specs.Cliqued.{AreExact};
+
+use cell_customize::customize;
+use cell_frame::{Cliques, Frame};
+use cell_partition::cells;
+use cost_lists::{CostList, FullCostList};
+use search_graph::{DurLen, Graph, Start, Target, Weights, small_weights};
+use std::alloc::{AllocError, Global};
+use std::process::Abort;
+use std::test::Fail;
+
+/// A graph in the plane. Its texts are lists with a blank between each two.
+#[derive(Drop)]
+pub struct Drawing {
+    /// where each vertex lies, as `longitude,latitude`
+    pub vertices: &'static str,
+    /// each arc as `tail-head`
+    pub arcs: &'static str,
+    /// what each vertex costs, as `duration/length`; `-` where it is closed
+    pub vertex_costs: &'static str,
+    /// what each arc costs
+    pub arc_costs: &'static str,
+}
+
+/// Two ways from 0 to 4, by 2 or straight; a ring 0, 1, 2; two arcs from 1 to 2; 3 is closed; nothing leads to 5 and 6.
+pub const SMALL: Drawing = Drawing {
+    vertices: "0,0 0,1000 1000,0 3000,0 3000,1000 4000,1000 0,2000",
+    arcs: "0-1 1-2 2-0 0-3 3-4 2-4 1-4 5-4 6-0 1-2",
+    vertex_costs: "10/100 5/50 20/30 - 7/10 1/1 3/3",
+    arc_costs: "2/1 4/2 6/5 1/1 1/1 3/2 40/1 0/9 1/1 4/1",
+};
+
+/// Two streets that meet at a corner, each driven both ways; to turn back at an end costs 200.
+pub const STREETS: Drawing = Drawing {
+    vertices: "0,1000 0,1000 1000,2000 1000,2000",
+    arcs: "0-2 3-1 1-0 2-3",
+    vertex_costs: "99/1111 99/1111 99/1111 99/1111",
+    arc_costs: "0/0 0/0 200/0 200/0",
+};
+
+/// A ring of eight vertices, of which 6 is closed; a way past 5 and 6, a dear one from 2 to the ring's end, and one back from
+/// 5.
+pub const RING_OF_EIGHT: Drawing = Drawing {
+    vertices: "0,0 10,0 20,0 30,0 40,0 50,0 60,0 70,0",
+    arcs: "0-1 1-2 2-3 3-4 4-5 5-6 6-7 7-0 4-7 2-0 5-2",
+    vertex_costs: "10/1 10/1 10/1 10/1 10/1 10/1 - 10/1",
+    arc_costs: "1/0 1/0 1/0 1/0 1/0 1/0 1/0 1/0 40/7 150/0 3/0",
+};
+
+/// A ring of ten vertices, of which 8 is closed; a way past 8, and two dear ones past 6 and past 1.
+pub const RING_OF_TEN: Drawing = Drawing {
+    vertices: "0,0 10,0 20,0 30,0 40,0 50,0 60,0 70,0 80,0 90,0",
+    arcs: "0-1 1-2 2-3 3-4 4-5 5-6 6-7 7-8 8-9 9-0 7-9 5-7 0-2",
+    vertex_costs: "10/1 10/1 10/1 10/1 10/1 10/1 10/1 10/1 - 10/1",
+    arc_costs: "1/0 1/0 1/0 1/0 1/0 1/0 1/0 1/0 1/0 1/0 7/3 50/0 50/0",
+};
+
+// The whole number that a text is.
+fn number(rt: &impl Abort, text: Option<&str>) -> u32 {
+    let Some(Ok(number)) = text.map(|text| text.parse::<u32>()) else {
+        panic!(rt; "a number");
+    };
+    number
+}
+
+// The two numbers of each entry of a list.
+fn pairs(
+    rt: &impl Abort,
+    alloc: Global,
+    list: &str,
+    between: char,
+) -> Result<Vec<(u32, u32)>, AllocError> {
+    let mut pairs = Vec::new(alloc);
+    for entry in list.split(' ') {
+        let mut parts = entry.split(between);
+        pairs.push((number(rt, parts.next()), number(rt, parts.next())))?;
+    }
+    Ok(pairs)
+}
+
+// The cost that a text tells, None for `-`.
+fn cost_of(rt: &impl Abort, text: &str) -> Option<DurLen>
+    ensures { IfSome result (λ cost. durlen_ops.units cost 1) }
+{
+    if text == "-" {
+        return None;
+    }
+    let mut parts = text.split('/');
+    let duration = number(rt, parts.next()) as u64;
+    let length = number(rt, parts.next()) as u64;
+    Some(DurLen { duration, length })
+}
+
+fn vertex_costs(rt: &impl Abort, alloc: Global, list: &str) -> Result<CostList<DurLen>, AllocError>
+    ensures { IfOk result (All (λ o. ForSome o (λ x. durlen_ops.units x 1))) }
+{
+    let mut costs = CostList::new(alloc);
+    for text in list.split(' ') {
+        costs.push(cost_of(rt, text))?;
+    }
+    Ok(costs)
+}
+
+fn arc_costs(rt: &impl Abort, alloc: Global, list: &str) -> Result<FullCostList<DurLen>, AllocError>
+    ensures { IfOk result (All (λ a. durlen_ops.units a 1)) }
+{
+    let mut costs = FullCostList::with_capacity(alloc, list.len())?;
+    for text in list.split(' ') {
+        let Some(cost) = cost_of(rt, text) else {
+            panic!(rt; "each arc has a cost");
+        };
+        costs.push(cost)?;
+    }
+    Ok(costs)
+}
+
+/// What the vertices and the arcs of a graph cost.
+pub fn weights(
+    rt: &impl Abort,
+    alloc: Global,
+    graph: &Graph,
+    drawing: &Drawing,
+) -> Result<Weights<DurLen>, AllocError>
+    ensures { IfOk result (AreSmall durlen_ops graph.now) }
+{
+    let vertex = vertex_costs(rt, alloc, drawing.vertex_costs)?;
+    let arc = arc_costs(rt, alloc, drawing.arc_costs)?;
+    assert!(rt; graph.vertices() <= 1000);
+    assert!(rt; vertex.len() == graph.vertices() as usize);
+    assert!(rt; arc.len() == graph.arcs() as usize);
+    Ok(small_weights(graph, vertex, arc))
+}
+
+/// The graph of a drawing.
+pub fn graph(rt: &impl Abort, alloc: Global, drawing: &Drawing) -> Result<Graph, Fail> {
+    let vertices = pairs(rt, alloc, drawing.vertices, ',')?.len();
+    let arcs = pairs(rt, alloc, drawing.arcs, '-')?;
+    assert!(rt; vertices <= 1000 && arcs.len() <= 1000);
+    Ok(Graph::of(alloc, vertices as u32, &arcs)?)
+}
+
+/// The frame of a drawing, in cells of at most so many vertices.
+pub fn frame(
+    rt: &impl Abort,
+    alloc: Global,
+    drawing: &Drawing,
+    limits: &[u32],
+) -> Result<Frame, Fail>
+    requires ascending { IsStrictlyIncreasing limits.now }
+    requires some { All (λ limit. 1 ≤ limit) limits.now }
+{
+    let graph = graph(rt, alloc, drawing)?;
+    let mut midpoints = Vec::new(alloc);
+    for (lon, lat) in pairs(rt, alloc, drawing.vertices, ',')? {
+        midpoints.push((lon as i32, lat as i32))?;
+    }
+    assert!(rt; midpoints.len() <= 1000 && midpoints.len() as u32 == graph.vertices());
+    let cells = cells(alloc, &midpoints, limits)?;
+    let frame = Frame::of(alloc, &graph, cells)?;
+    Ok(frame)
+}
+
+// The vertex and the cost of an entry `vertex:cost`.
+fn end(rt: &impl Abort, vertices: u32, entry: &str) -> (u32, DurLen)
+    ensures { (result.0 < vertices) × durlen_ops.units result.1 1 }
+{
+    let mut parts = entry.split(':');
+    let vertex = number(rt, parts.next());
+    assert!(rt; vertex < vertices);
+    let Some(Some(cost)) = parts.next().map(|text| cost_of(rt, text)) else {
+        panic!(rt; "each end has a cost");
+    };
+    (vertex, cost)
+}
+
+/// The starts of a list, each as `vertex:cost`.
+pub fn starts(
+    rt: &impl Abort,
+    alloc: Global,
+    vertices: u32,
+    list: &str,
+) -> Result<Vec<Start<DurLen>>, AllocError>
+    ensures { IfOk result (λ starts. All (λ s. (s.vertex < vertices) × durlen_ops.units s.cost 1) starts.items) }
+{
+    let mut starts = Vec::new(alloc);
+    for entry in list.split(' ') {
+        let (vertex, cost) = end(rt, vertices, entry);
+        starts.push(Start { vertex, cost })?;
+    }
+    Ok(starts)
+}
+
+/// The targets of a list, each as `vertex:cost`.
+pub fn targets(
+    rt: &impl Abort,
+    alloc: Global,
+    vertices: u32,
+    list: &str,
+) -> Result<Vec<Target<DurLen>>, AllocError>
+    ensures { IfOk result (λ targets. All (λ t. (t.vertex < vertices) × durlen_ops.units t.cost 1) targets.items) }
+{
+    let mut targets = Vec::new(alloc);
+    for entry in list.split(' ') {
+        let (vertex, cost) = end(rt, vertices, entry);
+        targets.push(Target { vertex, cost })?;
+    }
+    Ok(targets)
+}
+
+/// A cost and a blank behind it; `-` for none.
+pub fn cost_told(alloc: Global, cost: Option<DurLen>) -> Result<String, AllocError> {
+    match cost {
+        Some(cost) => format!(in alloc; "{}/{} ", cost.duration, cost.length),
+        None => String::from_str(alloc, "- "),
+    }
+}
+
+/// Costs, each with a blank behind it.
+pub fn costs_told(alloc: Global, costs: &[Option<DurLen>]) -> Result<String, AllocError> {
+    let mut text = String::new(alloc);
+    for cost in costs {
+        text.push_str(cost_told(alloc, *cost)?.as_str())?;
+    }
+    Ok(text)
+}
+
+/// Vertices, each with a blank behind it.
+pub fn vertices_told(alloc: Global, vertices: &[u32]) -> Result<String, AllocError> {
+    let mut text = String::new(alloc);
+    for v in vertices {
+        text.push_str(format!(in alloc; "{v} ")?.as_str())?;
+    }
+    Ok(text)
+}
+
+/// A graph cut into cells, and what walks cost inside these.
+#[derive(Drop)]
+pub struct Overlay {
+    pub frame: Frame,
+    pub weights: Weights<DurLen>,
+    pub cliques: Cliques<DurLen>,
+}
+
+/// The graph of a drawing, in cells of at most so many vertices.
+pub fn cut(
+    rt: &impl Abort,
+    alloc: Global,
+    drawing: &Drawing,
+    limits: &[u32],
+) -> Result<Overlay, Fail>
+    requires ascending { IsStrictlyIncreasing limits.now }
+    requires some { All (λ limit. 1 ≤ limit) limits.now }
+    ensures small { IfOk result (λ c. AreSmall durlen_ops c.frame.graph c.weights) }
+    ensures exact { IfOk result (λ c. AreExact durlen_ops c.frame c.weights c.cliques (length c.frame.cells.levels)) }
+{
+    let frame = frame(rt, alloc, drawing, limits)?;
+    let weights = weights(rt, alloc, frame.graph(), drawing)?;
+    let cliques = customize(alloc, &frame, &weights)?;
+    Ok(Overlay {
+        frame,
+        weights,
+        cliques,
+    })
+}

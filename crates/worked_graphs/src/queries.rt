@@ -1,0 +1,141 @@
+//! Packed walks, by the cliques of a frame.
+
+ghost use Rattle.std.specs.Prelude.{◌≡◌, length};
+ghost use Rattle.search_graph.specs.Durations.{durlen_ops};
+ghost use Rattle.search_graph.specs.Weighted.{AreSmall};
+ghost use Rattle.cell_frame.specs.Cliqued.{AreExact};
+
+use crate::drawings::{
+    Overlay, RING_OF_EIGHT, STREETS, cost_told, costs_told, cut, starts, targets,
+};
+use overlay_query::{Hop, PackedFound, cheapest, least, least_costs};
+use search_graph::DurLen;
+use std::alloc::{AllocError, Global};
+use std::process::Abort;
+use std::test::Fail;
+use step_search::Search;
+
+// The vertex to which a hop leads, with the level and the number of its cell where it is a shortoverlay.
+fn hop_told(alloc: Global, hop: &Hop) -> Result<String, AllocError> {
+    match hop.by {
+        Some(cell) => format!(in alloc; "{}[{}.{}] ", hop.to, cell.level, cell.number),
+        None => format!(in alloc; "{} ", hop.to),
+    }
+}
+
+// The cost of a packed walk, its first vertex and its hops; `-` for none.
+fn packed_told(alloc: Global, found: &Option<PackedFound<DurLen>>) -> Result<String, AllocError> {
+    let Some(found) = found else {
+        return String::from_str(alloc, "- ");
+    };
+    let mut text = cost_told(alloc, Some(found.cost))?;
+    text.push_str(format!(in alloc; "{} ", found.packed.first)?.as_str())?;
+    for hop in found.packed.hops.as_slice() {
+        text.push_str(hop_told(alloc, hop)?.as_str())?;
+    }
+    Ok(text)
+}
+
+// A cheapest packed walk to each target.
+fn least_told(
+    rt: &impl Abort,
+    alloc: Global,
+    overlay: &Overlay,
+    from: &str,
+    to: &str,
+) -> Result<String, Fail>
+    requires small { AreSmall durlen_ops overlay.now.frame.graph overlay.now.weights }
+    requires exact { AreExact durlen_ops overlay.now.frame overlay.now.weights overlay.now.cliques (length overlay.now.frame.cells.levels) }
+{
+    let vertices = overlay.frame.graph().vertices();
+    let starts = starts(rt, alloc, vertices, from)?;
+    let targets = targets(rt, alloc, vertices, to)?;
+    let found = least(
+        alloc,
+        &overlay.frame,
+        &overlay.weights,
+        &overlay.cliques,
+        &starts,
+        &targets,
+    )?;
+    let mut text = String::new(alloc);
+    for found in found.as_slice() {
+        text.push_str(packed_told(alloc, found)?.as_str())?;
+        text.push_str("| ")?;
+    }
+    Ok(text)
+}
+
+// The cheapest packed walk to one of the targets, and what a walk to each costs.
+fn cheapest_told(
+    rt: &impl Abort,
+    alloc: Global,
+    overlay: &Overlay,
+    from: &str,
+    to: &str,
+) -> Result<String, Fail>
+    requires small { AreSmall durlen_ops overlay.now.frame.graph overlay.now.weights }
+    requires exact { AreExact durlen_ops overlay.now.frame overlay.now.weights overlay.now.cliques (length overlay.now.frame.cells.levels) }
+{
+    let vertices = overlay.frame.graph().vertices();
+    let starts = starts(rt, alloc, vertices, from)?;
+    let targets = targets(rt, alloc, vertices, to)?;
+    let mut search = Search::new(alloc);
+    let found = cheapest(
+        alloc,
+        &overlay.frame,
+        &overlay.weights,
+        &overlay.cliques,
+        &starts,
+        &targets,
+        &mut search,
+    )?;
+    let mut text = packed_told(alloc, &found)?;
+    text.push_str("of ")?;
+    let costs = least_costs(
+        alloc,
+        &overlay.frame,
+        &overlay.weights,
+        &overlay.cliques,
+        &starts,
+        &targets,
+    )?;
+    text.push_str(costs_told(alloc, &costs)?.as_str())?;
+    Ok(text)
+}
+
+#[test]
+fn a_walk_leaps_over_the_street_without_a_terminal(rt: HostRuntime) -> Result<(), Fail> {
+    let streets = cut(&rt, rt.alloc(), &STREETS, &[2])?;
+    let told = least_told(&rt, rt.alloc(), &streets, "3:49/555", "2:50/556 3:50/556")?;
+    let want = "497/3333 3 1 0[1.0] 2 | 796/4444 3 1 0[1.0] 2 3 | ";
+    assert_eq!(rt; told.as_str(), want);
+    Ok(())
+}
+
+#[test]
+fn a_walk_has_a_shortcut_of_each_level(rt: HostRuntime) -> Result<(), Fail> {
+    let ring = cut(&rt, rt.alloc(), &RING_OF_EIGHT, &[2, 4])?;
+    let told = least_told(&rt, rt.alloc(), &ring, "1:5/0", "0:2/2")?;
+    assert_eq!(rt; told.as_str(), "91/13 1 2 3[1.1] 4 7[2.1] 0 | ");
+    Ok(())
+}
+
+#[test]
+fn the_second_of_two_targets_is_the_cheapest(rt: HostRuntime) -> Result<(), Fail> {
+    let streets = cut(&rt, rt.alloc(), &STREETS, &[2])?;
+    let told = cheapest_told(&rt, rt.alloc(), &streets, "3:49/555", "3:50/556 2:50/556")?;
+    let want = "497/3333 3 1 0[1.0] 2 of 796/4444 497/3333 ";
+    assert_eq!(rt; told.as_str(), want);
+    Ok(())
+}
+
+#[test]
+fn no_walk_leads_to_a_closed_vertex(rt: HostRuntime) -> Result<(), Fail> {
+    let ring = cut(&rt, rt.alloc(), &RING_OF_EIGHT, &[2, 4])?;
+    let none = cheapest_told(&rt, rt.alloc(), &ring, "1:5/0", "6:2/2")?;
+    assert_eq!(rt; none.as_str(), "- of - ");
+    let one = cheapest_told(&rt, rt.alloc(), &ring, "1:5/0", "6:2/2 0:2/2 6:2/2")?;
+    assert_eq!(rt; one.as_str(), "91/13 1 2 3[1.1] 4 7 0 of - 91/13 - ");
+    Ok(())
+}

@@ -1,0 +1,123 @@
+//! Tables of least costs.
+
+ghost use Rattle.std.specs.Prelude.{◌≡◌, ◌<◌, length, All, IfOk};
+ghost use Rattle.search_graph.specs.Durations.{durlen_ops};
+ghost use Rattle.search_graph.specs.Weighted.{AreSmall};
+ghost use Rattle.cell_frame.specs.Cliqued.{AreExact};
+
+use crate::drawings::{Overlay, SMALL, cost_told, costs_told, cut, starts, targets};
+use plain_search::least_from;
+use search_graph::DurLen;
+use std::alloc::{AllocError, Global};
+use std::process::Abort;
+use std::test::Fail;
+use std::thread::Threads;
+use table_query::{Starts, Targets, table};
+
+// The lists of starts, with a semicolon between each two.
+fn sources(
+    rt: &impl Abort,
+    alloc: Global,
+    vertices: u32,
+    lists: &str,
+) -> Result<Vec<Starts<DurLen>>, AllocError>
+    ensures { IfOk result (λ lists. All (All (λ s. (s.vertex < vertices) × durlen_ops.units s.cost 1)) lists.items) }
+{
+    let mut sources = Vec::new(alloc);
+    for list in lists.split(';') {
+        sources.push(Starts::of(starts(rt, alloc, vertices, list)?))?;
+    }
+    Ok(sources)
+}
+
+// The lists of targets.
+fn columns(
+    rt: &impl Abort,
+    alloc: Global,
+    vertices: u32,
+    lists: &str,
+) -> Result<Vec<Targets<DurLen>>, AllocError>
+    ensures { IfOk result (λ lists. All (All (λ t. (t.vertex < vertices) × durlen_ops.units t.cost 1)) lists.items) }
+{
+    let mut columns = Vec::new(alloc);
+    for list in lists.split(';') {
+        columns.push(Targets::of(targets(rt, alloc, vertices, list)?))?;
+    }
+    Ok(columns)
+}
+
+// The rows of a table.
+fn table_told(
+    rt: &(impl Abort + Threads + Sync),
+    alloc: Global,
+    overlay: &Overlay,
+    from: &str,
+    to: &str,
+) -> Result<String, Fail>
+    requires small { AreSmall durlen_ops overlay.now.frame.graph overlay.now.weights }
+    requires exact { AreExact durlen_ops overlay.now.frame overlay.now.weights overlay.now.cliques (length overlay.now.frame.cells.levels) }
+{
+    let vertices = overlay.frame.graph().vertices();
+    let sources = sources(rt, alloc, vertices, from)?;
+    let columns = columns(rt, alloc, vertices, to)?;
+    let rows = table(
+        rt,
+        alloc,
+        &overlay.frame,
+        &overlay.weights,
+        &overlay.cliques,
+        &sources,
+        &columns,
+    )?;
+    let mut text = String::new(alloc);
+    for row in rows.as_slice() {
+        text.push_str(costs_told(alloc, row.as_slice())?.as_str())?;
+        text.push_str("| ")?;
+    }
+    Ok(text)
+}
+
+#[test]
+fn least_costs_in_a_small_graph(rt: HostRuntime) -> Result<(), Fail> {
+    let small = cut(&rt, rt.alloc(), &SMALL, &[2, 4])?;
+    let from = "0:8/0 5:30/0 3:0/0;0:8/0;3:0/0";
+    let to = "4:2/2;0:3/3 2:1/0;3:0/0 6:0/0";
+    let told = table_told(&rt, rt.alloc(), &small, from, to)?;
+    assert_eq!(rt; told.as_str(), "32/11 20/52 - | 44/86 20/52 - | - - - | ");
+    Ok(())
+}
+
+// The rows that plain search finds, from each of these starts.
+fn plain_told(
+    rt: &impl Abort,
+    alloc: Global,
+    overlay: &Overlay,
+    from: &str,
+    to: &str,
+) -> Result<String, Fail>
+    requires small { AreSmall durlen_ops overlay.now.frame.graph overlay.now.weights }
+{
+    let graph = overlay.frame.graph();
+    let targets = targets(rt, alloc, graph.vertices(), to)?;
+    let mut text = String::new(alloc);
+    for start in from.split(' ') {
+        let starts = starts(rt, alloc, graph.vertices(), start)?;
+        for found in least_from(alloc, graph, &overlay.weights, &starts, &targets)? {
+            let cost = found.map(|found| found.cost);
+            text.push_str(cost_told(alloc, cost)?.as_str())?;
+        }
+        text.push_str("| ")?;
+    }
+    Ok(text)
+}
+
+#[test]
+fn each_cell_is_what_plain_search_finds(rt: HostRuntime) -> Result<(), Fail> {
+    let small = cut(&rt, rt.alloc(), &SMALL, &[2, 4])?;
+    let (from, to) = ("0:8/1;2:8/1;4:8/1", "0:1/3;2:1/3;4:1/3");
+    let told = table_told(&rt, rt.alloc(), &small, from, to)?;
+    let (from, to) = ("0:8/1 2:8/1 4:8/1", "0:1/3 2:1/3 4:1/3");
+    let plain = plain_told(&rt, rt.alloc(), &small, from, to)?;
+    assert_eq!(rt; told.as_str(), plain.as_str());
+    Ok(())
+}
