@@ -14,8 +14,6 @@ mod level;
 mod numbering;
 mod partition;
 mod spot;
-#[cfg(test)]
-mod tests;
 
 pub use cutting::{PartitionError, cells};
 pub use partition::Cells;

@@ -9,6 +9,3 @@ mod words;
 
 pub use laws::{made_commands_have_their_numbers, taken_words_make_a_command};
 pub use words::{ServeWords, Words, WordsFault, read_words};
-
-#[cfg(test)]
-mod tests;

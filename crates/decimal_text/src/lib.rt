@@ -8,6 +8,3 @@ mod object_ids;
 
 pub use decimals::{FARTHEST, microdegrees};
 pub use object_ids::id;
-
-#[cfg(test)]
-mod tests;

@@ -8,8 +8,6 @@ mod fields;
 pub mod parts;
 mod reading;
 mod reply;
-#[cfg(test)]
-mod tests;
 
 pub use crate::reading::{FIELD_LIMIT, HEAD_LIMIT, head};
 pub use crate::reply::{BUSY, BUSY_CLOSE, HEAD_BAD, busy_reply, head_bad_reply, response};

@@ -6,8 +6,6 @@
 #![tactic(auto)]
 
 mod simplifying;
-#[cfg(test)]
-mod tests;
 mod tolerances;
 
 pub use simplifying::simplify;

@@ -15,6 +15,3 @@ mod seen_ids;
 
 pub use line_faults::{FaultKind, LineFault, ReadFault};
 pub use reading::read;
-
-#[cfg(test)]
-mod tests;

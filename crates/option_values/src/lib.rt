@@ -30,6 +30,3 @@ pub use values::{
     alternatives_of, continue_straight_of, every_annotation, geometries_of, number_of, overview_of,
     route_annotations_of, since_of, snapping_of, table_annotations_of, truth_of,
 };
-
-#[cfg(test)]
-mod tests;

@@ -7,8 +7,6 @@
 mod decoding;
 mod encoding;
 mod laws;
-#[cfg(test)]
-mod tests;
 
 pub use crate::decoding::{DecodeError, decode};
 pub use crate::encoding::encode;

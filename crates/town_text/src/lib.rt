@@ -10,6 +10,3 @@ mod streets;
 mod towns;
 
 pub use towns::town;
-
-#[cfg(test)]
-mod tests;

@@ -12,6 +12,3 @@ mod rows;
 
 pub use reading::{read_speeds, read_turns};
 pub use rows::{RowFault, RowKind, SpeedRow, TrafficFault, TrafficFile, TurnRow};
-
-#[cfg(test)]
-mod tests;

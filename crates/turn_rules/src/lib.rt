@@ -12,6 +12,3 @@ mod senses;
 pub use map_rules::rules;
 pub use rule_lists::Rules;
 pub use senses::Sense;
-
-#[cfg(test)]
-mod tests;

@@ -31,8 +31,3 @@ pub use option_values::{
 pub use refusals::{Refusal, RefusalCode, RequestFault};
 pub use requests::{NearestOptions, Request, RouteOptions, Service, TableOptions};
 pub use targets::request;
-
-#[cfg(test)]
-mod option_tests;
-#[cfg(test)]
-mod tests;

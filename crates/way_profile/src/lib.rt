@@ -14,6 +14,3 @@ mod way_uses;
 pub use settings_faults::SettingsFault;
 pub use vehicle_profile::Profile;
 pub use way_uses::WayUse;
-
-#[cfg(test)]
-mod tests;

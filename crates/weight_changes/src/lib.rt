@@ -7,4 +7,3 @@ mod places;
 
 pub use changes::changed;
 pub use places::Changed;
-

@@ -1,10 +1,10 @@
 //! Small graphs as texts: a proof takes time for each value of a list, and none for a text.
 
-ghost use Rattle.std.specs.Prelude.{◌≡◌, ◌<◌, ◌≤◌, length, All, IfOk, IfSome};
+ghost use Rattle.std.specs.Prelude.{◌≡◌, ◌<◌, ◌≤◌, length, All, IfOk};
 ghost use Rattle.std.specs.Option.{ForSome};
 ghost use Rattle.std.specs.List.Sorted.{IsStrictlyIncreasing};
 ghost use Rattle.search_graph.specs.Durations.{durlen_ops};
-ghost use Rattle.search_graph.specs.Weighted.{AreSmall};
+ghost use Rattle.search_graph.specs.Weighted.{AreSmall, IsWeighting};
 ghost use Rattle.cell_frame.specs.Cliqued.{AreExact};
 
 use cell_customize::customize;
@@ -87,7 +87,7 @@ fn pairs(
 
 // The cost that a text tells, None for `-`.
 fn cost_of(rt: &impl Abort, text: &str) -> Option<DurLen>
-    ensures { IfSome result (λ cost. durlen_ops.units cost 1) }
+    ensures { ForSome result (λ cost. durlen_ops.units cost 1) }
 {
     if text == "-" {
         return None;
@@ -121,6 +121,22 @@ fn arc_costs(rt: &impl Abort, alloc: Global, list: &str) -> Result<FullCostList<
     Ok(costs)
 }
 
+// Asserts that there is a cost for each vertex and for each arc.
+fn assert_fitting(
+    rt: &impl Abort,
+    graph: &Graph,
+    vertex: &CostList<DurLen>,
+    arc: &FullCostList<DurLen>,
+)
+    ensures few { graph.now.vertices ≤ 1000 }
+    ensures vertices { length vertex.now ≡ graph.now.vertices }
+    ensures arcs { length arc.now ≡ length graph.now.arcs }
+{
+    assert!(rt; graph.vertices() <= 1000);
+    assert!(rt; vertex.len() == graph.vertices() as usize);
+    assert!(rt; arc.len() == graph.arcs() as usize);
+}
+
 /// What the vertices and the arcs of a graph cost.
 pub fn weights(
     rt: &impl Abort,
@@ -128,13 +144,12 @@ pub fn weights(
     graph: &Graph,
     drawing: &Drawing,
 ) -> Result<Weights<DurLen>, AllocError>
-    ensures { IfOk result (AreSmall durlen_ops graph.now) }
+    ensures small { IfOk result (AreSmall durlen_ops graph.now) }
+    ensures weighting { IfOk result (IsWeighting durlen_ops graph.now) }
 {
     let vertex = vertex_costs(rt, alloc, drawing.vertex_costs)?;
     let arc = arc_costs(rt, alloc, drawing.arc_costs)?;
-    assert!(rt; graph.vertices() <= 1000);
-    assert!(rt; vertex.len() == graph.vertices() as usize);
-    assert!(rt; arc.len() == graph.arcs() as usize);
+    assert_fitting(rt, graph, &vertex, &arc);
     Ok(small_weights(graph, vertex, arc))
 }
 
@@ -144,6 +159,12 @@ pub fn graph(rt: &impl Abort, alloc: Global, drawing: &Drawing) -> Result<Graph,
     let arcs = pairs(rt, alloc, drawing.arcs, '-')?;
     assert!(rt; vertices <= 1000 && arcs.len() <= 1000);
     Ok(Graph::of(alloc, vertices as u32, &arcs)?)
+}
+
+// A number as a coordinate.
+fn place(rt: &impl Abort, number: u32) -> i32 {
+    assert!(rt; number <= 1_000_000);
+    number as i32
 }
 
 /// The frame of a drawing, in cells of at most so many vertices.
@@ -159,7 +180,7 @@ pub fn frame(
     let graph = graph(rt, alloc, drawing)?;
     let mut midpoints = Vec::new(alloc);
     for (lon, lat) in pairs(rt, alloc, drawing.vertices, ',')? {
-        midpoints.push((lon as i32, lat as i32))?;
+        midpoints.push((place(rt, lon), place(rt, lat)))?;
     }
     assert!(rt; midpoints.len() <= 1000 && midpoints.len() as u32 == graph.vertices());
     let cells = cells(alloc, &midpoints, limits)?;
@@ -258,6 +279,7 @@ pub fn cut(
     requires ascending { IsStrictlyIncreasing limits.now }
     requires some { All (λ limit. 1 ≤ limit) limits.now }
     ensures small { IfOk result (λ c. AreSmall durlen_ops c.frame.graph c.weights) }
+    ensures weighting { IfOk result (λ c. IsWeighting durlen_ops c.frame.graph c.weights) }
     ensures exact { IfOk result (λ c. AreExact durlen_ops c.frame c.weights c.cliques (length c.frame.cells.levels)) }
 {
     let frame = frame(rt, alloc, drawing, limits)?;

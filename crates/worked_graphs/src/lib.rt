@@ -9,6 +9,8 @@ mod cliques;
 #[cfg(test)]
 mod drawings;
 #[cfg(test)]
+mod partitions;
+#[cfg(test)]
 mod plain;
 #[cfg(test)]
 mod queries;

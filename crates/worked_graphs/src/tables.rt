@@ -2,7 +2,7 @@
 
 ghost use Rattle.std.specs.Prelude.{◌≡◌, ◌<◌, length, All, IfOk};
 ghost use Rattle.search_graph.specs.Durations.{durlen_ops};
-ghost use Rattle.search_graph.specs.Weighted.{AreSmall};
+ghost use Rattle.search_graph.specs.Weighted.{AreSmall, IsWeighting};
 ghost use Rattle.cell_frame.specs.Cliqued.{AreExact};
 
 use crate::drawings::{Overlay, SMALL, cost_told, costs_told, cut, starts, targets};
@@ -95,7 +95,7 @@ fn plain_told(
     from: &str,
     to: &str,
 ) -> Result<String, Fail>
-    requires small { AreSmall durlen_ops overlay.now.frame.graph overlay.now.weights }
+    requires { IsWeighting durlen_ops overlay.now.frame.graph overlay.now.weights }
 {
     let graph = overlay.frame.graph();
     let targets = targets(rt, alloc, graph.vertices(), to)?;

@@ -2,7 +2,7 @@
 
 ghost use Rattle.std.specs.Prelude.{◌≡◌, length};
 ghost use Rattle.search_graph.specs.Durations.{durlen_ops};
-ghost use Rattle.search_graph.specs.Weighted.{AreSmall};
+ghost use Rattle.search_graph.specs.Weighted.{AreSmall, IsWeighting};
 ghost use Rattle.cell_frame.specs.Cliqued.{AreExact};
 
 use crate::drawings::{
@@ -117,6 +117,7 @@ fn compare(
     to: u32,
 ) -> Result<(), Fail>
     requires small { AreSmall durlen_ops overlay.now.frame.graph overlay.now.weights }
+    requires weighting { IsWeighting durlen_ops overlay.now.frame.graph overlay.now.weights }
     requires exact { AreExact durlen_ops overlay.now.frame overlay.now.weights overlay.now.cliques (length overlay.now.frame.cells.levels) }
 {
     let graph = overlay.frame.graph();
@@ -154,6 +155,7 @@ fn compare(
 // The same from each vertex to each.
 fn compare_all(rt: &impl Abort, alloc: Global, overlay: &Overlay) -> Result<(), Fail>
     requires small { AreSmall durlen_ops overlay.now.frame.graph overlay.now.weights }
+    requires weighting { IsWeighting durlen_ops overlay.now.frame.graph overlay.now.weights }
     requires exact { AreExact durlen_ops overlay.now.frame overlay.now.weights overlay.now.cliques (length overlay.now.frame.cells.levels) }
 {
     for from in 0..overlay.frame.graph().vertices() {

@@ -7,7 +7,7 @@ ghost use Rattle.cell_frame.specs.Borders.{IsCell, at_cell};
 
 use crate::metrics::cost_told;
 use crate::networks::CAR;
-use crate::towns::{add_nodes, add_way, bend, profile_of};
+use crate::towns::{bend, objects_of, profile_of};
 use cell_frame::Cell;
 use customized::{Metric, Roads};
 use edge_graph::Network;
@@ -103,9 +103,9 @@ pub fn customized(
 fn a_way_into_a_street_turns_back_at_its_end(rt: HostRuntime) -> Result<(), AllocError> {
     let alloc = rt.alloc();
     let streets = "0 0 1 1 | 1 to 0 299/1111 | 2 to 3 299/1111 ; ";
-    let one = customized(&rt, alloc, &bend(alloc, &[])?, &[2])?;
+    let one = customized(&rt, alloc, &bend(alloc, "")?, &[2])?;
     assert_eq!(rt; told(alloc, &one)?.as_str(), streets);
-    let two = customized(&rt, alloc, &bend(alloc, &[])?, &[2, 4])?;
+    let two = customized(&rt, alloc, &bend(alloc, "")?, &[2, 4])?;
     assert_eq!(rt;
         told(alloc, &two)?.as_str(),
         format!(in alloc; "{streets}0 0 0 0 | to ; ")?.as_str()
@@ -114,20 +114,17 @@ fn a_way_into_a_street_turns_back_at_its_end(rt: HostRuntime) -> Result<(), Allo
 }
 
 // A street round a block, one way. Segment 3 lies in the west, segment 1 in the east.
-fn ring(alloc: Global) -> Result<Vec<Object>, AllocError> {
-    let mut objects = Vec::new(alloc);
-    let nodes = [(1, 0, 0), (2, 1000, 0), (3, 1000, 1000), (4, 0, 1000)];
-    add_nodes(alloc, &mut objects, &nodes)?;
-    let oneway = [("highway", "residential"), ("oneway", "yes")];
-    add_way(alloc, &mut objects, 20, &oneway, &[1, 2, 3, 4, 1])?;
-    Ok(objects)
-}
+const RING: &str = "n1 x0 y0
+n2 x0.001 y0
+n3 x0.001 y0.001
+n4 x0 y0.001
+w20 Thighway=residential,oneway=yes Nn1,n2,n3,n4,n1";
 
 // Each cell is entered and left by one vertex, and to stay there costs nothing.
 #[test]
 fn a_street_round_a_block_is_cut_by_its_segments(rt: HostRuntime) -> Result<(), AllocError> {
     let alloc = rt.alloc();
-    let ring = customized(&rt, alloc, &ring(alloc)?, &[1, 2])?;
+    let ring = customized(&rt, alloc, &objects_of(alloc, RING)?, &[1, 2])?;
     assert_eq!(rt;
         told(alloc, &ring)?.as_str(),
         "2 3 6 7 4 5 0 1 | 6 to 6 0/0 | to | 0 to 0 0/0 | to | 4 to 4 0/0 | to | 2 to 2 0/0 | to ; 1 1 3 3 2 2 0 0 | 6 to 6 0/0 | 0 to 0 0/0 | 4 to 4 0/0 | 2 to 2 0/0 ; "
@@ -139,7 +136,7 @@ fn a_street_round_a_block_is_cut_by_its_segments(rt: HostRuntime) -> Result<(), 
 #[test]
 fn an_answer_is_given_the_metrics_own_parts(rt: HostRuntime) -> Result<(), AllocError> {
     let alloc = rt.alloc();
-    let metric = customized(&rt, alloc, &bend(alloc, &[])?, &[2])?;
+    let metric = customized(&rt, alloc, &bend(alloc, "")?, &[2])?;
     metric.kin(&metric);
     let under = metric.under();
     assert_eq!(rt;

@@ -2,47 +2,38 @@
 //! meets. Expected values are from this project's rules, worked out by hand.
 
 use crate::networks::CAR;
-use crate::towns::{add_nodes, add_restriction, add_way, profile_of};
+use crate::towns::{objects_of, profile_of, to_and_fro};
 use edge_graph::Network;
-use road_base::Object;
 use std::alloc::{AllocError, Global};
 
-// Way 1 has so many segments to and fro between nodes 1 and 2; way 2 leads from node 1 to a dead end, way 3
-// from node 2.
-fn to_and_fro(alloc: Global, segments: usize) -> Result<Vec<Object>, AllocError> {
-    let mut ids = Vec::new(alloc);
-    for i in 0..segments {
-        ids.push(if i % 2 == 0 { 1 } else { 2 })?;
-    }
-    ids.push(if segments % 2 == 0 { 1 } else { 2 })?;
-    let mut objects = Vec::new(alloc);
-    let nodes = [(1, 0, 0), (2, 1000, 0), (3, 0, 1000), (4, 1000, 1000)];
-    add_nodes(alloc, &mut objects, &nodes)?;
-    let street = [("highway", "residential")];
-    add_way(alloc, &mut objects, 1, &street, &ids)?;
-    add_way(alloc, &mut objects, 2, &street, &[1, 3])?;
-    add_way(alloc, &mut objects, 3, &street, &[2, 4])?;
-    Ok(objects)
+// Way 1 has 200 segments to and fro between nodes 1 and 2; way 2 leads from node 1 to a dead end, way 3 from node 2.
+fn streets(alloc: Global) -> Result<String, AllocError> {
+    let mut text = to_and_fro(alloc, 200)?;
+    text.push_str(
+        "\nn3 x0 y0.001\nn4 x0.001 y0.001\nw2 Thighway=residential Nn1,n3\nw3 Thighway=residential Nn2,n4\n",
+    )?;
+    Ok(text)
 }
 
-// Adds so many restrictions of this value from way 1 over a node to a way.
+// Adds fifty restrictions of this value from way 1 over a node to a way, numbered from here on.
 fn restrict(
     alloc: Global,
-    objects: &mut Vec<Object>,
-    count: usize,
-    value: &'static str,
-    via: i64,
-    to: i64,
+    text: &mut String,
+    first: u32,
+    value: &str,
+    members: &str,
 ) -> Result<(), AllocError> {
-    for _ in 0..count {
-        add_restriction(alloc, objects, value, &[1], via, &[to], "")?;
+    for i in 0..50 {
+        let head = format!(in alloc; "r{first}{i} Ttype=restriction,restriction={value}")?;
+        text.push_str(format!(in alloc; "{head} Mw1@from,{members}\n")?.as_str())?;
     }
     Ok(())
 }
 
 // How many turns the network of a map has.
-fn turn_count(alloc: Global, objects: &[Object]) -> Result<u32, AllocError> {
-    match Network::build(alloc, objects, &profile_of(alloc, CAR)?) {
+fn turn_count(alloc: Global, text: &String) -> Result<u32, AllocError> {
+    let objects = objects_of(alloc, text.as_str())?;
+    match Network::build(alloc, &objects, &profile_of(alloc, CAR)?) {
         Ok(network) => Ok(network.turns()),
         Err(_) => Err(AllocError),
     }
@@ -55,15 +46,15 @@ fn turn_count(alloc: Global, objects: &[Object]) -> Result<u32, AllocError> {
 #[test]
 fn restrictions_of_a_way_to_and_fro(rt: HostRuntime) -> Result<(), AllocError> {
     let alloc = rt.alloc();
-    let mut objects = to_and_fro(alloc, 200)?;
-    assert_eq!(rt; turn_count(alloc, &objects)?, 80_402);
-    restrict(alloc, &mut objects, 50, "no_left_turn", 1, 1)?;
-    assert_eq!(rt; turn_count(alloc, &objects)?, 40_602);
-    restrict(alloc, &mut objects, 50, "only_straight_on", 2, 3)?;
-    assert_eq!(rt; turn_count(alloc, &objects)?, 802);
-    restrict(alloc, &mut objects, 50, "only_straight_on", 1, 2)?;
-    assert_eq!(rt; turn_count(alloc, &objects)?, 802);
-    restrict(alloc, &mut objects, 1, "only_straight_on", 1, 1)?;
-    assert_eq!(rt; turn_count(alloc, &objects)?, 602);
+    let mut text = streets(alloc)?;
+    assert_eq!(rt; turn_count(alloc, &text)?, 80_402);
+    restrict(alloc, &mut text, 1, "no_left_turn", "n1@via,w1@to")?;
+    assert_eq!(rt; turn_count(alloc, &text)?, 40_602);
+    restrict(alloc, &mut text, 2, "only_straight_on", "n2@via,w3@to")?;
+    assert_eq!(rt; turn_count(alloc, &text)?, 802);
+    restrict(alloc, &mut text, 3, "only_straight_on", "n1@via,w2@to")?;
+    assert_eq!(rt; turn_count(alloc, &text)?, 802);
+    restrict(alloc, &mut text, 4, "only_straight_on", "n1@via,w1@to")?;
+    assert_eq!(rt; turn_count(alloc, &text)?, 602);
     Ok(())
 }

@@ -2,7 +2,7 @@
 
 ghost use Rattle.std.specs.Prelude.{◌≡◌, ◌*◌, length};
 
-use crate::towns::{add_nodes, add_way, bend, crossing, profile_of};
+use crate::towns::{bend, crossing, objects_of, profile_of};
 use edge_graph::Network;
 use metric_make::{BaseMetric, base};
 use road_base::Object;
@@ -17,16 +17,11 @@ const WITH_PENALTIES: &str =
 
 // A one-way street from node 1 to node 2, and a street from node 2 to node 3. The second is so short that
 // its length and its duration are the least.
-fn streets(alloc: Global) -> Result<Vec<Object>, AllocError> {
-    let mut objects = Vec::new(alloc);
-    let nodes = [(1, 0, 0), (2, 0, 1000), (3, 0, 1000)];
-    add_nodes(alloc, &mut objects, &nodes)?;
-    let oneway = [("highway", "residential"), ("oneway", "yes")];
-    add_way(alloc, &mut objects, 1, &oneway, &[1, 2])?;
-    let street = [("highway", "residential")];
-    add_way(alloc, &mut objects, 2, &street, &[2, 3])?;
-    Ok(objects)
-}
+const STREETS: &str = "n1 x0 y0
+n2 x0 y0.001
+n3 x0 y0.001
+w1 Thighway=residential,oneway=yes Nn1,n2
+w2 Thighway=residential Nn2,n3";
 
 /// A cost as its duration and its length; `-` where there is none.
 pub fn cost_told(alloc: Global, cost: Option<DurLen>) -> Result<String, AllocError> {
@@ -68,7 +63,7 @@ fn costs_of(alloc: Global, objects: &[Object], settings: &str) -> Result<String,
 #[test]
 fn vertices_and_turns_have_their_costs(rt: HostRuntime) -> Result<(), AllocError> {
     let alloc = rt.alloc();
-    let got = costs_of(alloc, &streets(alloc)?, CAR)?;
+    let got = costs_of(alloc, &objects_of(alloc, STREETS)?, CAR)?;
     assert_eq!(rt; got.as_str(), "99/1111 - 1/1 1/1 | 0/0 200/0 200/0 ");
     Ok(())
 }
@@ -79,22 +74,25 @@ fn vertices_and_turns_have_their_costs(rt: HostRuntime) -> Result<(), AllocError
 #[test]
 fn bends_and_signals_have_their_penalties(rt: HostRuntime) -> Result<(), AllocError> {
     let alloc = rt.alloc();
-    let signal = [("highway", "traffic_signals")];
     let ways = "99/1111 99/1111 99/1111 99/1111 99/1111 99/1111 99/1111 99/1111 | ";
-    let plain = costs_of(alloc, &crossing(alloc, &[])?, WITH_PENALTIES)?;
+    let plain = costs_of(alloc, &crossing(alloc, "", "")?, WITH_PENALTIES)?;
     let turns = "7/0 0/0 50/0 200/0 200/0 50/0 7/0 0/0 200/0 0/0 50/0 7/0 7/0 0/0 50/0 230/0 ";
     assert_eq!(rt;
         plain.as_str(),
         format!(in alloc; "{ways}{turns}")?.as_str()
     );
-    let signalled = costs_of(alloc, &crossing(alloc, &signal)?, WITH_PENALTIES)?;
+    let signalled = costs_of(
+        alloc,
+        &crossing(alloc, "highway=traffic_signals", "")?,
+        WITH_PENALTIES,
+    )?;
     let turns =
         "37/0 30/0 80/0 200/0 200/0 80/0 37/0 30/0 200/0 30/0 80/0 37/0 37/0 30/0 80/0 230/0 ";
     assert_eq!(rt;
         signalled.as_str(),
         format!(in alloc; "{ways}{turns}")?.as_str()
     );
-    let bent = costs_of(alloc, &bend(alloc, &[])?, WITH_PENALTIES)?;
+    let bent = costs_of(alloc, &bend(alloc, "")?, WITH_PENALTIES)?;
     assert_eq!(rt;
         bent.as_str(),
         "99/1111 99/1111 99/1111 99/1111 | 0/0 200/0 200/0 0/0 "

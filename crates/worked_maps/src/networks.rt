@@ -2,7 +2,7 @@
 
 ghost use Rattle.std.specs.Prelude.{◌*◌, ◌<◌, length};
 
-use crate::towns::{add_nodes, add_restriction, add_way, bend, crossing, profile_of};
+use crate::towns::{bend, crossing, objects_of, profile_of, to_and_fro};
 use edge_graph::{BuildFault, Network};
 use road_base::Object;
 use std::alloc::{AllocError, Global};
@@ -56,7 +56,7 @@ fn built(alloc: Global, objects: &[Object]) -> Result<String, AllocError> {
 #[test]
 fn a_way_has_both_directions_and_turns_back_at_its_ends(rt: HostRuntime) -> Result<(), AllocError> {
     let alloc = rt.alloc();
-    let got = built(alloc, &bend(alloc, &[])?)?;
+    let got = built(alloc, &bend(alloc, "")?)?;
     assert_eq!(rt;
         got.as_str(),
         "1>2 1 40000 ; 2>1 0 40000 ; 2>3 0 40000 ; 3>2 1 40000 ; 0-2 1-0 2-3 3-1 "
@@ -68,7 +68,7 @@ fn a_way_has_both_directions_and_turns_back_at_its_ends(rt: HostRuntime) -> Resu
 #[test]
 fn a_turn_is_found_by_its_ends(rt: HostRuntime) -> Result<(), AllocError> {
     let alloc = rt.alloc();
-    let built = Network::build(alloc, &bend(alloc, &[])?, &profile_of(alloc, CAR)?);
+    let built = Network::build(alloc, &bend(alloc, "")?, &profile_of(alloc, CAR)?);
     let Ok(network) = built else {
         return Err(AllocError);
     };
@@ -80,27 +80,19 @@ fn a_turn_is_found_by_its_ends(rt: HostRuntime) -> Result<(), AllocError> {
 }
 
 // A street both ways, a footway, and a one-way street whose nodes follow themselves or lie nowhere.
-fn two_streets(alloc: Global) -> Result<Vec<Object>, AllocError> {
-    let mut objects = Vec::new(alloc);
-    let (kind, foot) = (("highway", "residential"), ("highway", "footway"));
-    add_way(alloc, &mut objects, 20, &[kind, ("name", "B")], &[1, 2])?;
-    add_way(alloc, &mut objects, 15, &[foot], &[1, 2])?;
-    let oneway = [kind, ("name", "A"), ("oneway", "yes")];
-    add_way(alloc, &mut objects, 10, &oneway, &[2, 3, 3, 9, 3, 1])?;
-    add_nodes(
-        alloc,
-        &mut objects,
-        &[(1, 0, 0), (2, 0, 1000), (3, 1000, 1000)],
-    )?;
-    Ok(objects)
-}
+const TWO_STREETS: &str = "w20 Thighway=residential,name=B Nn1,n2
+w15 Thighway=footway Nn1,n2
+w10 Thighway=residential,name=A,oneway=yes Nn2,n3,n3,n9,n3,n1
+n1 x0 y0
+n2 x0 y0.001
+n3 x0.001 y0.001";
 
 // The ways count by their ids, and not as they stand in the file; there is no turn back where the one-way
 // street leads on.
 #[test]
 fn segments_go_by_way_and_place(rt: HostRuntime) -> Result<(), AllocError> {
     let alloc = rt.alloc();
-    let got = built(alloc, &two_streets(alloc)?)?;
+    let got = built(alloc, &objects_of(alloc, TWO_STREETS)?)?;
     assert_eq!(rt;
         got.as_str(),
         "2>3 1 40000 A; 3-2 1 40000 A; 3>1 1 40000 A; 1-3 0 40000 A; 1>2 1 40000 B; 2>1 0 40000 B; 0-2 2-4 4-0 5-4 "
@@ -108,26 +100,19 @@ fn segments_go_by_way_and_place(rt: HostRuntime) -> Result<(), AllocError> {
     Ok(())
 }
 
-// A way that goes to and fro between two nodes so many times.
-fn to_and_fro(alloc: Global, segments: usize) -> Result<Vec<Object>, AllocError> {
-    let mut ids = Vec::new(alloc);
-    for i in 0..segments {
-        ids.push(if i % 2 == 0 { 1 } else { 2 })?;
-    }
-    ids.push(if segments % 2 == 0 { 1 } else { 2 })?;
-    let mut objects = Vec::new(alloc);
-    add_nodes(alloc, &mut objects, &[(1, 0, 0), (2, 1000, 0)])?;
-    add_way(alloc, &mut objects, 1, &[("highway", "residential")], &ids)?;
-    Ok(objects)
-}
-
 // 2 * 5794 * 5793 turns are more than 2^26, and 4194305 segments more than 2^22.
 #[test]
 fn past_the_limits_no_network_is_built(rt: HostRuntime) -> Result<(), AllocError> {
     let alloc = rt.alloc();
-    let turns = built(alloc, &to_and_fro(alloc, 5794)?)?;
+    let turns = built(
+        alloc,
+        &objects_of(alloc, to_and_fro(alloc, 5794)?.as_str())?,
+    )?;
     assert_eq!(rt; turns.as_str(), "too many turns");
-    let segments = built(alloc, &to_and_fro(alloc, 4194305)?)?;
+    let segments = built(
+        alloc,
+        &objects_of(alloc, to_and_fro(alloc, 4194305)?.as_str())?,
+    )?;
     assert_eq!(rt; segments.as_str(), "too many segments");
     Ok(())
 }
@@ -142,82 +127,75 @@ fn turns_of(alloc: Global, objects: &[Object]) -> Result<String, AllocError> {
     format!(in alloc; "{turns}| {applied} {ignored}")
 }
 
-// The turns of the crossing under one restriction.
-fn under(
-    alloc: Global,
-    value: &'static str,
-    from: &[i64],
-    via: i64,
-    to: &[i64],
-) -> Result<String, AllocError> {
-    let mut objects = crossing(alloc, &[])?;
-    add_restriction(alloc, &mut objects, value, from, via, to, "bus")?;
+// The turns of the crossing under one restriction of this value, from, over and to its members.
+fn under(alloc: Global, value: &str, members: &str) -> Result<String, AllocError> {
+    let tags = format!(in alloc; "Ttype=restriction,restriction={value},except=bus")?;
+    let line = format!(in alloc; "r1 {tags} M{members}")?;
+    let objects = crossing(alloc, "", line.as_str())?;
     turns_of(alloc, &objects)
 }
+
+// Restrictions at the crossing, each as its value, its members and the turns under it, with a bar between them.
+const FORBIDDEN: &str = "\
+no_left_turn|w1@from,n5@via,w4@to|0-2 0-4 1-0 2-3 3-1 3-4 3-7 4-5 5-1 5-2 5-7 6-1 6-2 6-4 7-6 
+only_straight_on|w1@from,n5@via,w3@to|0-4 1-0 2-3 3-1 3-4 3-7 4-5 5-1 5-2 5-7 6-1 6-2 6-4 7-6 
+no_u_turn|w1@from,n1@via,w1@to|0-2 0-4 0-7 2-3 3-1 3-4 3-7 4-5 5-1 5-2 5-7 6-1 6-2 6-4 7-6 
+no_entry|w1@from,w2@from,n5@via,w3@to|0-2 0-7 1-0 2-3 3-1 3-7 4-5 5-1 5-2 5-7 6-1 6-2 6-4 7-6 
+no_exit|w1@from,n5@via,w2@to,w3@to,w4@to|1-0 2-3 3-1 3-4 3-7 4-5 5-1 5-2 5-7 6-1 6-2 6-4 7-6 ";
+
+// Those that are ignored: whose way does not meet its node, or of too many members.
+const IGNORED: &str = "no_left_turn|w1@from,n2@via,w2@to
+only_left_turn|w1@from,n5@via,w9@to
+no_left_turn|w1@from,w2@from,n5@via,w4@to";
 
 // A restriction forbids its own turns and no others; that back in a dead end too. The way that no turn
 // leaves any more does not become a dead end.
 #[test]
 fn restrictions_forbid_their_turns(rt: HostRuntime) -> Result<(), AllocError> {
     let alloc = rt.alloc();
-    let free = turns_of(alloc, &crossing(alloc, &[])?)?;
+    let free = turns_of(alloc, &crossing(alloc, "", "")?)?;
     assert_eq!(rt;
         free.as_str(),
         format!(in alloc; "{CROSSING}| 0 0")?.as_str()
     );
-    let left = under(alloc, "no_left_turn", &[1], 5, &[4])?;
-    assert_eq!(rt;
-        left.as_str(),
-        "0-2 0-4 1-0 2-3 3-1 3-4 3-7 4-5 5-1 5-2 5-7 6-1 6-2 6-4 7-6 | 1 0"
-    );
-    let straight = under(alloc, "only_straight_on", &[1], 5, &[3])?;
-    assert_eq!(rt;
-        straight.as_str(),
-        "0-4 1-0 2-3 3-1 3-4 3-7 4-5 5-1 5-2 5-7 6-1 6-2 6-4 7-6 | 1 0"
-    );
-    let back = under(alloc, "no_u_turn", &[1], 1, &[1])?;
-    assert_eq!(rt;
-        back.as_str(),
-        "0-2 0-4 0-7 2-3 3-1 3-4 3-7 4-5 5-1 5-2 5-7 6-1 6-2 6-4 7-6 | 1 0"
-    );
-    let entry = under(alloc, "no_entry", &[1, 2], 5, &[3])?;
-    assert_eq!(rt;
-        entry.as_str(),
-        "0-2 0-7 1-0 2-3 3-1 3-7 4-5 5-1 5-2 5-7 6-1 6-2 6-4 7-6 | 1 0"
-    );
-    let exit = under(alloc, "no_exit", &[1], 5, &[2, 3, 4])?;
-    assert_eq!(rt;
-        exit.as_str(),
-        "1-0 2-3 3-1 3-4 3-7 4-5 5-1 5-2 5-7 6-1 6-2 6-4 7-6 | 1 0"
-    );
+    for row in FORBIDDEN.split('\n') {
+        let mut parts = row.split('|');
+        let (Some(value), Some(members), Some(turns)) = (parts.next(), parts.next(), parts.next())
+        else {
+            panic!(rt; "a row of three");
+        };
+        let want = format!(in alloc; "{turns}| 1 0")?;
+        assert_eq!(rt; under(alloc, value, members)?.as_str(), want.as_str());
+    }
     Ok(())
 }
 
-// One whose way does not meet its node, or of too many members, is ignored; one that excepts the vehicle is
-// not even counted.
 #[test]
 fn restrictions_that_do_not_apply_forbid_nothing(rt: HostRuntime) -> Result<(), AllocError> {
     let alloc = rt.alloc();
-    let ignored = format!(in alloc; "{CROSSING}| 0 1")?;
-    let apart = under(alloc, "no_left_turn", &[1], 2, &[2])?;
-    assert_eq!(rt; apart.as_str(), ignored.as_str());
-    let nowhere = under(alloc, "only_left_turn", &[1], 5, &[9])?;
-    assert_eq!(rt; nowhere.as_str(), ignored.as_str());
-    let several = under(alloc, "no_left_turn", &[1, 2], 5, &[4])?;
-    assert_eq!(rt; several.as_str(), ignored.as_str());
-    let mut objects = crossing(alloc, &[])?;
-    add_restriction(
-        alloc,
-        &mut objects,
-        "no_left_turn",
-        &[1],
-        5,
-        &[4],
-        "bus;motorcar",
-    )?;
-    let excepted = turns_of(alloc, &objects)?;
+    let want = format!(in alloc; "{CROSSING}| 0 1")?;
+    for row in IGNORED.split('\n') {
+        let mut parts = row.split('|');
+        let (Some(value), Some(members)) = (parts.next(), parts.next()) else {
+            panic!(rt; "a row of two");
+        };
+        assert_eq!(rt; under(alloc, value, members)?.as_str(), want.as_str());
+    }
+    Ok(())
+}
+
+const NOT_FOR_CARS: &str =
+    "r1 Ttype=restriction,restriction=no_left_turn,except=bus;motorcar Mw1@from,n5@via,w4@to";
+
+const NO_WAY_BACK: &str = "r1 Ttype=restriction,restriction=no_u_turn Mw1@from,n5@via,w1@to";
+
+// One that excepts the vehicle is not even counted.
+#[test]
+fn a_restriction_may_except_the_vehicle(rt: HostRuntime) -> Result<(), AllocError> {
+    let alloc = rt.alloc();
+    let got = turns_of(alloc, &crossing(alloc, "", NOT_FOR_CARS)?)?;
     assert_eq!(rt;
-        excepted.as_str(),
+        got.as_str(),
         format!(in alloc; "{CROSSING}| 0 0")?.as_str()
     );
     Ok(())
@@ -228,14 +206,11 @@ fn restrictions_that_do_not_apply_forbid_nothing(rt: HostRuntime) -> Result<(), 
 #[test]
 fn a_barrier_closes_its_node(rt: HostRuntime) -> Result<(), AllocError> {
     let alloc = rt.alloc();
-    let bollard = [("barrier", "bollard")];
-    let closed = turns_of(alloc, &bend(alloc, &bollard)?)?;
+    let closed = turns_of(alloc, &bend(alloc, "barrier=bollard")?)?;
     assert_eq!(rt; closed.as_str(), "0-1 1-0 2-3 3-2 | 0 0");
-    let gate = turns_of(alloc, &bend(alloc, &[("barrier", "gate")])?)?;
+    let gate = turns_of(alloc, &bend(alloc, "barrier=gate")?)?;
     assert_eq!(rt; gate.as_str(), "0-2 1-0 2-3 3-1 | 0 0");
-    let mut objects = crossing(alloc, &bollard)?;
-    add_restriction(alloc, &mut objects, "no_u_turn", &[1], 5, &[1], "")?;
-    let crossed = turns_of(alloc, &objects)?;
+    let crossed = turns_of(alloc, &crossing(alloc, "barrier=bollard", NO_WAY_BACK)?)?;
     assert_eq!(rt; crossed.as_str(), "1-0 2-3 3-2 4-5 5-4 6-7 7-6 | 1 0");
     Ok(())
 }
@@ -244,10 +219,8 @@ fn a_barrier_closes_its_node(rt: HostRuntime) -> Result<(), AllocError> {
 #[test]
 fn names_are_kept(rt: HostRuntime) -> Result<(), AllocError> {
     let alloc = rt.alloc();
-    let mut objects = Vec::new(alloc);
-    let named = [("name", "Main Street\r"), ("highway", "residential")];
-    add_way(alloc, &mut objects, 10, &named, &[1, 2])?;
-    add_nodes(alloc, &mut objects, &[(1, 0, 0), (2, 0, 1000)])?;
+    let text = "w10 Tname=Main%20%Street%d%,highway=residential Nn1,n2\nn1 x0 y0\nn2 x0 y0.001";
+    let objects = objects_of(alloc, text)?;
     let got = built(alloc, &objects)?;
     assert_eq!(rt;
         got.as_str(),

@@ -22,7 +22,7 @@ fn remade(
     requires ascending { IsStrictlyIncreasing limits.now }
     requires some { All (λ limit. 1 ≤ limit) limits.now }
 {
-    let old = customized(rt, alloc, &bend(alloc, &[])?, limits)?;
+    let old = customized(rt, alloc, &bend(alloc, "")?, limits)?;
     let Ok(base) = base_of_files(alloc, old.network(), speeds, turns) else {
         return Err(AllocError);
     };

@@ -1,12 +1,12 @@
 //! Worked options; expected values are from OSRM's API and this project's rules.
 
-use crate::tests::assert_refused;
-use crate::{
+use crate::targets::assert_refused;
+use std::alloc::{AllocError, Global};
+use std::process::Abort;
+use url_read::{
     Alternatives, Approach, Bearing, Chosen, ContinueStraight, Geometries, Overview, Request,
     RouteAnnotations, Service, TableAnnotations, request,
 };
-use std::alloc::{AllocError, Global};
-use std::process::Abort;
 
 const REFUSED: &[u8] = b"/nearest/v1/car/0,0;0,0?foo=1|InvalidQuery|2 coordinates
 /nearest/v1/car/0,0?number=0|InvalidOptions|option number

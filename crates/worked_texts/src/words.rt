@@ -1,6 +1,6 @@
 //! What no clause says: that words are read with ample memory, and what some words make.
 
-use crate::words::{ServeWords, Words, WordsFault, read_words};
+use command_words::{ServeWords, Words, WordsFault, read_words};
 use std::alloc::{AllocError, Global};
 use std::process::Abort;
 

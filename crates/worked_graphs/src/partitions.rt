@@ -1,6 +1,7 @@
 //! What no clause says: that calls succeed where memory is ample, and that the cells
 //! are those that a reader of the rule finds by hand.
-use crate::{Cells, cells};
+
+use cell_partition::{Cells, cells};
 use std::alloc::{AllocError, Global};
 use std::process::Abort;
 use std::test::Fail;

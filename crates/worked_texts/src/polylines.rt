@@ -1,4 +1,4 @@
-use crate::{DecodeError, decode, encode};
+use polyline_text::{DecodeError, decode, encode};
 use road_base::Point;
 use std::alloc::{AllocError, Global};
 

@@ -1,8 +1,8 @@
 //! What no clause says: that the calls succeed, and that the definitions say what was meant.
 
-use crate::{Rules, rules};
 use road_base::{Kind, Member, Members, Object, Relation, Tags, Text};
 use std::alloc::AllocError;
+use turn_rules::{Rules, rules};
 
 type Part = (Kind, i64, &'static str);
 

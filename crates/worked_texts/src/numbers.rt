@@ -1,6 +1,6 @@
 //! Values from outside: what the OPL manual and this project's rules say of single texts.
 
-use crate::{id, microdegrees};
+use decimal_text::{id, microdegrees};
 
 #[test]
 fn decimals_keep_six_digits_and_round_by_the_seventh(rt: HostRuntime) {

@@ -1,9 +1,9 @@
 //! Worked settings and ways; expected values are from this project's rules.
 
-use crate::{Profile, SettingsFault};
 use road_base::{Modifier, Tags};
 use std::alloc::{AllocError, Global};
 use std::process::Abort;
+use way_profile::{Profile, SettingsFault};
 
 const CAR: &str =
     "name = \"car\"\nvehicle = \"motorcar\"\naccess_keys = [\"motor_vehicle\", \"access\"]\ndenied = [\"no\", \"private\"]\nbarriers = [\"bollard\", \"gate\"]\nu_turn_penalty = 200\nsignal_penalty = 25\ndriving_side = \"left\"\n[speeds]\nresidential = 40\nmotorway = 130\n[turn_penalty]\nstraight = 1\nslight_right = 2\nright = 3\nsharp_right = 4\nuturn = 5\nsharp_left = 6\nleft = 7\nslight_left = 8\n";

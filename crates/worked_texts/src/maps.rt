@@ -1,6 +1,6 @@
 //! Worked texts; expected values are from the OPL manual and this project's rules.
 
-use crate::{ReadFault, read};
+use opl_read::{ReadFault, read};
 use road_base::{Kind, Object, Point};
 use std::alloc::{AllocError, Global};
 

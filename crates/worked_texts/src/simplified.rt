@@ -1,6 +1,6 @@
 //! What no clause says: that the calls succeed, and that the clauses say what was meant.
 
-use crate::{simplify, tolerance_of};
+use line_simplify::{simplify, tolerance_of};
 use road_base::Point;
 use std::alloc::{AllocError, Global};
 

@@ -1,7 +1,7 @@
 ghost use Rattle.std.specs.Prelude.{◌≤◌};
 
-use crate::parts::{Front, Head, Span};
-use crate::{BUSY, BUSY_CLOSE, HEAD_BAD, busy_reply, head, head_bad_reply, response};
+use http_head::parts::{Front, Head, Span};
+use http_head::{BUSY, BUSY_CLOSE, HEAD_BAD, busy_reply, head, head_bad_reply, response};
 use std::alloc::{AllocError, Global};
 
 /// The `close` and `announced` of a whole head, as `close announced`, or the other answers' names.

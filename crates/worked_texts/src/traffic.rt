@@ -1,9 +1,9 @@
 //! Rows by hand, from what the formats of OSRM's traffic files and this project's rules say.
 
-use crate::{
+use std::test::Fail;
+use traffic_files::{
     RowFault, RowKind, SpeedRow, TrafficFault, TrafficFile, TurnRow, read_speeds, read_turns,
 };
-use std::test::Fail;
 
 #[test]
 fn speeds_are_read(rt: HostRuntime) -> Result<(), Fail> {

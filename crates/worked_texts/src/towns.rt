@@ -1,7 +1,7 @@
 //! Small towns, written out, and what is in one that has forbidden turns.
 
-use crate::town;
 use std::alloc::AllocError;
+use town_text::town;
 
 const TOWN_2: &str = "n1 x0.000000 y0.000000
 n2 x0.001000 y0.000000

@@ -1,9 +1,9 @@
 //! Worked targets; expected values are from OSRM's API and this project's rules.
 
-use crate::RefusalCode::{InvalidQuery, InvalidValue, TooBig};
-use crate::{RefusalCode, RequestFault, request};
 use std::alloc::{AllocError, Global};
 use std::process::Abort;
+use url_read::RefusalCode::{InvalidQuery, InvalidValue, TooBig};
+use url_read::{RefusalCode, RequestFault, request};
 
 // Whether a target is refused with this code and message.
 fn is_refused(rt: &HostRuntime, target: &[u8], code: RefusalCode, message: &[u8]) -> bool {

@@ -1,7 +1,7 @@
 //! Worked values; expected ones are from OSRM's API and this project's rules. Which texts are refused stands in the
 //! tests of the crate above, over whole targets.
 
-use crate::{
+use option_values::{
     Alternatives, Approach, Bearing, Chosen, ContinueStraight, Geometries, Overview, Snapping,
     alternatives_of, are_read, chosen_among, continue_straight_of, cut, every_annotation,
     geometries_of, hints_each, is_chosen, number_of, one_each, overview_of, route_annotations_of,

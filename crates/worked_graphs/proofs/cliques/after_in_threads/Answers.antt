@@ -1,0 +1,9 @@
+-- The places are those that changed.
+use Rattle.search_graph.specs.Durations.{durlen_ops}
+use Rattle.cell_recustomize.specs.ChangeLaws.{WereExact-changed}
+use Rattle.worked_graphs.proofs.cliques.after_in_threads.Goals as goal
+
+pub recustomize_in_threads-requires-clause-old : goal.recustomize_in_threads-requires-clause-old
+recustomize_in_threads-requires-clause-old g c κs within =
+    rw (c.as_slice-vertices.ensures, c.as_slice-arcs.ensures)
+    (WereExact-changed durlen_ops c.args.frame.now c.in_ok-before.before c.in_ok-after.after c.in_ok-old.old c.in_ok-places.places.vertices c.in_ok-places.places.arcs c.in_ok-places.ensures.vertices c.in_ok-places.ensures.arcs c.in_ok-old.ensures)
