@@ -4,6 +4,6 @@ use Rattle.cell_recustomize.specs.ChangeLaws.{WereExact-changed}
 use Rattle.worked_graphs.proofs.cliques.after.Goals as goal
 
 pub recustomize-requires-clause-old : goal.recustomize-requires-clause-old
-recustomize-requires-clause-old c =
+recustomize-requires-clause-old g c =
     rw (c.as_slice-vertices.ensures, c.as_slice-arcs.ensures)
     (WereExact-changed durlen_ops c.args.frame.now c.in_ok-before.before c.in_ok-after.after c.in_ok-old.old c.in_ok-places.places.vertices c.in_ok-places.places.arcs c.in_ok-places.ensures.vertices c.in_ok-places.ensures.arcs c.in_ok-old.ensures)
