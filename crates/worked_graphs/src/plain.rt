@@ -1,11 +1,13 @@
 //! Cheapest walks in a plain graph.
 
-ghost use Rattle.std.specs.Prelude.{◌≡◌};
+ghost use Rattle.search_graph.specs.Durations.{durlen_ops};
+ghost use Rattle.search_graph.specs.Weighted.{IsWeighting};
 
 use crate::drawings::{SMALL, cost_told, graph, starts, targets, vertices_told, weights};
 use plain_search::{Found, least_from};
-use search_graph::DurLen;
+use search_graph::{DurLen, Graph, Weights};
 use std::alloc::{AllocError, Global};
+use std::process::Abort;
 use std::test::Fail;
 
 /// For each target its cost and its walk, `-` where there is none.
@@ -21,20 +23,33 @@ pub fn walks_told(alloc: Global, found: &[Option<Found<DurLen>>]) -> Result<Stri
     Ok(text)
 }
 
+// A cheapest walk to each target.
+fn least_told(
+    rt: &impl Abort,
+    alloc: Global,
+    graph: &Graph,
+    weights: &Weights<DurLen>,
+    from: &str,
+    to: &str,
+) -> Result<String, Fail>
+    requires { IsWeighting durlen_ops graph.now weights.now }
+{
+    let starts = starts(rt, alloc, graph.vertices(), from)?;
+    let targets = targets(rt, alloc, graph.vertices(), to)?;
+    let found = least_from(alloc, graph, weights, &starts, &targets)?;
+    Ok(walks_told(alloc, &found)?)
+}
+
 #[test]
 fn cheapest_walks_in_a_small_graph(rt: HostRuntime) -> Result<(), Fail> {
     let alloc = rt.alloc();
     let graph = graph(&rt, alloc, &SMALL)?;
     let weights = weights(&rt, alloc, &graph, &SMALL)?;
-    let starts = starts(&rt, alloc, graph.vertices(), "0:8/0 5:30/0 3:0/0")?;
-    let ends = "4:2/2 0:3/3 2:1/0 3:0/0 6:0/0 5:0/0";
-    let targets = targets(&rt, alloc, graph.vertices(), ends)?;
-    let found = least_from(alloc, &graph, &weights, &starts, &targets)?;
-    assert_eq!(rt;
-        walks_told(alloc, &found)?.as_str(),
-        "32/11 5 4 | 48/90 0 1 2 0 | 20/52 0 1 2 | - | - | - | "
-    );
-    let found = least_from(alloc, &graph, &weights, &starts[..1], &targets[..1])?;
-    assert_eq!(rt; walks_told(alloc, &found)?.as_str(), "44/86 0 1 2 4 | ");
+    let (from, to) = ("0:8/0 5:30/0 3:0/0", "4:2/2 0:3/3 2:1/0 3:0/0 6:0/0 5:0/0");
+    let told = least_told(&rt, alloc, &graph, &weights, from, to)?;
+    let want = "32/11 5 4 | 48/90 0 1 2 0 | 20/52 0 1 2 | - | - | - | ";
+    assert_eq!(rt; told.as_str(), want);
+    let told = least_told(&rt, alloc, &graph, &weights, "0:8/0", "4:2/2")?;
+    assert_eq!(rt; told.as_str(), "44/86 0 1 2 4 | ");
     Ok(())
 }
