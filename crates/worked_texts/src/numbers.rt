@@ -1,45 +1,71 @@
 //! Values from outside: what the OPL manual and this project's rules say of single texts.
 
 use decimal_text::{id, microdegrees};
+use std::alloc::{AllocError, Global};
 
-#[test]
-fn decimals_keep_six_digits_and_round_by_the_seventh(rt: HostRuntime) {
-    let cases: [(&[u8], Option<i64>); 16] = [
-        (b"0", Some(0)),
-        (b"-0", Some(0)),
-        (b"0.001", Some(1000)),
-        (b"-1.0000005", Some(-1000001)),
-        (b"1.00000049", Some(1000000)),
-        (b"180.0000005", Some(180000001)),
-        (b"007.5", Some(7500000)),
-        (b"13.2605430", Some(13260543)),
-        (b"99999999999999999999999", Some(1_000_000_000_000)),
-        (b"-99999999999999999999999", Some(-1_000_000_000_000)),
-        (b"", None),
-        (b"-", None),
-        (b"1.", None),
-        (b".5", None),
-        (b"1e5", None),
-        (b"+1", None),
-    ];
-    for (text, value) in cases {
-        assert!(rt; microdegrees(text) == value);
+// A number that is found, or `none`.
+fn told(alloc: Global, found: Option<i64>) -> Result<String, AllocError> {
+    match found {
+        Some(number) => format!(in alloc; "{number}"),
+        None => format!(in alloc; "none"),
     }
 }
 
+// Texts, each with the microdegrees that are found in it, and a bar between the two. A table is one text, since a proof takes
+// time for each value of a list.
+const DECIMALS: &str = "0|0
+-0|0
+0.001|1000
+-1.0000005|-1000001
+1.00000049|1000000
+180.0000005|180000001
+007.5|7500000
+13.2605430|13260543
+99999999999999999999999|1000000000000
+-99999999999999999999999|-1000000000000
+|none
+-|none
+1.|none
+.5|none
+1e5|none
++1|none";
+
 #[test]
-fn ids_have_at_most_nineteen_digits(rt: HostRuntime) {
-    let cases: [(&[u8], Option<i64>); 8] = [
-        (b"1", Some(1)),
-        (b"-17", Some(-17)),
-        (b"9223372036854775807", Some(i64::MAX)),
-        (b"9223372036854775808", None),
-        (b"-9223372036854775808", Some(i64::MIN)),
-        (b"-9223372036854775809", None),
-        (b"00000000000000000001", None),
-        (b"a1", None),
-    ];
-    for (text, value) in cases {
-        assert!(rt; id(text) == value);
+fn decimals_keep_six_digits_and_round_by_the_seventh(rt: HostRuntime) -> Result<(), AllocError> {
+    for row in DECIMALS.split('\n') {
+        let mut parts = row.split('|');
+        match (parts.next(), parts.next()) {
+            (Some(text), Some(wanted)) => {
+                let found = told(rt.alloc(), microdegrees(text.as_bytes()))?;
+                assert_eq!(rt; found.as_str(), wanted, "{text}");
+            }
+            _ => panic!(rt; "a row of two"),
+        }
     }
+    Ok(())
+}
+
+// Texts, each with the id that is found in it.
+const IDS: &str = "1|1
+-17|-17
+9223372036854775807|9223372036854775807
+9223372036854775808|none
+-9223372036854775808|-9223372036854775808
+-9223372036854775809|none
+00000000000000000001|none
+a1|none";
+
+#[test]
+fn ids_have_at_most_nineteen_digits(rt: HostRuntime) -> Result<(), AllocError> {
+    for row in IDS.split('\n') {
+        let mut parts = row.split('|');
+        match (parts.next(), parts.next()) {
+            (Some(text), Some(wanted)) => {
+                let found = told(rt.alloc(), id(text.as_bytes()))?;
+                assert_eq!(rt; found.as_str(), wanted, "{text}");
+            }
+            _ => panic!(rt; "a row of two"),
+        }
+    }
+    Ok(())
 }

@@ -1,125 +1,91 @@
 //! What no clause says: that the calls succeed, and that the definitions say what was meant.
 
-use road_base::{Kind, Member, Members, Object, Relation, Tags, Text};
-use std::alloc::AllocError;
+use opl_read::read;
+use std::alloc::{AllocError, Global};
+use std::process::Abort;
 use turn_rules::{Rules, rules};
 
-type Part = (Kind, i64, &'static str);
-
-const FROM: Part = (Kind::Way, 1, "from");
-
-const FROM_TOO: Part = (Kind::Way, 2, "from");
-
-const VIA: Part = (Kind::Node, 5, "via");
-
-const VIA_WAY: Part = (Kind::Way, 5, "via");
-
-const TO: Part = (Kind::Way, 4, "to");
-
-const TO_TOO: Part = (Kind::Way, 3, "to");
-
-const HINT: Part = (Kind::Node, 7, "location_hint");
-
-fn members(rt: &HostRuntime, parts: &[Part]) -> Result<Members, AllocError> {
-    let mut all = Vec::new(rt.alloc());
-    for (kind, id, role) in parts {
-        let role = Text::copy_of(rt.alloc(), role)?;
-        all.push(Member {
-            kind: *kind,
-            id: *id,
-            role,
-        })?;
-    }
-    Ok(Members::of(all))
-}
-
-// The rules for a car of a map with only this restriction.
-fn rules_with(
-    rt: &HostRuntime,
-    value: &'static str,
-    except: &'static str,
-    parts: &[Part],
-) -> Result<Rules, AllocError> {
-    let tags = Tags::new(rt.alloc())
-        .with("type", "restriction")?
-        .with("restriction", value)?
-        .with("except", except)?;
-    let members = members(rt, parts)?;
-    let mut objects = Vec::new(rt.alloc());
-    objects.push(Object::Relation(Relation {
-        id: 1,
-        tags,
-        members,
-    }))?;
-    rules(rt.alloc(), &objects, "motorcar")
+// The rules for a car of a map in OPL.
+fn rules_of(rt: &impl Abort, alloc: Global, map: &str) -> Result<Rules, AllocError> {
+    let objects = read(alloc, map.as_bytes()).ok().expect(rt, "a good text");
+    rules(alloc, &objects, "motorcar")
 }
 
 // How many restrictions are kept and ignored, and whether the first forbids the turns from way 1 to ways
 // 4 and 3.
-fn told(rules: &Rules) -> (u64, u64, bool, bool) {
+fn told(alloc: Global, rules: &Rules) -> Result<String, AllocError> {
+    let ignored = rules.ignored();
     if rules.count() == 0 {
-        return (0, rules.ignored(), false, false);
+        return format!(in alloc; "0 {ignored} false false");
     }
+    let count = rules.count();
     let to_four = rules.forbids(0, 1, 4, false);
     let to_three = rules.forbids(0, 1, 3, false);
-    (rules.count(), rules.ignored(), to_four, to_three)
+    format!(in alloc; "{count} {ignored} {to_four} {to_three}")
 }
+
+// Asserts that the rules of each map of a table tell what its row says: the map, which is one restriction, and what is told,
+// with a bar between the two. A table is one text, since a proof takes time for each value of a list.
+fn assert_told(rt: &impl Abort, alloc: Global, table: &str) -> Result<(), AllocError> {
+    for row in table.split('\n') {
+        let mut parts = row.split('|');
+        let (Some(map), Some(want)) = (parts.next(), parts.next()) else {
+            panic!(rt; "a row of two");
+        };
+        let rules = rules_of(rt, alloc, map)?;
+        assert_eq!(rt; told(alloc, &rules)?.as_str(), want, "{map}");
+    }
+    Ok(())
+}
+
+const SENSES: &str =
+    "r1 Ttype=restriction,restriction=no_left_turn,except=bus Mw4@to,w1@from,n7@location_hint,n5@via|1 0 true false
+r1 Ttype=restriction,restriction=no_right_turn,except=bus Mw4@to,w1@from,n7@location_hint,n5@via|1 0 true false
+r1 Ttype=restriction,restriction=no_straight_on,except=bus Mw4@to,w1@from,n7@location_hint,n5@via|1 0 true false
+r1 Ttype=restriction,restriction=no_u_turn,except=bus Mw4@to,w1@from,n7@location_hint,n5@via|1 0 true false
+r1 Ttype=restriction,restriction=no_entry,except=bus Mw4@to,w1@from,n7@location_hint,n5@via|1 0 true false
+r1 Ttype=restriction,restriction=no_exit,except=bus Mw4@to,w1@from,n7@location_hint,n5@via|1 0 true false
+r1 Ttype=restriction,restriction=only_left_turn,except=bus Mw4@to,w1@from,n7@location_hint,n5@via|1 0 false true
+r1 Ttype=restriction,restriction=only_right_turn,except=bus Mw4@to,w1@from,n7@location_hint,n5@via|1 0 false true
+r1 Ttype=restriction,restriction=only_straight_on,except=bus Mw4@to,w1@from,n7@location_hint,n5@via|1 0 false true";
 
 #[test]
 fn each_value_forbids_the_turns_of_its_sense(rt: HostRuntime) -> Result<(), AllocError> {
-    for (value, to_four) in [
-        ("no_left_turn", true),
-        ("no_right_turn", true),
-        ("no_straight_on", true),
-        ("no_u_turn", true),
-        ("no_entry", true),
-        ("no_exit", true),
-        ("only_left_turn", false),
-        ("only_right_turn", false),
-        ("only_straight_on", false),
-    ] {
-        let kept = rules_with(&rt, value, "bus", &[TO, FROM, HINT, VIA])?;
-        assert_eq!(rt; told(&kept), (1, 0, to_four, !to_four));
-    }
-    Ok(())
+    assert_told(&rt, rt.alloc(), SENSES)
 }
+
+// Restrictions without a way to, which are faulty.
+const EXCEPTED: &str =
+    "r1 Ttype=restriction,restriction=no_left_turn,except=motorcar Mw1@from,n5@via|0 0 false false
+r1 Ttype=restriction,restriction=no_left_turn,except=bus;%20%%9%motorcar%20%;taxi Mw1@from,n5@via|0 0 false false
+r1 Ttype=restriction,restriction=no_left_turn,except=bus Mw1@from,n5@via|0 1 false false
+r1 Ttype=restriction,restriction=no_left_turn,except=motor%20%car;bus%2c%motorcar Mw1@from,n5@via|0 1 false false";
 
 #[test]
 fn an_excepted_vehicle_has_no_restriction(rt: HostRuntime) -> Result<(), AllocError> {
-    for (except, ignored) in [
-        ("motorcar", 0),
-        ("bus; \tmotorcar ;taxi", 0),
-        ("bus", 1),
-        ("motor car;bus,motorcar", 1),
-    ] {
-        let faulty = rules_with(&rt, "no_left_turn", except, &[FROM, VIA])?;
-        assert_eq!(rt; told(&faulty), (0, ignored, false, false));
-    }
-    Ok(())
+    assert_told(&rt, rt.alloc(), EXCEPTED)
 }
+
+const MEMBERS: &str =
+    "r1 Ttype=restriction,restriction=no_turn,except=bus Mw1@from,n5@via,w4@to,n7@location_hint|0 1 false false
+r1 Ttype=restriction,restriction=no_left_turn,except=bus Mw1@from,w2@from,n5@via,w4@to|0 1 false false
+r1 Ttype=restriction,restriction=no_left_turn,except=bus Mw1@from,n5@via,n5@via,w4@to|0 1 false false
+r1 Ttype=restriction,restriction=no_left_turn,except=bus Mw1@from,w5@via,w4@to,n7@location_hint|0 1 false false
+r1 Ttype=restriction,restriction=no_left_turn,except=bus Mw1@from,n5@via,n7@location_hint,n7@location_hint|0 1 false false
+r1 Ttype=restriction,restriction=no_exit,except=bus Mw1@from,w2@from,n5@via,w4@to|0 1 false false
+r1 Ttype=restriction,restriction=no_entry,except=bus Mw1@from,w2@from,n5@via,w4@to|1 0 true false
+r1 Ttype=restriction,restriction=no_exit,except=bus Mw1@from,n5@via,w3@to,w4@to|1 0 true true";
 
 #[test]
 fn members_are_counted_by_their_roles(rt: HostRuntime) -> Result<(), AllocError> {
-    for (value, [first, second, third, fourth], counts) in [
-        ("no_turn", [FROM, VIA, TO, HINT], (0, 1)),
-        ("no_left_turn", [FROM, FROM_TOO, VIA, TO], (0, 1)),
-        ("no_left_turn", [FROM, VIA, VIA, TO], (0, 1)),
-        ("no_left_turn", [FROM, VIA_WAY, TO, HINT], (0, 1)),
-        ("no_left_turn", [FROM, VIA, HINT, HINT], (0, 1)),
-        ("no_exit", [FROM, FROM_TOO, VIA, TO], (0, 1)),
-        ("no_entry", [FROM, FROM_TOO, VIA, TO], (1, 0)),
-        ("no_exit", [FROM, VIA, TO_TOO, TO], (1, 0)),
-    ] {
-        let parts = [first, second, third, fourth];
-        let rules = rules_with(&rt, value, "bus", &parts)?;
-        assert_eq!(rt; (rules.count(), rules.ignored()), counts);
-    }
-    Ok(())
+    assert_told(&rt, rt.alloc(), MEMBERS)
 }
+
+const TURN_BACK: &str = "r1 Ttype=restriction,restriction=no_u_turn,except= Mw1@from,n5@via,w1@to";
 
 #[test]
 fn a_turn_back_is_forbidden_on_its_own_way(rt: HostRuntime) -> Result<(), AllocError> {
-    let kept = rules_with(&rt, "no_u_turn", "", &[FROM, VIA, (Kind::Way, 1, "to")])?;
+    let kept = rules_of(&rt, rt.alloc(), TURN_BACK)?;
     if kept.count() == 1 && kept.via(0) == 5 && kept.ways(0).len() == 2 {
         let answers = (kept.forbids(0, 1, 1, true), kept.forbids(0, 1, 1, false));
         assert_eq!(rt; answers, (true, false));

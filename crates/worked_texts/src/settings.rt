@@ -107,18 +107,48 @@ fn each_setting_has_its_answer(rt: HostRuntime) -> Result<(), AllocError> {
     assert_eq!(rt; profile.u_turn(), 200);
     assert_eq!(rt; profile.signal(), 25);
     assert!(rt; profile.left_side());
-    let penalties = [
-        (Modifier::Straight, 1),
-        (Modifier::SlightRight, 2),
-        (Modifier::Right, 3),
-        (Modifier::SharpRight, 4),
-        (Modifier::Uturn, 5),
-        (Modifier::SharpLeft, 6),
-        (Modifier::Left, 7),
-        (Modifier::SlightLeft, 8),
-    ];
-    for (modifier, penalty) in penalties {
-        assert_eq!(rt; profile.penalty(modifier), penalty);
+    Ok(())
+}
+
+// The modifiers, each with its penalty in the car's settings.
+const PENALTIES: &str = "straight 1
+slight_right 2
+right 3
+sharp_right 4
+uturn 5
+sharp_left 6
+left 7
+slight_left 8";
+
+// The modifier of this name.
+fn modifier(rt: &impl Abort, name: &str) -> Modifier {
+    match name {
+        "straight" => Modifier::Straight,
+        "slight_right" => Modifier::SlightRight,
+        "right" => Modifier::Right,
+        "sharp_right" => Modifier::SharpRight,
+        "uturn" => Modifier::Uturn,
+        "sharp_left" => Modifier::SharpLeft,
+        "left" => Modifier::Left,
+        "slight_left" => Modifier::SlightLeft,
+        _ => panic!(rt; "a modifier"),
+    }
+}
+
+#[test]
+fn each_modifier_has_its_penalty(rt: HostRuntime) -> Result<(), AllocError> {
+    let alloc = rt.alloc();
+    let read = Profile::read(alloc, CAR.as_bytes())
+        .ok()
+        .expect(&rt, "good settings");
+    let profile = read.try_clone(alloc)?;
+    for row in PENALTIES.split('\n') {
+        let mut parts = row.split(' ');
+        let (Some(name), Some(want)) = (parts.next(), parts.next()) else {
+            panic!(rt; "a row of two");
+        };
+        let told = format!(in alloc; "{}", profile.penalty(modifier(&rt, name)))?;
+        assert_eq!(rt; told.as_str(), want, "{name}");
     }
     Ok(())
 }

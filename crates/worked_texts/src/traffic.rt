@@ -1,126 +1,126 @@
 //! Rows by hand, from what the formats of OSRM's traffic files and this project's rules say.
 
+use std::alloc::{AllocError, Global};
 use std::test::Fail;
-use traffic_files::{
-    RowFault, RowKind, SpeedRow, TrafficFault, TrafficFile, TurnRow, read_speeds, read_turns,
-};
+use traffic_files::{SpeedRow, TrafficFault, TurnRow, read_speeds, read_turns};
+
+// Rows of speeds as a text, a line each: from, to and speed.
+fn speeds_told(alloc: Global, rows: &[SpeedRow]) -> Result<String, AllocError> {
+    let mut text = String::new(alloc);
+    for row in rows {
+        let line = format!(in alloc; "{} {} {}\n", row.from, row.to, row.speed)?;
+        text.push_str(line.as_str())?;
+    }
+    Ok(text)
+}
+
+const SPEEDS: &[u8] = b"1,2,20\r\n\n 3 ,-4, 0.9999 ,1\n5,6,0.0004\n\"7\",8,1000.0009,-2.5\n9,10,0";
+
+const SPEEDS_TOLD: &str = "1 2 20000
+3 -4 1000
+5 6 0
+7 8 1000000
+9 10 0
+";
 
 #[test]
 fn speeds_are_read(rt: HostRuntime) -> Result<(), Fail> {
-    let text = b"1,2,20\r\n\n 3 ,-4, 0.9999 ,1\n5,6,0.0004\n\"7\",8,1000.0009,-2.5\n9,10,0";
-    let rows = read_speeds(rt.alloc(), text)?;
-    let expected = [
-        SpeedRow {
-            from: 1,
-            to: 2,
-            speed: 20000,
-        },
-        SpeedRow {
-            from: 3,
-            to: -4,
-            speed: 1000,
-        },
-        SpeedRow {
-            from: 5,
-            to: 6,
-            speed: 0,
-        },
-        SpeedRow {
-            from: 7,
-            to: 8,
-            speed: 1000000,
-        },
-        SpeedRow {
-            from: 9,
-            to: 10,
-            speed: 0,
-        },
-    ];
-    assert!(rt; rows.as_slice() == expected.as_slice());
+    let rows = read_speeds(rt.alloc(), SPEEDS)?;
+    let told = speeds_told(rt.alloc(), rows.as_slice())?;
+    assert_eq!(rt; told.as_str(), SPEEDS_TOLD);
     Ok(())
 }
+
+// Rows of turns as a text, a line each: from, via, to and penalty.
+fn turns_told(alloc: Global, rows: &[TurnRow]) -> Result<String, AllocError> {
+    let mut text = String::new(alloc);
+    for row in rows {
+        let line = format!(in alloc; "{} {} {} {}\n", row.from, row.via, row.to, row.penalty)?;
+        text.push_str(line.as_str())?;
+    }
+    Ok(text)
+}
+
+const TURNS: &[u8] = b"1,2,3,12\n1,2,3,4.59,1\n1,2,-3,-0.5\n1,2,3,100000.09";
+
+const TURNS_TOLD: &str = "1 2 3 120
+1 2 3 45
+1 2 -3 0
+1 2 3 1000000
+";
 
 #[test]
 fn turns_are_read(rt: HostRuntime) -> Result<(), Fail> {
-    let rows = read_turns(
-        rt.alloc(),
-        b"1,2,3,12\n1,2,3,4.59,1\n1,2,-3,-0.5\n1,2,3,100000.09",
-    )?;
-    let expected = [
-        TurnRow {
-            from: 1,
-            via: 2,
-            to: 3,
-            penalty: 120,
-        },
-        TurnRow {
-            from: 1,
-            via: 2,
-            to: 3,
-            penalty: 45,
-        },
-        TurnRow {
-            from: 1,
-            via: 2,
-            to: -3,
-            penalty: 0,
-        },
-        TurnRow {
-            from: 1,
-            via: 2,
-            to: 3,
-            penalty: 1000000,
-        },
-    ];
-    assert!(rt; rows.as_slice() == expected.as_slice());
+    let rows = read_turns(rt.alloc(), TURNS)?;
+    let told = turns_told(rt.alloc(), rows.as_slice())?;
+    assert_eq!(rt; told.as_str(), TURNS_TOLD);
     Ok(())
 }
 
-#[test]
-fn the_first_faulty_speed_is_told(rt: HostRuntime) {
-    let cases: [(&[u8], u64, RowKind); 15] = [
-        (b"1,2,20\n2,3,30\n3,2,abc", 3, RowKind::BadNumber),
-        (b"1,2", 1, RowKind::BadCount),
-        (b"1,2,20\n1,2,20,1,1", 2, RowKind::BadCount),
-        (b"a,2,20", 1, RowKind::BadId),
-        (b"1,9223372036854775808,x", 1, RowKind::BadId),
-        (b"1 2,3,20", 1, RowKind::BadId),
-        (b"\t1,3,20", 1, RowKind::BadId),
-        (b"1,2,+1", 1, RowKind::BadNumber),
-        (b"1,2,1e3", 1, RowKind::BadNumber),
-        (b"1,2,-0.5", 1, RowKind::BadNumber),
-        (b"1,2,\xff", 1, RowKind::BadNumber),
-        (b"1,2,20,", 1, RowKind::BadNumber),
-        (b"1,2,2000,x", 1, RowKind::BadNumber),
-        (b"1,2,1000.001", 1, RowKind::OutOfRange),
-        (b"1,2,1000000000000000000000", 1, RowKind::OutOfRange),
-    ];
-    for (text, row, kind) in cases {
-        let expected = RowFault {
-            file: TrafficFile::Speeds,
-            row,
-            kind,
-        };
-        assert!(rt; read_speeds(rt.alloc(), text) == Err(TrafficFault::Row(expected)));
+// What a fault tells: its file, its row and its kind.
+fn told(alloc: Global, fault: TrafficFault) -> Result<String, AllocError> {
+    match fault {
+        TrafficFault::Row(fault) => {
+            format!(in alloc; "{:?} {} {:?}", fault.file, fault.row, fault.kind)
+        }
+        TrafficFault::Memory => Err(AllocError),
     }
 }
 
+// Files of speeds, each with what its first faulty row tells. A bar stands behind a file, and a dollar sign between each two
+// rows of the table. A table is one text, since a proof takes time for each value of a list.
+const FAULTY_SPEEDS: &[u8] = b"1,2,20\n2,3,30\n3,2,abc|Speeds 3 BadNumber$\
+1,2|Speeds 1 BadCount$\
+1,2,20\n1,2,20,1,1|Speeds 2 BadCount$\
+a,2,20|Speeds 1 BadId$\
+1,9223372036854775808,x|Speeds 1 BadId$\
+1 2,3,20|Speeds 1 BadId$\
+\t1,3,20|Speeds 1 BadId$\
+1,2,+1|Speeds 1 BadNumber$\
+1,2,1e3|Speeds 1 BadNumber$\
+1,2,-0.5|Speeds 1 BadNumber$\
+1,2,\xff|Speeds 1 BadNumber$\
+1,2,20,|Speeds 1 BadNumber$\
+1,2,2000,x|Speeds 1 BadNumber$\
+1,2,1000.001|Speeds 1 OutOfRange$\
+1,2,1000000000000000000000|Speeds 1 OutOfRange";
+
 #[test]
-fn the_first_faulty_turn_is_told(rt: HostRuntime) {
-    let cases: [(&[u8], u64, RowKind); 6] = [
-        (b"1,2,3", 1, RowKind::BadCount),
-        (b"1,2,3,4,5,6", 1, RowKind::BadCount),
-        (b"1,2,3,4\n1,2,x,y", 2, RowKind::BadId),
-        (b"1,2,3,--1", 1, RowKind::BadNumber),
-        (b"1,2,3,4,x", 1, RowKind::BadNumber),
-        (b"1,2,3,100000.1", 1, RowKind::OutOfRange),
-    ];
-    for (text, row, kind) in cases {
-        let expected = RowFault {
-            file: TrafficFile::Turns,
-            row,
-            kind,
-        };
-        assert!(rt; read_turns(rt.alloc(), text) == Err(TrafficFault::Row(expected)));
+fn the_first_faulty_speed_is_told(rt: HostRuntime) -> Result<(), AllocError> {
+    let alloc = rt.alloc();
+    for row in FAULTY_SPEEDS.split(|byte| *byte == b'$') {
+        let mut parts = row.split(|byte| *byte == b'|');
+        match (parts.next(), parts.next()) {
+            (Some(text), Some(wanted)) => {
+                let fault = read_speeds(alloc, text).err().expect(&rt, "a faulty row");
+                assert_eq!(rt; told(alloc, fault)?.as_bytes(), wanted);
+            }
+            _ => panic!(rt; "a row of two"),
+        }
     }
+    Ok(())
+}
+
+// Files of turns in the same form.
+const FAULTY_TURNS: &[u8] = b"1,2,3|Turns 1 BadCount$\
+1,2,3,4,5,6|Turns 1 BadCount$\
+1,2,3,4\n1,2,x,y|Turns 2 BadId$\
+1,2,3,--1|Turns 1 BadNumber$\
+1,2,3,4,x|Turns 1 BadNumber$\
+1,2,3,100000.1|Turns 1 OutOfRange";
+
+#[test]
+fn the_first_faulty_turn_is_told(rt: HostRuntime) -> Result<(), AllocError> {
+    let alloc = rt.alloc();
+    for row in FAULTY_TURNS.split(|byte| *byte == b'$') {
+        let mut parts = row.split(|byte| *byte == b'|');
+        match (parts.next(), parts.next()) {
+            (Some(text), Some(wanted)) => {
+                let fault = read_turns(alloc, text).err().expect(&rt, "a faulty row");
+                assert_eq!(rt; told(alloc, fault)?.as_bytes(), wanted);
+            }
+            _ => panic!(rt; "a row of two"),
+        }
+    }
+    Ok(())
 }
