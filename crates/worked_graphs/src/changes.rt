@@ -1,27 +1,47 @@
 //! Where two weightings differ.
 
-use crate::drawings::{Drawing, STREETS, graph, weights};
+use crate::drawings::{Drawing, STREETS, graph, vertices_told, weights};
+use search_graph::Graph;
+use std::alloc::Global;
+use std::process::Abort;
 use std::test::Fail;
 use weight_changes::changed;
 
+/// The two streets, with the second way closed.
+const CLOSED: Drawing = Drawing {
+    vertex_costs: "99/1111 - 99/1111 99/1111",
+    ..STREETS
+};
+
+/// The two streets, where the last turn back is cheaper.
+const CHEAPER: Drawing = Drawing {
+    arc_costs: "0/0 0/0 200/0 199/0",
+    ..STREETS
+};
+
+// The vertices and the arcs at which the costs of two drawings differ.
+fn changes_told(
+    rt: &impl Abort,
+    alloc: Global,
+    graph: &Graph,
+    old: &Drawing,
+    new: &Drawing,
+) -> Result<String, Fail> {
+    let old = weights(rt, alloc, graph, old)?;
+    let new = weights(rt, alloc, graph, new)?;
+    let places = changed(alloc, graph, &old, &new)?;
+    let mut text = vertices_told(alloc, places.vertices.as_slice())?;
+    text.push_str("| ")?;
+    text.push_str(vertices_told(alloc, places.arcs.as_slice())?.as_str())?;
+    Ok(text)
+}
+
 #[test]
 fn an_opened_vertex_and_a_cheaper_arc_are_told(rt: HostRuntime) -> Result<(), Fail> {
-    let alloc = rt.alloc();
-    let closed = Drawing {
-        vertex_costs: "99/1111 - 99/1111 99/1111",
-        ..STREETS
-    };
-    let cheaper = Drawing {
-        arc_costs: "0/0 0/0 200/0 199/0",
-        ..STREETS
-    };
-    let graph = graph(&rt, alloc, &STREETS)?;
-    let old = weights(&rt, alloc, &graph, &closed)?;
-    let new = weights(&rt, alloc, &graph, &cheaper)?;
-    let told = changed(alloc, &graph, &old, &new)?;
-    assert_eq!(rt; told.vertices.as_slice(), [1].as_slice());
-    assert_eq!(rt; told.arcs.as_slice(), [3].as_slice());
-    let none = changed(alloc, &graph, &new, &new)?;
-    assert!(rt; none.vertices.as_slice().is_empty() && none.arcs.as_slice().is_empty());
+    let graph = graph(&rt, rt.alloc(), &STREETS)?;
+    let both = changes_told(&rt, rt.alloc(), &graph, &CLOSED, &CHEAPER)?;
+    assert_eq!(rt; both.as_str(), "1 | 3 ");
+    let none = changes_told(&rt, rt.alloc(), &graph, &CHEAPER, &CHEAPER)?;
+    assert_eq!(rt; none.as_str(), "| ");
     Ok(())
 }

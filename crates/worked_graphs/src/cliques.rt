@@ -118,6 +118,12 @@ const SLOWER: Drawing = Drawing {
     ..STREETS
 };
 
+/// The two streets with a dearer turn from the first into the second.
+const DEARER: Drawing = Drawing {
+    arc_costs: "100/0 0/0 200/0 200/0",
+    ..STREETS
+};
+
 #[test]
 fn a_slower_way_touches_its_street(rt: HostRuntime) -> Result<(), Fail> {
     let alloc = rt.alloc();
@@ -139,11 +145,7 @@ fn a_slower_way_touches_its_street(rt: HostRuntime) -> Result<(), Fail> {
 fn a_dearer_turn_between_streets_touches_neither(rt: HostRuntime) -> Result<(), Fail> {
     let alloc = rt.alloc();
     let frame = frame(&rt, alloc, &STREETS, &[2, 4])?;
-    let dearer = Drawing {
-        arc_costs: "100/0 0/0 200/0 200/0",
-        ..STREETS
-    };
-    let made = after(&rt, alloc, &frame, &dearer)?;
+    let made = after(&rt, alloc, &frame, &DEARER)?;
     assert_eq!(rt; made.searches, 0);
     assert_eq!(rt;
         row_told(&rt, alloc, &frame, &made.cliques, 1, 1)?.as_str(),
