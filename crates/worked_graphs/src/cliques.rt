@@ -83,10 +83,11 @@ fn after(
 ) -> Result<Recustomized<DurLen>, Fail>
     ensures { IfOk result (λ made. (w : _) × AreExact durlen_ops frame.now w made.cliques (length frame.now.cells.levels)) }
 {
-    let before = weights(rt, alloc, frame.graph(), &STREETS)?;
+    let graph = frame.graph();
+    let before = weights(rt, alloc, graph, &STREETS)?;
     let old = customize(alloc, frame, &before)?;
-    let after = weights(rt, alloc, frame.graph(), drawing)?;
-    let places = changed(alloc, frame.graph(), &before, &after)?;
+    let after = weights(rt, alloc, graph, drawing)?;
+    let places = changed(alloc, graph, &before, &after)?;
     let vertices = places.vertices.as_slice();
     let arcs = places.arcs.as_slice();
     let made = recustomize(alloc, frame, &after, &old, vertices, arcs)?;
@@ -102,10 +103,11 @@ fn after_in_threads(
 ) -> Result<Recustomized<DurLen>, Fail>
     ensures { IfOk result (λ made. (w : _) × AreExact durlen_ops frame.now w made.cliques (length frame.now.cells.levels)) }
 {
-    let before = weights(rt, alloc, frame.graph(), &STREETS)?;
+    let graph = frame.graph();
+    let before = weights(rt, alloc, graph, &STREETS)?;
     let old = customize(alloc, frame, &before)?;
-    let after = weights(rt, alloc, frame.graph(), drawing)?;
-    let places = changed(alloc, frame.graph(), &before, &after)?;
+    let after = weights(rt, alloc, graph, drawing)?;
+    let places = changed(alloc, graph, &before, &after)?;
     let vertices = places.vertices.as_slice();
     let arcs = places.arcs.as_slice();
     let made = recustomize_in_threads(rt, alloc, frame, &after, &old, vertices, arcs)?;
