@@ -25,10 +25,3 @@ mod table_answers;
 pub use answering::{answer, line_answer};
 pub use answers::{Answer, Places, ReplyFault, Walks};
 pub use reply_texts::Code;
-
-#[cfg(test)]
-mod answer_tests;
-#[cfg(test)]
-mod step_tests;
-#[cfg(test)]
-mod test_towns;

@@ -1,7 +1,7 @@
 //! Whole answers with steps. What they say is worked out from the rules by hand.
 
-use crate::answers::ReplyFault;
-use crate::test_towns::{Asked, CORNER, CROSSING, LEFT_CROSSING, Town, ask};
+use crate::towns::{Asked, CORNER, CROSSING, LEFT_CROSSING, Town, ask};
+use reply_core::ReplyFault;
 
 // A target, and the whole text of its answer, or what that ends in.
 #[derive(Clone, Copy)]

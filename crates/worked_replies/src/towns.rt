@@ -3,12 +3,11 @@
 ghost use Rattle.std.specs.Prelude.{◌≤◌, All};
 ghost use Rattle.std.specs.List.Sorted.{IsStrictlyIncreasing};
 
-use crate::answering::{answer, line_answer};
-use crate::answers::{Answer, ReplyFault};
 use customized::{Metric, Roads, SERVER_LIMITS};
 use edge_graph::Network;
 use metric_make::base;
 use metric_publish::local_board::LocalBoard;
+use reply_core::{Answer, ReplyFault, answer, line_answer};
 use road_base::{Ids, Node, Object, Point, Tags, Way};
 use snap_index::Grid;
 use std::alloc::Global;

@@ -1,7 +1,7 @@
 //! Whole answers over small towns.
 
-use crate::answers::ReplyFault;
-use crate::test_towns::{Asked, BLOCK, CORNER, DESERT, LANE, SQUARE, ask, ask_at, ask_over};
+use crate::towns::{Asked, BLOCK, CORNER, DESERT, LANE, SQUARE, ask, ask_at, ask_over};
+use reply_core::ReplyFault;
 use reply_texts::Code;
 use std::alloc::{AllocError, Global};
 

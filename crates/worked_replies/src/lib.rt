@@ -1,0 +1,12 @@
+//! Tests over worked replies, of what no clause says: that targets and lines are answered where memory is ample, with these
+//! very texts, and that the definitions say what was meant.
+#![tactic(auto)]
+
+#[cfg(test)]
+mod answers;
+#[cfg(test)]
+mod refusals;
+#[cfg(test)]
+mod steps;
+#[cfg(test)]
+mod towns;
