@@ -1,9 +1,12 @@
 //! Whole answers over small towns.
 
-use crate::towns::{Asked, BLOCK, CORNER, DESERT, LANE, SQUARE, ask, ask_at, ask_over};
+use crate::cases::{Case, assert_ends, assert_refused, case_of};
+use crate::towns::{Asked, BLOCK, CORNER, DESERT, LANE, ask, ask_at, ask_over};
 use reply_core::ReplyFault;
 use reply_texts::Code;
 use std::alloc::{AllocError, Global};
+use std::process::Abort;
+use std::thread::Threads;
 
 const FIRST_ROUTE: &str =
     "{\"code\":\"Ok\",\"data_version\":\"7\",\"routes\":[{\"distance\":222.2,\"duration\":19.8,\"weight\":19.8,\"weight_name\":\"duration\",\"legs\":[{\"distance\":222.2,\"duration\":19.8,\"weight\":19.8,\"summary\":\"\",\"steps\":[]}]}],\"waypoints\":[{\"distance\":0.0,\"name\":\"\",\"location\":[0.000000,0.000000]},{\"distance\":0.0,\"name\":\"\",\"location\":[0.001000,0.001000]}]}";
@@ -36,7 +39,8 @@ fn round_a_oneway_block(rt: HostRuntime) -> Result<(), ReplyFault> {
     );
     assert_eq!(rt; answer.walks.as_slice().len(), 1);
     for walk in answer.walks.as_slice() {
-        assert_eq!(rt; walk.as_slice(), &[0, 2, 4, 6, 0][..]);
+        let vertices = format!(in rt.alloc(); "{:?}", walk.as_slice())?;
+        assert_eq!(rt; vertices.as_str(), "[0, 2, 4, 6, 0]");
     }
     let by_segment = ask_over(&rt, rt.alloc(), BLOCK, &[1, 2], 7, target)?;
     assert_eq!(rt; by_segment.text.as_str(), answer.text.as_str());
@@ -54,60 +58,56 @@ fn a_route_through_three_coordinates(rt: HostRuntime) -> Result<(), ReplyFault> 
     Ok(())
 }
 
+// The whole text of each answer.
+const FAILING: &str =
+    "lane|/route/v1/car/0.00075,0;0.00025,0?overview=false|{\"code\":\"NoRoute\",\"data_version\":\"7\",\"message\":\"leg 0\"}
+lane|/route/v1/car/0,0;0.001,0;0,0?overview=false|{\"code\":\"NoRoute\",\"data_version\":\"7\",\"message\":\"leg 1\"}
+desert|/route/v1/car/0,0;0,0?overview=false|{\"code\":\"NoSegment\",\"data_version\":\"7\",\"message\":\"coordinate 0\"}";
+
 #[test]
 fn the_first_place_or_leg_that_fails_is_told(rt: HostRuntime) -> Result<(), ReplyFault> {
-    for (town, target, text) in [
-        (
-            LANE,
-            "/route/v1/car/0.00075,0;0.00025,0?overview=false",
-            "{\"code\":\"NoRoute\",\"data_version\":\"7\",\"message\":\"leg 0\"}",
-        ),
-        (
-            LANE,
-            "/route/v1/car/0,0;0.001,0;0,0?overview=false",
-            "{\"code\":\"NoRoute\",\"data_version\":\"7\",\"message\":\"leg 1\"}",
-        ),
-        (
-            DESERT,
-            "/route/v1/car/0,0;0,0?overview=false",
-            "{\"code\":\"NoSegment\",\"data_version\":\"7\",\"message\":\"coordinate 0\"}",
-        ),
-    ] {
-        let answer = ask(&rt, rt.alloc(), town, Asked::Target(target))?;
-        assert_eq!(rt; answer.status, 400);
-        assert_eq!(rt; answer.text.as_str(), text);
-        assert_eq!(rt; answer.places.as_slice().len(), 0);
+    for row in FAILING.split('\n') {
+        assert_refused(&rt, rt.alloc(), case_of(&rt, row))?;
+    }
+    Ok(())
+}
+
+// The code of each answer.
+const FILTERS: &str =
+    "corner|/route/v1/car/0.0001,0;0.001,0.001?overview=false&radiuses=0;unlimited|NoSegment
+corner|/route/v1/car/0.0001,0;0.001,0.001?overview=false&radiuses=11.0;unlimited|NoSegment
+corner|/route/v1/car/0.0001,0;0.001,0.001?overview=false&radiuses=11.1;unlimited|Ok
+corner|/route/v1/car/0,0;0.001,0.001?overview=false&radiuses=0;unlimited|Ok
+corner|/route/v1/car/0,0;0.001,0.001?overview=false&bearings=45,10;|NoSegment
+corner|/route/v1/car/0,0;0.001,0.001?overview=false&bearings=350,10;|Ok
+corner|/route/v1/car/0,0;0.001,0.001?overview=false&bearings=351,10;100,10|Ok
+corner|/route/v1/car/0,0;0.001,0.001?overview=false&bearings=349,10;|NoSegment
+corner|/route/v1/car/0,0;0.001,0.001?overview=false&bearings=180,0;270,0|Ok
+corner|/route/v1/car/0,0;0.001,0.001?overview=false&radiuses=0;&bearings=180,0;|Ok
+corner|/route/v1/car/0.0001,0;0.001,0.001?overview=false&radiuses=11.1;&bearings=180,0;|Ok";
+
+// Asserts that the answer to a case has its code, and the text that tells of the first coordinate where that has no place.
+fn assert_code(
+    rt: &(impl Threads + Abort + Sync),
+    alloc: Global,
+    case: Case<'_>,
+) -> Result<(), ReplyFault> {
+    let answer = ask(rt, alloc, case.town, Asked::Target(case.target))?;
+    let code = format!(in alloc; "{:?}", answer.code)?;
+    assert_eq!(rt; code.as_str(), case.told, "{}", case.target);
+    if answer.code == Code::NoSegment {
+        assert_eq!(rt;
+            answer.text.as_str(),
+            "{\"code\":\"NoSegment\",\"data_version\":\"7\",\"message\":\"coordinate 0\"}"
+        );
     }
     Ok(())
 }
 
 #[test]
 fn a_radius_and_a_bearing_choose_segments(rt: HostRuntime) -> Result<(), ReplyFault> {
-    let near = "/route/v1/car/0.0001,0;0.001,0.001?overview=false";
-    let first = "/route/v1/car/0,0;0.001,0.001?overview=false";
-    for (target, options, code) in [
-        (near, "&radiuses=0;unlimited", Code::NoSegment),
-        (near, "&radiuses=11.0;unlimited", Code::NoSegment),
-        (near, "&radiuses=11.1;unlimited", Code::Ok),
-        (first, "&radiuses=0;unlimited", Code::Ok),
-        (first, "&bearings=45,10;", Code::NoSegment),
-        (first, "&bearings=350,10;", Code::Ok),
-        (first, "&bearings=351,10;100,10", Code::Ok),
-        (first, "&bearings=349,10;", Code::NoSegment),
-        (first, "&bearings=180,0;270,0", Code::Ok),
-        (first, "&radiuses=0;&bearings=180,0;", Code::Ok),
-        (near, "&radiuses=11.1;&bearings=180,0;", Code::Ok),
-    ] {
-        let mut asked = String::from_str(rt.alloc(), target)?;
-        asked.push_str(options)?;
-        let answer = ask(&rt, rt.alloc(), CORNER, Asked::Target(asked.as_str()))?;
-        assert_eq!(rt; answer.code, code, "{options}");
-        if code == Code::NoSegment {
-            assert_eq!(rt;
-                answer.text.as_str(),
-                "{\"code\":\"NoSegment\",\"data_version\":\"7\",\"message\":\"coordinate 0\"}"
-            );
-        }
+    for row in FILTERS.split('\n') {
+        assert_code(&rt, rt.alloc(), case_of(&rt, row))?;
     }
     Ok(())
 }
@@ -198,179 +198,118 @@ fn a_request_ahead_of_the_metric_is_told_so(rt: HostRuntime) -> Result<(), Reply
     Ok(())
 }
 
+// A target of so many coordinates.
+fn target_of(alloc: Global, count: usize) -> Result<String, AllocError> {
+    let mut target = String::from_str(alloc, "/route/v1/car/0,0")?;
+    for _ in 1..count {
+        target.push_str(";0,0")?;
+    }
+    target.push_str("?overview=false")?;
+    Ok(target)
+}
+
 #[test]
 fn a_route_has_500_coordinates_at_most(rt: HostRuntime) -> Result<(), ReplyFault> {
     for (count, code) in [(500, Code::Ok), (501, Code::TooBig)] {
-        let mut many = String::from_str(rt.alloc(), "/route/v1/car/0,0")?;
-        for _ in 1..count {
-            many.push_str(";0,0")?;
-        }
-        many.push_str("?overview=false")?;
-        let answer = ask(&rt, rt.alloc(), CORNER, Asked::Target(many.as_str()))?;
+        let target = target_of(rt.alloc(), count)?;
+        let answer = ask(&rt, rt.alloc(), CORNER, Asked::Target(target.as_str()))?;
         assert_eq!(rt; answer.code, code);
     }
     Ok(())
 }
 
+// The whole text of each answer.
+const REFUSED: &str =
+    "lane|/route/v1/car/0,0;0,0/?overview=false|{\"code\":\"InvalidUrl\",\"message\":\"path\"}
+lane|/trip/v1/car/0,0;0,0?overview=false|{\"code\":\"InvalidService\",\"message\":\"service trip\"}
+lane|/route/v2/car/0,0;0,0?foo=1|{\"code\":\"InvalidVersion\",\"message\":\"version v2\"}
+lane|/route/v1/car/0,0;0,0?steps=on|{\"code\":\"InvalidOptions\",\"message\":\"option steps\"}
+lane|/route/v1/car/polyline(??g)|{\"code\":\"InvalidQuery\",\"message\":\"polyline byte 3\"}
+lane|/route/v1/car/0,0;0,0?a\"b=1|{\"code\":\"InvalidOptions\",\"message\":\"option a\\\"b\"}
+lane|/route/v1/car/0,0;x,0?overview=false|{\"code\":\"InvalidQuery\",\"message\":\"coordinate 1\"}
+lane|/route/v1/car/200,0;0,0?overview=false|{\"code\":\"InvalidValue\",\"message\":\"coordinate 0\"}";
+
 #[test]
 fn a_refused_target_gets_its_code_and_message(rt: HostRuntime) -> Result<(), ReplyFault> {
-    let mut many = String::from_str(rt.alloc(), "/route/v1/car/0,0")?;
-    for _ in 0..500 {
-        many.push_str(";0,0")?;
+    for row in REFUSED.split('\n') {
+        assert_refused(&rt, rt.alloc(), case_of(&rt, row))?;
     }
-    many.push_str("?overview=false")?;
-    for (target, text) in [
-        (
-            "/route/v1/car/0,0;0,0/?overview=false",
-            "{\"code\":\"InvalidUrl\",\"message\":\"path\"}",
-        ),
-        (
-            "/trip/v1/car/0,0;0,0?overview=false",
-            "{\"code\":\"InvalidService\",\"message\":\"service trip\"}",
-        ),
-        (
-            "/route/v2/car/0,0;0,0?foo=1",
-            "{\"code\":\"InvalidVersion\",\"message\":\"version v2\"}",
-        ),
-        (
-            "/route/v1/car/0,0;0,0?steps=on",
-            "{\"code\":\"InvalidOptions\",\"message\":\"option steps\"}",
-        ),
-        (
-            "/route/v1/car/polyline(??g)",
-            "{\"code\":\"InvalidQuery\",\"message\":\"polyline byte 3\"}",
-        ),
-        (
-            "/route/v1/car/0,0;0,0?a\"b=1",
-            "{\"code\":\"InvalidOptions\",\"message\":\"option a\\\"b\"}",
-        ),
-        (
-            "/route/v1/car/0,0;x,0?overview=false",
-            "{\"code\":\"InvalidQuery\",\"message\":\"coordinate 1\"}",
-        ),
-        (
-            "/route/v1/car/200,0;0,0?overview=false",
-            "{\"code\":\"InvalidValue\",\"message\":\"coordinate 0\"}",
-        ),
-        (
-            many.as_str(),
-            "{\"code\":\"TooBig\",\"message\":\"501 coordinates, at most 500\"}",
-        ),
-    ] {
-        let answer = ask(&rt, rt.alloc(), LANE, Asked::Target(target))?;
-        assert_eq!(rt; answer.status, 400);
-        assert_eq!(rt; answer.text.as_str(), text);
-    }
+    let many = target_of(rt.alloc(), 501)?;
+    let refused = Case {
+        town: LANE,
+        target: many.as_str(),
+        told: "{\"code\":\"TooBig\",\"message\":\"501 coordinates, at most 500\"}",
+    };
+    assert_refused(&rt, rt.alloc(), refused)
+}
+
+// Lines, each with the code of its answer.
+const LINES: &[u8] = b"GET /route/v1/car/0,0;0.001,0?overview=false|Ok
+GET  /route/v1/car/0,0;0.001,0?overview=false|InvalidUrl
+get /route/v1/car/0,0;0.001,0?overview=false|BadRequest
+GET|BadRequest
+GET \xff|BadRequest";
+
+// Asserts that the answer to a line over a lane has the code of this name.
+fn assert_line(
+    rt: &(impl Threads + Abort + Sync),
+    alloc: Global,
+    line: &[u8],
+    want: &[u8],
+) -> Result<(), ReplyFault> {
+    let answer = ask(rt, alloc, LANE, Asked::Line(line))?;
+    let code = format!(in alloc; "{:?}", answer.code)?;
+    assert_eq!(rt; code.as_bytes(), want);
     Ok(())
 }
 
 #[test]
 fn a_line_is_get_one_blank_and_a_target(rt: HostRuntime) -> Result<(), ReplyFault> {
+    for row in LINES.split(|byte| *byte == b'\n') {
+        let mut parts = row.split(|byte| *byte == b'|');
+        match (parts.next(), parts.next()) {
+            (Some(line), Some(code)) => assert_line(&rt, rt.alloc(), line, code)?,
+            _ => panic!(rt; "a row of two"),
+        }
+    }
     let mut long = String::from_str(rt.alloc(), "GET ")?;
     for _ in 0..8188 {
         long.push_str("/")?;
     }
-    let mut too_long = String::from_str(rt.alloc(), long.as_str())?;
-    too_long.push_str("/")?;
-    for (line, code) in [
-        (
-            b"GET /route/v1/car/0,0;0.001,0?overview=false".as_slice(),
-            Code::Ok,
-        ),
-        (
-            b"GET  /route/v1/car/0,0;0.001,0?overview=false",
-            Code::InvalidUrl,
-        ),
-        (
-            b"get /route/v1/car/0,0;0.001,0?overview=false",
-            Code::BadRequest,
-        ),
-        (b"GET", Code::BadRequest),
-        (b"GET \xff", Code::BadRequest),
-        (long.as_bytes(), Code::InvalidUrl),
-        (too_long.as_bytes(), Code::BadRequest),
-    ] {
-        let answer = ask(&rt, rt.alloc(), LANE, Asked::Line(line))?;
-        assert_eq!(rt; answer.code, code);
-    }
+    assert_line(&rt, rt.alloc(), long.as_bytes(), b"InvalidUrl")?;
+    long.push_str("/")?;
+    assert_line(&rt, rt.alloc(), long.as_bytes(), b"BadRequest")?;
     let answer = ask(&rt, rt.alloc(), LANE, Asked::Line(b"TRAFFIC - -"))?;
     assert_eq!(rt; answer.status, 400);
     assert_eq!(rt; answer.text.as_str(), "{\"code\":\"BadRequest\"}");
     Ok(())
 }
 
-// The whole text of each, or what it ends in.
+// The whole text of each answer, or what it ends in.
+const SERVICES: &str =
+    "corner|/route/v1/car/0.0005,0.001;0.0005,0.001?skip_waypoints=true|\"geometry\":\"gEcB??\",\"legs\":[{\"distance\":0.0,\"duration\":0.0,\"weight\":0.0,\"summary\":\"\",\"steps\":[]}]}]}
+corner|/route/v1/car/0,0;0.001,0.001?overview=full&annotations=true&skip_waypoints=true|\"geometry\":\"??gE??gE\",\"legs\":[{\"distance\":222.2,\"duration\":19.8,\"weight\":19.8,\"summary\":\"\",\"steps\":[],\"annotation\":{\"distance\":[111.1,111.1],\"duration\":[9.9,9.9],\"weight\":[9.9,9.9],\"nodes\":[1,2,3],\"speed\":[11.2,11.2]}}]}]}
+corner|/route/v1/car/0,0;0.001,0.001?overview=full&geometries=geojson&skip_waypoints=true|\"geometry\":{\"coordinates\":[[0.000000,0.000000],[0.000000,0.001000],[0.001000,0.001000]],\"type\":\"LineString\"},\"legs\":[{\"distance\":222.2,\"duration\":19.8,\"weight\":19.8,\"summary\":\"\",\"steps\":[]}]}]}
+corner|/route/v1/car/0,0;0.001,0.001?geometries=polyline6&skip_waypoints=true|\"geometry\":\"??o}@??o}@\",\"legs\":[{\"distance\":222.2,\"duration\":19.8,\"weight\":19.8,\"summary\":\"\",\"steps\":[]}]}]}
+square|/route/v1/car/0,0;0.001,0.001?overview=false&skip_waypoints=true|\"routes\":[{\"distance\":222.2,\"duration\":19.8,\"weight\":19.8,\"weight_name\":\"duration\",\"legs\":[{\"distance\":222.2,\"duration\":19.8,\"weight\":19.8,\"summary\":\"\",\"steps\":[]}]}]}
+square|/table/v1/car/0,0;0.001,0.001?skip_waypoints=true|{\"code\":\"Ok\",\"data_version\":\"7\",\"durations\":[[0.0,19.8],[19.8,0.0]]}
+lane|/table/v1/car/0.00075,0;0.00025,0?annotations=duration,distance&skip_waypoints=true|{\"code\":\"Ok\",\"data_version\":\"7\",\"durations\":[[0.0,null],[5.0,0.0]],\"distances\":[[0.0,null],[55.6,0.0]]}
+lane|/table/v1/car/0.00075,0;0.00025,0?sources=1&destinations=0;1;0|\"durations\":[[5.0,0.0,5.0]],\"sources\":[{\"distance\":0.0,\"name\":\"\",\"location\":[0.000250,0.000000]}],\"destinations\":[{\"distance\":0.0,\"name\":\"\",\"location\":[0.000750,0.000000]},{\"distance\":0.0,\"name\":\"\",\"location\":[0.000250,0.000000]},{\"distance\":0.0,\"name\":\"\",\"location\":[0.000750,0.000000]}]}
+corner|/nearest/v1/car/0,0.001?number=2|{\"code\":\"Ok\",\"data_version\":\"7\",\"waypoints\":[{\"nodes\":[1,2],\"distance\":0.0,\"name\":\"\",\"location\":[0.000000,0.001000]},{\"nodes\":[2,3],\"distance\":0.0,\"name\":\"\",\"location\":[0.000000,0.001000]}]}
+corner|/nearest/v1/car/0,0?number=5&skip_waypoints=true|\"waypoints\":[{\"nodes\":[1,2],\"distance\":0.0,\"name\":\"\",\"location\":[0.000000,0.000000]},{\"nodes\":[2,3],\"distance\":111.1,\"name\":\"\",\"location\":[0.000000,0.001000]}]}
+desert|/nearest/v1/car/0,0|{\"code\":\"NoSegment\",\"data_version\":\"7\",\"message\":\"coordinate 0\"}
+desert|/table/v1/car/0,0?since=8|{\"code\":\"AheadOfData\",\"data_version\":\"7\",\"message\":\"since 8\"}";
+
 #[test]
 fn each_service_is_answered(rt: HostRuntime) -> Result<(), ReplyFault> {
-    for (town, target, end) in [
-        (
-            CORNER,
-            "/route/v1/car/polyline(??gEgE).json?overview=false",
-            FIRST_ROUTE,
-        ),
-        (
-            CORNER,
-            "/route/v1/car/0.0005,0.001;0.0005,0.001?skip_waypoints=true",
-            "\"geometry\":\"gEcB??\",\"legs\":[{\"distance\":0.0,\"duration\":0.0,\"weight\":0.0,\"summary\":\"\",\"steps\":[]}]}]}",
-        ),
-        (
-            CORNER,
-            "/route/v1/car/0,0;0.001,0.001?overview=full&annotations=true&skip_waypoints=true",
-            "\"geometry\":\"??gE??gE\",\"legs\":[{\"distance\":222.2,\"duration\":19.8,\"weight\":19.8,\"summary\":\"\",\"steps\":[],\"annotation\":{\"distance\":[111.1,111.1],\"duration\":[9.9,9.9],\"weight\":[9.9,9.9],\"nodes\":[1,2,3],\"speed\":[11.2,11.2]}}]}]}",
-        ),
-        (
-            CORNER,
-            "/route/v1/car/0,0;0.001,0.001?overview=full&geometries=geojson&skip_waypoints=true",
-            "\"geometry\":{\"coordinates\":[[0.000000,0.000000],[0.000000,0.001000],[0.001000,0.001000]],\"type\":\"LineString\"},\"legs\":[{\"distance\":222.2,\"duration\":19.8,\"weight\":19.8,\"summary\":\"\",\"steps\":[]}]}]}",
-        ),
-        (
-            CORNER,
-            "/route/v1/car/0,0;0.001,0.001?geometries=polyline6&skip_waypoints=true",
-            "\"geometry\":\"??o}@??o}@\",\"legs\":[{\"distance\":222.2,\"duration\":19.8,\"weight\":19.8,\"summary\":\"\",\"steps\":[]}]}]}",
-        ),
-        (
-            SQUARE,
-            "/route/v1/car/0,0;0.001,0.001?overview=false&skip_waypoints=true",
-            "\"routes\":[{\"distance\":222.2,\"duration\":19.8,\"weight\":19.8,\"weight_name\":\"duration\",\"legs\":[{\"distance\":222.2,\"duration\":19.8,\"weight\":19.8,\"summary\":\"\",\"steps\":[]}]}]}",
-        ),
-        (
-            SQUARE,
-            "/table/v1/car/0,0;0.001,0.001?skip_waypoints=true",
-            "{\"code\":\"Ok\",\"data_version\":\"7\",\"durations\":[[0.0,19.8],[19.8,0.0]]}",
-        ),
-        (
-            LANE,
-            "/table/v1/car/0.00075,0;0.00025,0?annotations=duration,distance&skip_waypoints=true",
-            "{\"code\":\"Ok\",\"data_version\":\"7\",\"durations\":[[0.0,null],[5.0,0.0]],\"distances\":[[0.0,null],[55.6,0.0]]}",
-        ),
-        (
-            LANE,
-            "/table/v1/car/0.00075,0;0.00025,0?sources=1&destinations=0;1;0",
-            "\"durations\":[[5.0,0.0,5.0]],\"sources\":[{\"distance\":0.0,\"name\":\"\",\"location\":[0.000250,0.000000]}],\"destinations\":[{\"distance\":0.0,\"name\":\"\",\"location\":[0.000750,0.000000]},{\"distance\":0.0,\"name\":\"\",\"location\":[0.000250,0.000000]},{\"distance\":0.0,\"name\":\"\",\"location\":[0.000750,0.000000]}]}",
-        ),
-        (
-            CORNER,
-            "/nearest/v1/car/0,0.001?number=2",
-            "{\"code\":\"Ok\",\"data_version\":\"7\",\"waypoints\":[{\"nodes\":[1,2],\"distance\":0.0,\"name\":\"\",\"location\":[0.000000,0.001000]},{\"nodes\":[2,3],\"distance\":0.0,\"name\":\"\",\"location\":[0.000000,0.001000]}]}",
-        ),
-        (
-            CORNER,
-            "/nearest/v1/car/0,0?number=5&skip_waypoints=true",
-            "\"waypoints\":[{\"nodes\":[1,2],\"distance\":0.0,\"name\":\"\",\"location\":[0.000000,0.000000]},{\"nodes\":[2,3],\"distance\":111.1,\"name\":\"\",\"location\":[0.000000,0.001000]}]}",
-        ),
-        (
-            DESERT,
-            "/nearest/v1/car/0,0",
-            "{\"code\":\"NoSegment\",\"data_version\":\"7\",\"message\":\"coordinate 0\"}",
-        ),
-        (
-            DESERT,
-            "/table/v1/car/0,0?since=8",
-            "{\"code\":\"AheadOfData\",\"data_version\":\"7\",\"message\":\"since 8\"}",
-        ),
-    ] {
-        let answer = ask(&rt, rt.alloc(), town, Asked::Target(target))?;
-        assert!(rt; answer.text.as_str().ends_with(end), "{target}");
+    let first = Case {
+        town: CORNER,
+        target: "/route/v1/car/polyline(??gEgE).json?overview=false",
+        told: FIRST_ROUTE,
+    };
+    assert_ends(&rt, rt.alloc(), first)?;
+    for row in SERVICES.split('\n') {
+        assert_ends(&rt, rt.alloc(), case_of(&rt, row))?;
     }
     Ok(())
 }
@@ -395,20 +334,37 @@ fn steps_of(alloc: Global, line: &[u8]) -> Result<Vec<i64>, AllocError> {
     Ok(steps)
 }
 
+// Forms of lines, each with the line in it and the steps of that.
+const ENCODED: &str = "polyline6|??o}@??o}@|[0, 0, 1000, 0, 0, 1000]
+polyline|??gE??gE|[0, 0, 100, 0, 0, 100]";
+
+// Asserts that the line of a route has this form.
+fn assert_encoded(
+    rt: &(impl Threads + Abort + Sync),
+    alloc: Global,
+    form: &str,
+    line: &str,
+    want: &str,
+) -> Result<(), ReplyFault> {
+    let target = format!(in alloc; "/route/v1/car/0,0;0.001,0.001?geometries={form}")?;
+    let answer = ask(rt, alloc, CORNER, Asked::Target(target.as_str()))?;
+    assert!(rt; answer.text.as_str().contains(line));
+    let steps = steps_of(alloc, line.as_bytes())?;
+    let told = format!(in alloc; "{:?}", steps.as_slice())?;
+    assert_eq!(rt; told.as_str(), want);
+    Ok(())
+}
+
 #[test]
 fn an_encoded_line_is_read_by_another_decoder(rt: HostRuntime) -> Result<(), ReplyFault> {
-    for (form, line, steps) in [
-        ("polyline6", "??o}@??o}@", [0, 0, 1000, 0, 0, 1000]),
-        ("polyline", "??gE??gE", [0, 0, 100, 0, 0, 100]),
-    ] {
-        let mut target = String::from_str(rt.alloc(), "/route/v1/car/0,0;0.001,0.001?geometries=")?;
-        target.push_str(form)?;
-        let answer = ask(&rt, rt.alloc(), CORNER, Asked::Target(target.as_str()))?;
-        assert!(rt; answer.text.as_str().contains(line));
-        assert_eq!(rt;
-            steps_of(rt.alloc(), line.as_bytes())?.as_slice(),
-            steps.as_slice()
-        );
+    for row in ENCODED.split('\n') {
+        let mut parts = row.split('|');
+        match (parts.next(), parts.next(), parts.next()) {
+            (Some(form), Some(line), Some(steps)) => {
+                assert_encoded(&rt, rt.alloc(), form, line, steps)?;
+            }
+            _ => panic!(rt; "a row of three"),
+        }
     }
     Ok(())
 }

@@ -1,4 +1,4 @@
-//! Small towns, and what is answered over them.
+//! Small towns, as OPL texts, and what is answered over them.
 
 ghost use Rattle.std.specs.Prelude.{◌≤◌, All};
 ghost use Rattle.std.specs.List.Sorted.{IsStrictlyIncreasing};
@@ -7,165 +7,112 @@ use customized::{Metric, Roads, SERVER_LIMITS};
 use edge_graph::Network;
 use metric_make::base;
 use metric_publish::local_board::LocalBoard;
+use opl_read::read;
 use reply_core::{Answer, ReplyFault, answer, line_answer};
-use road_base::{Ids, Node, Object, Point, Tags, Way};
 use snap_index::Grid;
 use std::alloc::Global;
+use std::process::Abort;
 use std::sync::Arc;
 use std::thread::Threads;
 use way_profile::Profile;
 
-const SETTINGS: &[u8] =
-    b"name = \"car\"\nvehicle = \"motorcar\"\nu_turn_penalty = 200\n[speeds]\nresidential = 40\n";
+const SETTINGS: &str =
+    "name = \"car\"\nvehicle = \"motorcar\"\nu_turn_penalty = 200\n[speeds]\nresidential = 40\n";
 
-const LEFT_SETTINGS: &[u8] =
-    b"name = \"car\"\nvehicle = \"motorcar\"\nu_turn_penalty = 200\ndriving_side = \"left\"\n[speeds]\nresidential = 40\n";
+const LEFT_SETTINGS: &str =
+    "name = \"car\"\nvehicle = \"motorcar\"\nu_turn_penalty = 200\ndriving_side = \"left\"\n[speeds]\nresidential = 40\n";
 
 /// Two streets that meet at a right angle.
 pub(crate) const CORNER: Town = Town {
-    nodes: &[(0, 0), (0, 1), (1, 1)],
-    streets: &[Street {
-        name: "",
-        nodes: &[1, 2, 3],
-        oneway: "no",
-    }],
+    map: "n1 x0 y0
+n2 x0 y0.001
+n3 x0.001 y0.001
+w10 Thighway=residential,oneway=no Nn1,n2,n3",
     settings: SETTINGS,
 };
 
 /// A block that is driven round one way.
 pub(crate) const BLOCK: Town = Town {
-    nodes: &[(0, 0), (1, 0), (1, 1), (0, 1)],
-    streets: &[Street {
-        name: "",
-        nodes: &[1, 2, 3, 4, 1],
-        oneway: "yes",
-    }],
+    map: "n1 x0 y0
+n2 x0.001 y0
+n3 x0.001 y0.001
+n4 x0 y0.001
+w10 Thighway=residential,oneway=yes Nn1,n2,n3,n4,n1",
     settings: SETTINGS,
 };
 
 /// The same block, driven both ways.
-pub(crate) const SQUARE: Town = Town {
-    nodes: &[(0, 0), (1, 0), (1, 1), (0, 1)],
-    streets: &[Street {
-        name: "",
-        nodes: &[1, 2, 3, 4, 1],
-        oneway: "no",
-    }],
+const SQUARE: Town = Town {
+    map: "n1 x0 y0
+n2 x0.001 y0
+n3 x0.001 y0.001
+n4 x0 y0.001
+w10 Thighway=residential,oneway=no Nn1,n2,n3,n4,n1",
     settings: SETTINGS,
 };
 
 /// A lane that is driven one way.
 pub(crate) const LANE: Town = Town {
-    nodes: &[(0, 0), (1, 0)],
-    streets: &[Street {
-        name: "",
-        nodes: &[1, 2],
-        oneway: "yes",
-    }],
+    map: "n1 x0 y0
+n2 x0.001 y0
+w10 Thighway=residential,oneway=yes Nn1,n2",
     settings: SETTINGS,
 };
 
 /// No streets.
 pub(crate) const DESERT: Town = Town {
-    nodes: &[],
-    streets: &[],
+    map: "",
     settings: SETTINGS,
 };
 
 /// Four streets that meet at a crossing, two of which have a name.
 pub(crate) const CROSSING: Town = Town {
-    nodes: &[(1, 0), (2, 1), (1, 2), (0, 1), (1, 1)],
-    streets: CROSSING_STREETS,
+    map: CROSSING_MAP,
     settings: SETTINGS,
 };
 
 /// The same crossing, where vehicles drive on the left side.
-pub(crate) const LEFT_CROSSING: Town = Town {
-    nodes: &[(1, 0), (2, 1), (1, 2), (0, 1), (1, 1)],
-    streets: CROSSING_STREETS,
+const LEFT_CROSSING: Town = Town {
+    map: CROSSING_MAP,
     settings: LEFT_SETTINGS,
 };
 
-const CROSSING_STREETS: &[Street] = &[
-    Street {
-        name: "South",
-        nodes: &[1, 5],
-        oneway: "no",
-    },
-    Street {
-        name: "",
-        nodes: &[5, 2],
-        oneway: "no",
-    },
-    Street {
-        name: "",
-        nodes: &[5, 3],
-        oneway: "no",
-    },
-    Street {
-        name: "West",
-        nodes: &[4, 5],
-        oneway: "no",
-    },
-];
+const CROSSING_MAP: &str = "n1 x0.001 y0
+n2 x0.002 y0.001
+n3 x0.001 y0.002
+n4 x0 y0.001
+n5 x0.001 y0.001
+w10 Thighway=residential,oneway=no,name=South Nn1,n5
+w11 Thighway=residential,oneway=no Nn5,n2
+w12 Thighway=residential,oneway=no Nn5,n3
+w13 Thighway=residential,oneway=no,name=West Nn4,n5";
 
-/// Nodes at these thousandths of a degree, numbered from 1, residential ways through some of them, numbered from 10,
-/// and the settings of the vehicle.
+/// A map, and the settings of the vehicle.
 #[derive(Clone, Copy)]
 pub(crate) struct Town {
-    nodes: &'static [(i32, i32)],
-    streets: &'static [Street],
-    settings: &'static [u8],
+    map: &'static str,
+    settings: &'static str,
 }
 
-/// A way, with no name where that is empty.
-#[derive(Clone, Copy)]
-struct Street {
-    name: &'static str,
-    nodes: &'static [i64],
-    oneway: &'static str,
-}
-
-fn node(alloc: Global, id: i64, x: i32, y: i32) -> Object {
-    Object::Node(Node {
-        id,
-        point: Point::of(i64::from(x) * 1000, i64::from(y) * 1000),
-        tags: Tags::new(alloc),
-    })
-}
-
-fn way(alloc: Global, id: i64, street: Street) -> Result<Object, ReplyFault> {
-    let mut tags = Tags::new(alloc)
-        .with("highway", "residential")?
-        .with("oneway", street.oneway)?;
-    if !street.name.is_empty() {
-        tags = tags.with("name", street.name)?;
+/// The town of this name.
+pub(crate) fn town_named(rt: &impl Abort, name: &str) -> Town {
+    match name {
+        "corner" => CORNER,
+        "block" => BLOCK,
+        "square" => SQUARE,
+        "lane" => LANE,
+        "desert" => DESERT,
+        "crossing" => CROSSING,
+        "left crossing" => LEFT_CROSSING,
+        _ => panic!(rt; "a town"),
     }
-    Ok(Object::Way(Way {
-        id,
-        tags,
-        nodes: Ids::of(Vec::from_slice(alloc, street.nodes)?),
-    }))
-}
-
-fn objects_of(alloc: Global, town: Town) -> Result<Vec<Object>, ReplyFault> {
-    let mut objects = Vec::new(alloc);
-    let mut id = 0i64;
-    for (x, y) in town.nodes {
-        id = id.saturating_add(1);
-        objects.push(node(alloc, id, *x, *y))?;
-    }
-    let mut id = 9i64;
-    for street in town.streets {
-        id = id.saturating_add(1);
-        objects.push(way(alloc, id, *street)?)?;
-    }
-    Ok(objects)
 }
 
 fn network_of(alloc: Global, town: Town) -> Result<Network, ReplyFault> {
-    let objects = objects_of(alloc, town)?;
-    let Ok(profile) = Profile::read(alloc, town.settings) else {
+    let Ok(objects) = read(alloc, town.map.as_bytes()) else {
+        return Err(ReplyFault::Memory);
+    };
+    let Ok(profile) = Profile::read(alloc, town.settings.as_bytes()) else {
         return Err(ReplyFault::Memory);
     };
     match Network::build(alloc, &objects, &profile) {
