@@ -7,8 +7,6 @@ mod answers;
 #[cfg(test)]
 mod cases;
 #[cfg(test)]
-mod refusals;
-#[cfg(test)]
 mod steps;
 #[cfg(test)]
 mod towns;
