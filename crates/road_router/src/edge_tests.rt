@@ -32,13 +32,26 @@ impl Env for Typed<'_> {
     }
 }
 
+// Words, the first of which is the program's, with a bar between each two of them.
+const TYPED: &str = "road_router|ask|a map||-|more";
+
 #[test]
 fn words_come_whole(rt: HostRuntime) -> Result<(), AllocError> {
-    let typed = ["road_router", "ask", "a map", "", "-", "more"];
-    let words = typed_words_of(&(Typed { words: &typed }, rt.alloc()))?;
+    let mut typed: Vec<&str> = Vec::new(rt.alloc());
+    for word in TYPED.split('|') {
+        typed.push(word)?;
+    }
+    let words = typed_words_of(&(
+        Typed {
+            words: typed.as_slice(),
+        },
+        rt.alloc(),
+    ))?;
     assert_eq!(rt; words.len(), 5);
-    for (word, expected) in words.iter().zip(&typed[1..]) {
-        assert_eq!(rt; word.as_str(), *expected);
+    let mut expected = TYPED.split('|');
+    assert!(rt; expected.next().is_some());
+    for word in words.iter() {
+        assert_eq!(rt; Some(word.as_str()), expected.next());
     }
     Ok(())
 }

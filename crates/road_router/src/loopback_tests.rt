@@ -85,18 +85,10 @@ fn serve_at<R: Threads + Wait + Net<Listener = TcpListener, Stream = TcpStream> 
     let mut files = MemFiles::of(alloc, list, Vec::new(alloc));
     let mut input = MemSource::of(Vec::new(alloc), Vec::new(alloc), Vec::new(alloc));
     let mut output = MemSink::of(alloc, 100, Vec::new(alloc))?;
-    let asked = words(
-        alloc,
-        &[
-            "serve",
-            "town.opl",
-            "settings.toml",
-            "--listen",
-            queries,
-            "--control",
-            control,
-        ],
+    let text = format!(in alloc;
+        "serve town.opl settings.toml --listen {queries} --control {control}"
     )?;
+    let asked = words(alloc, text.as_str())?;
     let mut doors = TcpDoors::of(rt);
     let status = run(
         rt,

@@ -59,19 +59,7 @@ fn serve(
     let mut output = MemSink::of(alloc, 100, Vec::new(alloc))?;
     let asked = words(
         alloc,
-        &[
-            "serve",
-            "town.opl",
-            "settings.toml",
-            "--listen",
-            "a:1",
-            "--control",
-            "a:2",
-            "--workers",
-            "1",
-            "--segment-speed-file",
-            "speeds.csv",
-        ],
+        "serve town.opl settings.toml --listen a:1 --control a:2 --workers 1 --segment-speed-file speeds.csv",
     )?;
     let status = run(
         rt,
