@@ -94,7 +94,7 @@ fn assert_code(
 ) -> Result<(), ReplyFault> {
     let answer = ask(rt, alloc, case.town, Asked::Target(case.target))?;
     let code = format!(in alloc; "{:?}", answer.code)?;
-    assert_eq!(rt; code.as_str(), case.told, "{}", case.target);
+    assert!(rt; code.as_str() == case.told, "{}", case.target);
     if answer.code == Code::NoSegment {
         assert_eq!(rt;
             answer.text.as_str(),
