@@ -86,6 +86,14 @@ corner|/route/v1/car/0,0;0.001,0.001?overview=false&bearings=180,0;270,0|Ok
 corner|/route/v1/car/0,0;0.001,0.001?overview=false&radiuses=0;&bearings=180,0;|Ok
 corner|/route/v1/car/0.0001,0;0.001,0.001?overview=false&radiuses=11.1;&bearings=180,0;|Ok";
 
+// Asserts that a text tells that the first coordinate has no place.
+fn assert_no_first(rt: &impl Abort, text: &str) {
+    assert_eq!(rt;
+        text,
+        "{\"code\":\"NoSegment\",\"data_version\":\"7\",\"message\":\"coordinate 0\"}"
+    );
+}
+
 // Asserts that the answer to a case has its code, and the text that tells of the first coordinate where that has no place.
 fn assert_code(
     rt: &(impl Threads + Abort + Sync),
@@ -96,10 +104,7 @@ fn assert_code(
     let code = format!(in alloc; "{:?}", answer.code)?;
     assert!(rt; code.as_str() == case.told, "{}", case.target);
     if answer.code == Code::NoSegment {
-        assert_eq!(rt;
-            answer.text.as_str(),
-            "{\"code\":\"NoSegment\",\"data_version\":\"7\",\"message\":\"coordinate 0\"}"
-        );
+        assert_no_first(rt, answer.text.as_str());
     }
     Ok(())
 }
