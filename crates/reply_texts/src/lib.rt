@@ -36,6 +36,3 @@ pub use route_texts::route_text;
 pub use table_texts::table_text;
 pub use totals::Totals;
 pub use waypoints::Stops;
-
-#[cfg(test)]
-mod tests;

@@ -9,4 +9,6 @@ mod cases;
 #[cfg(test)]
 mod steps;
 #[cfg(test)]
+mod texts;
+#[cfg(test)]
 mod towns;
