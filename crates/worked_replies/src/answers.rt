@@ -1,8 +1,8 @@
 //! Whole answers over small towns.
 
 use crate::cases::{Case, assert_ends, assert_refused, case_of};
-use crate::towns::{Asked, BLOCK, CORNER, DESERT, LANE, ask, ask_at, ask_over};
-use reply_core::ReplyFault;
+use crate::towns::{Asked, BLOCK, CORNER, DESERT, LANE, Town, ask, ask_at, ask_over};
+use reply_core::{Answer, ReplyFault};
 use reply_texts::Code;
 use std::alloc::{AllocError, Global};
 use std::process::Abort;
@@ -117,43 +117,41 @@ fn a_radius_and_a_bearing_choose_segments(rt: HostRuntime) -> Result<(), ReplyFa
     Ok(())
 }
 
+// The segments of an answer's places, each with a blank behind it.
+fn segments_told(alloc: Global, answer: &Answer) -> Result<String, AllocError> {
+    let mut text = String::new(alloc);
+    for place in answer.places.as_slice() {
+        text.push_str(format!(in alloc; "{} ", place.segment)?.as_str())?;
+    }
+    Ok(text)
+}
+
+// Asserts that a route to the corner with these options has its places on these segments.
+fn assert_segments(
+    rt: &(impl Threads + Abort + Sync),
+    alloc: Global,
+    options: &str,
+    segments: &str,
+) -> Result<(), ReplyFault> {
+    let target = format!(in alloc; "/route/v1/car/0,0;0,0.001?overview=false&{options}")?;
+    let answer = ask(rt, alloc, CORNER, Asked::Target(target.as_str()))?;
+    assert_eq!(rt; segments_told(alloc, &answer)?.as_str(), segments);
+    let corner = "\"distance\":0.0,\"name\":\"\",\"location\":[0.000000,0.001000]}]";
+    assert!(rt; answer.text.as_str().contains(corner));
+    Ok(())
+}
+
+// The corner lies on both streets, and the second one alone leads east.
 #[test]
 fn each_coordinate_has_a_filter_of_its_own(rt: HostRuntime) -> Result<(), ReplyFault> {
-    // the corner lies on both streets, and the second one alone leads east
-    for (options, segment, text) in [
-        (
-            "bearings=;90,0",
-            1,
-            "\"distance\":0.0,\"name\":\"\",\"location\":[0.000000,0.001000]}]",
-        ),
-        (
-            "bearings=;0,0",
-            0,
-            "\"distance\":0.0,\"name\":\"\",\"location\":[0.000000,0.001000]}]",
-        ),
-    ] {
-        let mut asked = String::from_str(rt.alloc(), "/route/v1/car/0,0;0,0.001?overview=false&")?;
-        asked.push_str(options)?;
-        let answer = ask(&rt, rt.alloc(), CORNER, Asked::Target(asked.as_str()))?;
-        assert_eq!(rt; answer.places.as_slice().len(), 2);
-        let mut last = 9;
-        for place in answer.places.as_slice() {
-            last = place.segment;
-        }
-        assert_eq!(rt; last, segment);
-        assert!(rt; answer.text.as_str().contains(text));
-    }
-    let answer = ask(
-        &rt,
-        rt.alloc(),
-        CORNER,
-        Asked::Target("/route/v1/car/0,0;0.0001,0?overview=false&radiuses=;0"),
-    )?;
-    assert_eq!(rt;
-        answer.text.as_str(),
-        "{\"code\":\"NoSegment\",\"data_version\":\"7\",\"message\":\"coordinate 1\"}"
-    );
-    Ok(())
+    assert_segments(&rt, rt.alloc(), "bearings=;90,0", "0 1 ")?;
+    assert_segments(&rt, rt.alloc(), "bearings=;0,0", "0 0 ")?;
+    let refused = Case {
+        town: CORNER,
+        target: "/route/v1/car/0,0;0.0001,0?overview=false&radiuses=;0",
+        told: "{\"code\":\"NoSegment\",\"data_version\":\"7\",\"message\":\"coordinate 1\"}",
+    };
+    assert_refused(&rt, rt.alloc(), refused)
 }
 
 #[test]
@@ -186,20 +184,35 @@ fn waypoints_are_skipped_where_it_is_asked_for(rt: HostRuntime) -> Result<(), Re
     Ok(())
 }
 
+// The status and the code of the answer under the metric of a number, and its text where it is refused.
+fn told_at(
+    rt: &(impl Threads + Sync),
+    alloc: Global,
+    town: Town,
+    number: u32,
+) -> Result<String, ReplyFault> {
+    let target = Asked::Target("/route/v1/car/0,0;0.001,0.001?overview=false&since=5");
+    let answer = ask_at(rt, alloc, town, number, target)?;
+    let text = if answer.code == Code::Ok {
+        ""
+    } else {
+        answer.text.as_str()
+    };
+    Ok(format!(in alloc; "{} {:?} {text}", answer.status, answer.code)?)
+}
+
+const AHEAD: &str =
+    "400 AheadOfData {\"code\":\"AheadOfData\",\"data_version\":\"4\",\"message\":\"since 5\"}";
+
 #[test]
 fn a_request_ahead_of_the_metric_is_told_so(rt: HostRuntime) -> Result<(), ReplyFault> {
-    let target = Asked::Target("/route/v1/car/0,0;0.001,0.001?overview=false&since=5");
-    let early = ask_at(&rt, rt.alloc(), CORNER, 4, target)?;
-    assert_eq!(rt; early.status, 400);
-    assert_eq!(rt;
-        early.text.as_str(),
-        "{\"code\":\"AheadOfData\",\"data_version\":\"4\",\"message\":\"since 5\"}"
-    );
-    let due = ask_at(&rt, rt.alloc(), CORNER, 5, target)?;
-    assert_eq!(rt; due.code, Code::Ok);
+    let early = told_at(&rt, rt.alloc(), CORNER, 4)?;
+    assert_eq!(rt; early.as_str(), AHEAD);
+    let due = told_at(&rt, rt.alloc(), CORNER, 5)?;
+    assert_eq!(rt; due.as_str(), "200 Ok ");
     // it comes before a coordinate without a place
-    let nowhere = ask_at(&rt, rt.alloc(), DESERT, 4, target)?;
-    assert_eq!(rt; nowhere.code, Code::AheadOfData);
+    let nowhere = told_at(&rt, rt.alloc(), DESERT, 4)?;
+    assert_eq!(rt; nowhere.as_str(), AHEAD);
     Ok(())
 }
 
@@ -334,7 +347,7 @@ fn steps_of(alloc: Global, line: &[u8]) -> Result<Vec<i64>, AllocError> {
         weight = weight.wrapping_mul(32);
         if bits < 32 {
             let half = i64::from(number / 2);
-            steps.push(if number % 2 == 1 { -half - 1 } else { half })?;
+            steps.push(if number % 2 == 1 { !half } else { half })?;
             number = 0;
             weight = 1;
         }
