@@ -8,8 +8,6 @@
 mod append;
 pub mod draft;
 mod numbers;
-#[cfg(test)]
-mod tests;
 mod writer;
 
 pub use crate::writer::Json;

@@ -23,6 +23,3 @@ pub use program_status::Status;
 pub use segments::Place;
 pub use tag_lists::Tags;
 pub use texts::Text;
-
-#[cfg(test)]
-mod tests;

@@ -5,9 +5,13 @@
 #[cfg(test)]
 mod heads;
 #[cfg(test)]
+mod json;
+#[cfg(test)]
 mod maps;
 #[cfg(test)]
 mod numbers;
+#[cfg(test)]
+mod objects;
 #[cfg(test)]
 mod options;
 #[cfg(test)]

@@ -6,7 +6,7 @@ use std::process::Abort;
 const GOOGLE_TEXT: &str = "_p~iF~ps|U_ulLnnqC_mqNvxq`@";
 
 // The whole number that a text is.
-fn number(rt: &impl Abort, text: Option<&str>) -> i64 {
+pub(crate) fn number(rt: &impl Abort, text: Option<&str>) -> i64 {
     let Some(Ok(number)) = text.map(|text| text.parse::<i64>()) else {
         panic!(rt; "a number");
     };

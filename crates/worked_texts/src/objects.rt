@@ -1,31 +1,44 @@
-//! What no clause says: that the calls succeed, and that the clauses say what was meant.
+//! Points, tags, objects and statuses. What no clause says: that the calls succeed, and that the clauses say what was
+//! meant.
 
-use crate::{Ids, Kind, Member, Members, Node, Object, Point, Relation, Status, Tags, Text, Way};
+use crate::polylines::number;
+use road_base::{
+    Ids, Kind, Member, Members, Node, Object, Point, Relation, Status, Tags, Text, Way,
+};
+use std::alloc::AllocError;
 
-fn text(rt: &HostRuntime, characters: &str) -> Result<Text, std::alloc::AllocError> {
+fn text(rt: &HostRuntime, characters: &str) -> Result<Text, AllocError> {
     Text::copy_of(rt.alloc(), characters)
 }
 
+// Longitudes and latitudes in microdegrees, each two with whether there is such a point. A table is one text, since a
+// proof takes time for each value of a list.
+const PLACES: &str = "0 0 true
+180000000 90000000 true
+-180000000 -90000000 true
+180000001 0 false
+-180000001 0 false
+0 90000001 false
+0 -90000001 false";
+
 #[test]
-fn points_reach_as_far_as_the_earth(rt: HostRuntime) {
-    for (lon, lat, there) in [
-        (0, 0, true),
-        (180_000_000, 90_000_000, true),
-        (-180_000_000, -90_000_000, true),
-        (180_000_001, 0, false),
-        (-180_000_001, 0, false),
-        (0, 90_000_001, false),
-        (0, -90_000_001, false),
-    ] {
-        assert_eq!(rt; Point::of(lon, lat).is_some(), there, "at {lon} {lat}");
+fn points_reach_as_far_as_the_earth(rt: HostRuntime) -> Result<(), AllocError> {
+    for row in PLACES.split('\n') {
+        let mut parts = row.split(' ');
+        let lon = number(&rt, parts.next());
+        let lat = number(&rt, parts.next());
+        let there = Point::of(lon, lat).is_some();
+        let told = format!(in rt.alloc(); "{lon} {lat} {there}")?;
+        assert_eq!(rt; told.as_str(), row);
     }
     let point = Point::of(-1_000_001, 52_516_275).expect(&rt, "in range");
     assert_eq!(rt; point.lon, -1_000_001);
     assert_eq!(rt; point.lat, 52_516_275);
+    Ok(())
 }
 
 #[test]
-fn the_first_of_two_equal_keys_counts(rt: HostRuntime) -> Result<(), std::alloc::AllocError> {
+fn the_first_of_two_equal_keys_counts(rt: HostRuntime) -> Result<(), AllocError> {
     let tags = Tags::with_capacity(rt.alloc(), 48)?
         .with("name", "Main Street")?
         .with("highway", "residential")?
@@ -40,7 +53,7 @@ fn the_first_of_two_equal_keys_counts(rt: HostRuntime) -> Result<(), std::alloc:
 }
 
 #[test]
-fn an_object_holds_what_it_was_made_of(rt: HostRuntime) -> Result<(), std::alloc::AllocError> {
+fn an_object_holds_what_it_was_made_of(rt: HostRuntime) -> Result<(), AllocError> {
     let role = text(&rt, "via")?;
     assert_eq!(rt; role.as_bytes(), b"via".as_slice());
     let members = Members::of(vec![in rt.alloc();

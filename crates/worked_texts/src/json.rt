@@ -1,9 +1,12 @@
+//! Worked JSON texts; expected values are from RFC 8259 and this project's rules.
+
 ghost use Rattle.std.specs.Prelude.{◌≡◌, ◌∷◌, [], OnOk, codes};
 ghost use Rattle.json_text.specs.Values.{text, tenths, location};
 ghost use Rattle.json_text.specs.Drafts.{TakesValue, with_value};
 ghost use Rattle.json_text.specs.Wholes.{object_of};
 
-use crate::Json;
+use crate::polylines::number;
+use json_text::Json;
 use road_base::Point;
 use std::alloc::{AllocError, Global};
 
@@ -16,36 +19,48 @@ fn degrees_of(alloc: Global, lon: i64, lat: i64) -> Result<Json, AllocError> {
     Ok(json)
 }
 
+// Longitudes and latitudes in microdegrees, each two with the text of their point. A table is one text, since a proof
+// takes time for each value of a list.
+const POINTS: &str = "0 0 [0.000000,0.000000]
+1000 1000 [0.001000,0.001000]
+-1 -1 [-0.000001,-0.000001]
+-500000 500000 [-0.500000,0.500000]
+-1000001 10000000 [-1.000001,10.000000]
+180000000 -90000000 [180.000000,-90.000000]
+-126453000 43252000 [-126.453000,43.252000]";
+
 #[test]
 fn points_have_six_decimals_and_a_sign(rt: HostRuntime) -> Result<(), AllocError> {
-    let cases: [(i64, i64, &str); 7] = [
-        (0, 0, "[0.000000,0.000000]"),
-        (1_000, 1_000, "[0.001000,0.001000]"),
-        (-1, -1, "[-0.000001,-0.000001]"),
-        (-500_000, 500_000, "[-0.500000,0.500000]"),
-        (-1_000_001, 10_000_000, "[-1.000001,10.000000]"),
-        (180_000_000, -90_000_000, "[180.000000,-90.000000]"),
-        (-126_453_000, 43_252_000, "[-126.453000,43.252000]"),
-    ];
-    for (lon, lat, want) in cases {
+    for row in POINTS.split('\n') {
+        let mut parts = row.split(' ');
+        let lon = number(&rt, parts.next());
+        let lat = number(&rt, parts.next());
+        let Some(want) = parts.next() else {
+            panic!(rt; "a row of three");
+        };
         let json = degrees_of(rt.alloc(), lon, lat)?;
         assert_eq!(rt; json.bytes(), want.as_bytes());
     }
     Ok(())
 }
 
+// Tenths, each with their text.
+const TENTHS: &str = "0 0.0
+1 0.1
+10 1.0
+198 19.8
+2222 222.2
+1000005 100000.5
+340282366920938463463374607431768211455 34028236692093846346337460743176821145.5";
+
 #[test]
 fn tenths_have_one_decimal(rt: HostRuntime) -> Result<(), AllocError> {
-    let cases: [(u128, &str); 7] = [
-        (0, "0.0"),
-        (1, "0.1"),
-        (10, "1.0"),
-        (198, "19.8"),
-        (2_222, "222.2"),
-        (1_000_005, "100000.5"),
-        (u128::MAX, "34028236692093846346337460743176821145.5"),
-    ];
-    for (n, want) in cases {
+    for row in TENTHS.split('\n') {
+        let mut parts = row.split(' ');
+        let (Some(Ok(n)), Some(want)) = (parts.next().map(|n| n.parse::<u128>()), parts.next())
+        else {
+            panic!(rt; "a row of two");
+        };
         let mut json = Json::new(rt.alloc());
         json.tenths(n)?;
         assert_eq!(rt; json.bytes(), want.as_bytes());
@@ -53,27 +68,37 @@ fn tenths_have_one_decimal(rt: HostRuntime) -> Result<(), AllocError> {
     Ok(())
 }
 
+// Whole numbers, each with its text.
+const WHOLES: &str = "0 0
+-7 -7
+9223372036854775807 9223372036854775807
+-9223372036854775808 -9223372036854775808";
+
+// Texts, each with how JSON has it. A bar stands behind a text, and a dollar sign between each two rows.
+const TEXTS: &str = "|\"\"$\
+Main Street\r|\"Main Street\\r\"$\
+a\"b\\c/d|\"a\\\"b\\\\c/d\"$\
+\u{8}\u{c}\n\t|\"\\b\\f\\n\\t\"$\
+\u{0}\u{1f}\u{7f}|\"\\u0000\\u001f\u{7f}\"$\
+Stra\u{df}e \u{1f6a6}|\"Stra\u{df}e \u{1f6a6}\"";
+
 #[test]
 fn whole_numbers_and_texts_stand_as_json_has_them(rt: HostRuntime) -> Result<(), AllocError> {
-    for (n, want) in [
-        (0, "0"),
-        (-7, "-7"),
-        (i64::MAX, "9223372036854775807"),
-        (i64::MIN, "-9223372036854775808"),
-    ] {
+    for row in WHOLES.split('\n') {
+        let mut parts = row.split(' ');
+        let n = number(&rt, parts.next());
+        let Some(want) = parts.next() else {
+            panic!(rt; "a row of two");
+        };
         let mut json = Json::new(rt.alloc());
         json.whole(n)?;
         assert_eq!(rt; json.bytes(), want.as_bytes());
     }
-    let texts: [(&str, &str); 6] = [
-        ("", "\"\""),
-        ("Main Street\r", "\"Main Street\\r\""),
-        ("a\"b\\c/d", "\"a\\\"b\\\\c/d\""),
-        ("\u{8}\u{c}\n\t", "\"\\b\\f\\n\\t\""),
-        ("\u{0}\u{1f}\u{7f}", "\"\\u0000\\u001f\u{7f}\""),
-        ("Stra\u{df}e \u{1f6a6}", "\"Stra\u{df}e \u{1f6a6}\""),
-    ];
-    for (text, want) in texts {
+    for row in TEXTS.split('$') {
+        let mut parts = row.split('|');
+        let (Some(text), Some(want)) = (parts.next(), parts.next()) else {
+            panic!(rt; "a row of two");
+        };
         let mut json = Json::new(rt.alloc());
         json.text(text)?;
         assert_eq!(rt; json.bytes(), want.as_bytes());

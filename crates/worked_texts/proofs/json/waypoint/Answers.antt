@@ -1,7 +1,7 @@
 use Rattle.std.proofs.Common.{codes, [], ◌∷◌}
 use Rattle.json_text.specs.Values.{text, tenths, location}
 use Rattle.json_text.specs.WholeLaws.{object_written}
-use Rattle.json_text.proofs.tests.waypoint.Goals as goal
+use Rattle.worked_texts.proofs.json.waypoint.Goals as goal
 
 pub returns : goal.returns
 returns c =
