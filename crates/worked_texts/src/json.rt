@@ -2,7 +2,7 @@
 
 ghost use Rattle.std.specs.Prelude.{◌≡◌, ◌∷◌, [], OnOk, codes};
 ghost use Rattle.json_text.specs.Values.{text, tenths, location};
-ghost use Rattle.json_text.specs.Drafts.{TakesValue, with_value};
+ghost use Rattle.json_text.specs.Drafts.{TakesValue, empty_draft, with_value};
 ghost use Rattle.json_text.specs.Wholes.{object_of};
 
 use crate::polylines::number;
@@ -141,8 +141,9 @@ fn text_is_handed_out(rt: HostRuntime) -> Result<(), AllocError> {
 }
 
 /// The reply to a nearest request, and a table's row with a cell without a walk.
-fn reply(alloc: Global) -> Result<Json, AllocError> {
-    let mut json = Json::new(alloc);
+fn reply(json: &mut Json) -> Result<(), AllocError>
+    requires { json.old ≡ empty_draft }
+{
     json.begin_object()?;
     json.key("code")?;
     json.text("Ok")?;
@@ -170,12 +171,13 @@ fn reply(alloc: Global) -> Result<Json, AllocError> {
     json.end_list()?;
     json.end_list()?;
     json.end_object()?;
-    Ok(json)
+    Ok(())
 }
 
 #[test]
 fn commas_stand_between_values_and_nowhere_else(rt: HostRuntime) -> Result<(), AllocError> {
-    let json = reply(rt.alloc())?;
+    let mut json = Json::new(rt.alloc());
+    reply(&mut json)?;
     let want =
         "{\"code\":\"Ok\",\"waypoints\":[{\"nodes\":[1,2],\"distance\":0.0},{}],\"durations\":[[0.0,null],[]]}";
     assert_eq!(rt; json.bytes(), want.as_bytes());

@@ -5,11 +5,8 @@ use crate::polylines::number;
 use road_base::{
     Ids, Kind, Member, Members, Node, Object, Point, Relation, Status, Tags, Text, Way,
 };
-use std::alloc::AllocError;
-
-fn text(rt: &HostRuntime, characters: &str) -> Result<Text, AllocError> {
-    Text::copy_of(rt.alloc(), characters)
-}
+use std::alloc::{AllocError, Global};
+use std::process::Abort;
 
 // Longitudes and latitudes in microdegrees, each two with whether there is such a point. A table is one text, since a
 // proof takes time for each value of a list.
@@ -52,11 +49,20 @@ fn the_first_of_two_equal_keys_counts(rt: HostRuntime) -> Result<(), AllocError>
     Ok(())
 }
 
-#[test]
-fn an_object_holds_what_it_was_made_of(rt: HostRuntime) -> Result<(), AllocError> {
-    let role = text(&rt, "via")?;
+fn way(rt: &impl Abort, alloc: Global) -> Result<Object, AllocError> {
+    let nodes = Ids::of(vec![in alloc; 7_i64, -8]?);
+    assert_eq!(rt; nodes.as_slice(), [7, -8].as_slice());
+    Ok(Object::Way(Way {
+        id: 10,
+        tags: Tags::new(alloc),
+        nodes,
+    }))
+}
+
+fn members(rt: &impl Abort, alloc: Global) -> Result<Members, AllocError> {
+    let role = Text::copy_of(alloc, "via")?;
     assert_eq!(rt; role.as_bytes(), b"via".as_slice());
-    let members = Members::of(vec![in rt.alloc();
+    let members = Members::of(vec![in alloc;
         Member {
             kind: Kind::Node,
             id: 5,
@@ -64,37 +70,45 @@ fn an_object_holds_what_it_was_made_of(rt: HostRuntime) -> Result<(), AllocError
         },
     ]?);
     assert_eq!(rt; members.as_slice().len(), 1);
-    let nodes = Ids::of(vec![in rt.alloc(); 7_i64, -8]?);
-    assert_eq!(rt; nodes.as_slice(), [7, -8].as_slice());
-    let objects = [
-        Object::Node(Node {
-            id: 5,
-            point: Point::of(1, 2),
-            tags: Tags::new(rt.alloc()),
-        }),
-        Object::Way(Way {
-            id: 10,
-            tags: Tags::new(rt.alloc()),
-            nodes,
-        }),
-        Object::Relation(Relation {
-            id: 1,
-            tags: Tags::new(rt.alloc()),
-            members,
-        }),
-    ];
-    for object in objects {
-        match object {
-            Object::Node(node) => assert_eq!(rt; node.point, Point::of(1, 2)),
-            Object::Way(way) => assert_eq!(rt; way.nodes.into_vec().len(), 2),
-            Object::Relation(relation) => {
-                for member in relation.members.into_vec() {
-                    assert_eq!(rt; member.kind, Kind::Node);
-                    assert_eq!(rt; Text::of(member.role.into_string()).as_str(), "via");
-                }
+    Ok(members)
+}
+
+fn relation(rt: &impl Abort, alloc: Global) -> Result<Object, AllocError> {
+    let members = members(rt, alloc)?;
+    Ok(Object::Relation(Relation {
+        id: 1,
+        tags: Tags::new(alloc),
+        members,
+    }))
+}
+
+fn assert_member(rt: &impl Abort, member: Member) {
+    assert_eq!(rt; member.kind, Kind::Node);
+    assert_eq!(rt; Text::of(member.role.into_string()).as_str(), "via");
+}
+
+fn assert_held(rt: &impl Abort, object: Object) {
+    match object {
+        Object::Node(node) => assert_eq!(rt; node.point, Point::of(1, 2)),
+        Object::Way(way) => assert_eq!(rt; way.nodes.into_vec().len(), 2),
+        Object::Relation(relation) => {
+            for member in relation.members.into_vec() {
+                assert_member(rt, member);
             }
         }
     }
+}
+
+#[test]
+fn an_object_holds_what_it_was_made_of(rt: HostRuntime) -> Result<(), AllocError> {
+    let node = Node {
+        id: 5,
+        point: Point::of(1, 2),
+        tags: Tags::new(rt.alloc()),
+    };
+    assert_held(&rt, Object::Node(node));
+    assert_held(&rt, way(&rt, rt.alloc())?);
+    assert_held(&rt, relation(&rt, rt.alloc())?);
     Ok(())
 }
 

@@ -94,12 +94,15 @@ fn the_first_fault_of_optional_settings_is_told(rt: HostRuntime) -> Result<(), A
     Ok(())
 }
 
-#[test]
-fn each_setting_has_its_answer(rt: HostRuntime) -> Result<(), AllocError> {
-    let read = Profile::read(rt.alloc(), CAR.as_bytes())
+// A copy of the car's profile.
+fn car(rt: &impl Abort, alloc: Global) -> Result<Profile, AllocError> {
+    let read = Profile::read(alloc, CAR.as_bytes())
         .ok()
-        .expect(&rt, "good settings");
-    let profile = read.try_clone(rt.alloc())?;
+        .expect(rt, "good settings");
+    read.try_clone(alloc)
+}
+
+fn assert_answers(rt: &impl Abort, profile: &Profile) {
     assert_eq!(rt; profile.name(), "car");
     assert_eq!(rt; profile.vehicle(), "motorcar");
     assert!(rt; profile.barrier("gate"));
@@ -107,6 +110,12 @@ fn each_setting_has_its_answer(rt: HostRuntime) -> Result<(), AllocError> {
     assert_eq!(rt; profile.u_turn(), 200);
     assert_eq!(rt; profile.signal(), 25);
     assert!(rt; profile.left_side());
+}
+
+#[test]
+fn each_setting_has_its_answer(rt: HostRuntime) -> Result<(), AllocError> {
+    let profile = car(&rt, rt.alloc())?;
+    assert_answers(&rt, &profile);
     Ok(())
 }
 
@@ -135,22 +144,22 @@ fn modifier(rt: &impl Abort, name: &str) -> Modifier {
     }
 }
 
-#[test]
-fn each_modifier_has_its_penalty(rt: HostRuntime) -> Result<(), AllocError> {
-    let alloc = rt.alloc();
-    let read = Profile::read(alloc, CAR.as_bytes())
-        .ok()
-        .expect(&rt, "good settings");
-    let profile = read.try_clone(alloc)?;
+fn assert_penalties(rt: &impl Abort, alloc: Global, profile: &Profile) -> Result<(), AllocError> {
     for row in PENALTIES.split('\n') {
         let mut parts = row.split(' ');
         let (Some(name), Some(want)) = (parts.next(), parts.next()) else {
             panic!(rt; "a row of two");
         };
-        let told = format!(in alloc; "{}", profile.penalty(modifier(&rt, name)))?;
+        let told = format!(in alloc; "{}", profile.penalty(modifier(rt, name)))?;
         assert_eq!(rt; told.as_str(), want, "{name}");
     }
     Ok(())
+}
+
+#[test]
+fn each_modifier_has_its_penalty(rt: HostRuntime) -> Result<(), AllocError> {
+    let profile = car(&rt, rt.alloc())?;
+    assert_penalties(&rt, rt.alloc(), &profile)
 }
 
 // Tags, with a semicolon between each two, and how a way with them is used: forward, backward, and its speed in metres an hour.
@@ -181,25 +190,35 @@ fn tags(rt: &impl Abort, alloc: Global, text: &str) -> Result<Tags, AllocError> 
     Ok(tags)
 }
 
-#[test]
-fn ways_are_used_by_their_tags(rt: HostRuntime) -> Result<(), AllocError> {
-    let alloc = rt.alloc();
-    let profile = Profile::read(alloc, CAR.as_bytes())
-        .ok()
-        .expect(&rt, "good settings");
+// How a way with these tags is used.
+fn use_told(
+    rt: &impl Abort,
+    alloc: Global,
+    profile: &Profile,
+    pairs: &str,
+) -> Result<String, AllocError> {
+    let found = profile.way(&tags(rt, alloc, pairs)?);
+    format!(in alloc; "{} {} {}", found.forward, found.backward, found.speed)
+}
+
+fn assert_used(rt: &impl Abort, alloc: Global, profile: &Profile) -> Result<(), AllocError> {
     for row in WAYS.split('\n') {
         let mut parts = row.split('|');
         match (parts.next(), parts.next()) {
             (Some(pairs), Some(wanted)) => {
-                let found = profile.way(&tags(&rt, alloc, pairs)?);
-                let told = format!(in alloc;
-                    "{} {} {}",
-                    found.forward, found.backward, found.speed
-                )?;
+                let told = use_told(rt, alloc, profile, pairs)?;
                 assert_eq!(rt; told.as_str(), wanted);
             }
             _ => panic!(rt; "a row of two"),
         }
     }
     Ok(())
+}
+
+#[test]
+fn ways_are_used_by_their_tags(rt: HostRuntime) -> Result<(), AllocError> {
+    let profile = Profile::read(rt.alloc(), CAR.as_bytes())
+        .ok()
+        .expect(&rt, "good settings");
+    assert_used(&rt, rt.alloc(), &profile)
 }
