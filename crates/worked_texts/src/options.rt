@@ -3,10 +3,7 @@
 use crate::targets::assert_refused;
 use std::alloc::{AllocError, Global};
 use std::process::Abort;
-use url_read::{
-    Alternatives, Approach, Bearing, Chosen, ContinueStraight, Geometries, Overview, Request,
-    RouteAnnotations, Service, TableAnnotations, request,
-};
+use url_read::request;
 
 const REFUSED: &[u8] = b"/nearest/v1/car/0,0;0,0?foo=1|InvalidQuery|2 coordinates
 /nearest/v1/car/0,0?number=0|InvalidOptions|option number
@@ -124,97 +121,99 @@ fn a_value_of_another_form_is_refused(rt: HostRuntime) -> Result<(), AllocError>
     assert_refused(&rt, rt.alloc(), OF_ANOTHER_FORM)
 }
 
-// The request of a target.
-fn asked(rt: &impl Abort, alloc: Global, target: &[u8]) -> Request {
-    request(alloc, target).ok().expect(rt, "a request")
+// Asserts that the request of a target has these values.
+fn assert_asked(
+    rt: &impl Abort,
+    alloc: Global,
+    target: &[u8],
+    want: &str,
+) -> Result<(), AllocError> {
+    let asked = request(alloc, target).ok().expect(rt, "a request");
+    let told = format!(in alloc; "{asked:?}")?;
+    assert_eq!(rt; told.as_str(), want);
+    Ok(())
 }
 
-#[test]
-fn a_route_has_the_last_value_of_each_option(rt: HostRuntime) {
-    let target: &[u8] =
-        b"/route/v1/car/0,0;0,1.json?overview=false&alternatives=2&steps=true&annotations=nodes,speed\
-        &geometries=geojson&continue_straight=false&radiuses=1;1&radiuses=53687091.19;12.39&bearings=45,10;\
-        &approaches=;unrestricted&hints=a+b;%41&generate_hints=false&skip_waypoints=true&since=7&overview=full";
-    let asked = asked(&rt, rt.alloc(), target);
-    let Service::Route(own) = asked.service else {
-        panic!(rt; "a route");
-    };
-    let annotations = RouteAnnotations {
-        distance: false,
-        duration: false,
-        weight: false,
-        nodes: true,
-        speed: true,
-    };
-    assert_eq!(rt; own.alternatives, Alternatives::UpTo(2));
-    assert!(rt; own.steps && asked.skip_waypoints && !asked.generate_hints);
-    assert_eq!(rt; own.annotations, annotations);
-    assert_eq!(rt; own.geometries, Geometries::Geojson);
-    assert_eq!(rt; own.overview, Overview::Full);
-    assert_eq!(rt; own.continue_straight, ContinueStraight::Off);
-    assert_eq!(rt; asked.since, 7);
-    assert_eq!(rt;
-        asked.radiuses.as_slice(),
-        [Some(536_870_911), Some(123)].as_slice()
-    );
-    let east = Bearing {
-        value: 45,
-        range: 10,
-    };
-    assert_eq!(rt; asked.bearings.as_slice(), [Some(east), None].as_slice());
-    assert_eq!(rt;
-        asked.approaches.as_slice(),
-        [None, Some(Approach::Unrestricted)].as_slice()
-    );
-    let [first, second] = asked.hints.as_slice() else {
-        panic!(rt; "two hints");
-    };
-    assert!(rt; first.as_str() == "a+b" && second.as_str() == "A");
-}
+const MOST_OPTIONS: &[u8] =
+    b"/route/v1/car/0,0;0,1.json?overview=false&alternatives=2&steps=true&annotations=nodes,speed\
+    &geometries=geojson&continue_straight=false&radiuses=1;1&radiuses=53687091.19;12.39&bearings=45,10;\
+    &approaches=;unrestricted&hints=a+b;%41&generate_hints=false&skip_waypoints=true&since=7&overview=full";
+
+const MOST_OPTIONS_ASKED: &str = "Request { \
+    points: Points { inner: [Point { lon: 0, lat: 0 }, Point { lon: 0, lat: 1000000 }] }, \
+    service: Route(RouteOptions { \
+    alternatives: UpTo(2), \
+    steps: true, \
+    annotations: RouteAnnotations { distance: false, duration: false, weight: false, nodes: true, speed: true }, \
+    geometries: Geojson, \
+    overview: Full, \
+    continue_straight: Off }), \
+    radiuses: Radiuses { inner: [Some(536870911), Some(123)] }, \
+    bearings: Bearings { inner: [Some(Bearing { value: 45, range: 10 }), None] }, \
+    approaches: Approaches { inner: [None, Some(Unrestricted)] }, \
+    hints: Hints { inner: [Text { inner: \"a+b\" }, Text { inner: \"A\" }] }, \
+    generate_hints: false, \
+    skip_waypoints: true, \
+    snapping: Default, \
+    since: 7 }";
 
 #[test]
-fn an_option_that_is_not_given_has_its_default(rt: HostRuntime) {
-    let asked = asked(&rt, rt.alloc(), b"/route/v1/car/0,0;0,1");
-    let Service::Route(own) = asked.service else {
-        panic!(rt; "a route");
-    };
-    assert_eq!(rt; own.alternatives, Alternatives::Off);
-    assert!(rt; !own.steps && !asked.skip_waypoints && asked.generate_hints);
-    assert!(rt; !own.annotations.nodes && !own.annotations.speed);
-    assert_eq!(rt; own.geometries, Geometries::Polyline);
-    assert_eq!(rt; own.overview, Overview::Simplified);
-    assert_eq!(rt; own.continue_straight, ContinueStraight::Default);
-    assert_eq!(rt; asked.since, 0);
-    assert_eq!(rt; asked.radiuses.as_slice(), [None, None].as_slice());
-    assert_eq!(rt; asked.bearings.as_slice(), [None, None].as_slice());
-    assert_eq!(rt; asked.hints.as_slice().len(), 2);
+fn a_route_has_the_last_value_of_each_option(rt: HostRuntime) -> Result<(), AllocError> {
+    assert_asked(&rt, rt.alloc(), MOST_OPTIONS, MOST_OPTIONS_ASKED)
 }
 
-#[test]
-fn a_table_has_options_of_its_own(rt: HostRuntime) {
-    let target = b"/table/v1/car/0,0;0,1?sources=1;0;1&annotations=distance";
-    let asked = asked(&rt, rt.alloc(), target);
-    let Service::Table(own) = &asked.service else {
-        panic!(rt; "a table");
-    };
-    let distance = TableAnnotations {
-        duration: false,
-        distance: true,
-    };
-    assert_eq!(rt; own.annotations, distance);
-    assert!(rt; matches!(own.destinations, Chosen::All));
-    match &own.sources {
-        Chosen::Only(sources) => assert_eq!(rt; sources.as_slice(), [1, 0, 1].as_slice()),
-        Chosen::All => panic!(rt; "some sources"),
-    }
-}
+const NO_OPTIONS: &[u8] = b"/route/v1/car/0,0;0,1";
+
+const NO_OPTIONS_ASKED: &str = "Request { \
+    points: Points { inner: [Point { lon: 0, lat: 0 }, Point { lon: 0, lat: 1000000 }] }, \
+    service: Route(RouteOptions { \
+    alternatives: Off, \
+    steps: false, \
+    annotations: RouteAnnotations { distance: false, duration: false, weight: false, nodes: false, speed: false }, \
+    geometries: Polyline, \
+    overview: Simplified, \
+    continue_straight: Default }), \
+    radiuses: Radiuses { inner: [None, None] }, \
+    bearings: Bearings { inner: [None, None] }, \
+    approaches: Approaches { inner: [None, None] }, \
+    hints: Hints { inner: [Text { inner: \"\" }, Text { inner: \"\" }] }, \
+    generate_hints: true, \
+    skip_waypoints: false, \
+    snapping: Default, \
+    since: 0 }";
 
 #[test]
-fn a_nearest_has_a_number(rt: HostRuntime) {
-    let target = b"/nearest/v1/car/0,0?number=3&number=099";
-    let asked = asked(&rt, rt.alloc(), target);
-    let Service::Nearest(own) = asked.service else {
-        panic!(rt; "places");
-    };
-    assert_eq!(rt; own.number, 99);
+fn an_option_that_is_not_given_has_its_default(rt: HostRuntime) -> Result<(), AllocError> {
+    assert_asked(&rt, rt.alloc(), NO_OPTIONS, NO_OPTIONS_ASKED)
+}
+
+// Asserts that the service of a target has these values of its own.
+fn assert_own(rt: &impl Abort, alloc: Global, target: &[u8], want: &str) -> Result<(), AllocError> {
+    let asked = request(alloc, target).ok().expect(rt, "a request");
+    let told = format!(in alloc; "{:?}", asked.service)?;
+    assert_eq!(rt; told.as_str(), want);
+    Ok(())
+}
+
+const TABLE: &[u8] = b"/table/v1/car/0,0;0,1?sources=1;0;1&annotations=distance";
+
+const TABLE_ASKED: &str =
+    "Table(TableOptions { sources: Only(Indexes { inner: [1, 0, 1] }), destinations: All, \
+    annotations: TableAnnotations { duration: false, distance: true } })";
+
+#[test]
+fn a_table_has_options_of_its_own(rt: HostRuntime) -> Result<(), AllocError> {
+    assert_own(&rt, rt.alloc(), TABLE, TABLE_ASKED)
+}
+
+const NEAREST: &[u8] = b"/nearest/v1/car/0,0?number=3&number=099";
+
+#[test]
+fn a_nearest_has_a_number(rt: HostRuntime) -> Result<(), AllocError> {
+    assert_own(
+        &rt,
+        rt.alloc(),
+        NEAREST,
+        "Nearest(NearestOptions { number: 99 })",
+    )
 }

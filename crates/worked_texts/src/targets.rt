@@ -2,21 +2,9 @@
 
 use std::alloc::{AllocError, Global};
 use std::process::Abort;
-use url_read::RefusalCode::{InvalidQuery, InvalidValue, TooBig};
-use url_read::{RefusalCode, RequestFault, request};
+use url_read::{RequestFault, request};
 
-// Whether a target is refused with this code and message.
-fn is_refused(rt: &HostRuntime, target: &[u8], code: RefusalCode, message: &[u8]) -> bool {
-    match request(rt.alloc(), target) {
-        Err(RequestFault::Refused(refusal)) => {
-            refusal.code == code && refusal.message.as_bytes() == message
-        }
-        Err(RequestFault::Memory) => false,
-        Ok(_asked) => false,
-    }
-}
-
-// The same, where the code is given by its name.
+// Whether a target is refused with the code of this name and with this message.
 fn is_told(alloc: Global, target: &[u8], code: &[u8], message: &[u8]) -> Result<bool, AllocError> {
     match request(alloc, target) {
         Err(RequestFault::Refused(refusal)) => {
@@ -107,39 +95,45 @@ fn the_first_refusal_of_a_target_is_told(rt: HostRuntime) -> Result<(), AllocErr
     assert_refused(&rt, rt.alloc(), REFUSED)
 }
 
-#[test]
-fn a_request_has_its_points_in_order(rt: HostRuntime) {
-    let target = b"/route/v1/a()b/-0.0000015,1;179.5,-2.25;180,-90?overview=false&overview=false";
-    let asked = request(rt.alloc(), target).ok().expect(&rt, "a request");
-    let [first, second, third] = asked.points.as_slice() else {
-        panic!(rt; "three points");
-    };
-    assert_eq!(rt; (first.lon, first.lat), (-2, 1_000_000));
-    assert_eq!(rt; (second.lon, second.lat), (179_500_000, -2_250_000));
-    assert_eq!(rt; (third.lon, third.lat), (180_000_000, -90_000_000));
+// The points of the request of a target.
+fn points_told(rt: &impl Abort, alloc: Global, target: &[u8]) -> Result<String, AllocError> {
+    let asked = request(alloc, target).ok().expect(rt, "a request");
+    format!(in alloc; "{:?}", asked.points.as_slice())
 }
 
+const THREE_POINTS: &[u8] =
+    b"/route/v1/a()b/-0.0000015,1;179.5,-2.25;180,-90?overview=false&overview=false";
+
+const THREE_POINTS_TOLD: &str =
+    "[Point { lon: -2, lat: 1000000 }, Point { lon: 179500000, lat: -2250000 }, \
+    Point { lon: 180000000, lat: -90000000 }]";
+
 #[test]
-fn a_polyline_has_points_too(rt: HostRuntime) {
-    let targets: [&[u8]; 2] = [
-        b"/route/v1/car/polyline(??gEgE)?overview=false",
-        b"/route/v1/car/polyline6(??o}%40o}@).json",
-    ];
-    for target in targets {
-        let asked = request(rt.alloc(), target).ok().expect(&rt, "a request");
-        let [first, second] = asked.points.as_slice() else {
-            panic!(rt; "two points");
-        };
-        assert_eq!(rt; (first.lon, first.lat), (0, 0));
-        assert_eq!(rt; (second.lon, second.lat), (1_000, 1_000));
+fn a_request_has_its_points_in_order(rt: HostRuntime) -> Result<(), AllocError> {
+    let told = points_told(&rt, rt.alloc(), THREE_POINTS)?;
+    assert_eq!(rt; told.as_str(), THREE_POINTS_TOLD);
+    Ok(())
+}
+
+const POLYLINES: &[u8] = b"/route/v1/car/polyline(??gEgE)?overview=false
+/route/v1/car/polyline6(??o}%40o}@).json";
+
+const POLYLINES_TOLD: &str = "[Point { lon: 0, lat: 0 }, Point { lon: 1000, lat: 1000 }]";
+
+const FAR_POLYLINE: &[u8] = b"/nearest/v1/car/polyline6(agdtjD?)|InvalidValue|coordinate 0";
+
+#[test]
+fn a_polyline_has_points_too(rt: HostRuntime) -> Result<(), AllocError> {
+    for target in POLYLINES.split(|byte| *byte == b'\n') {
+        let told = points_told(&rt, rt.alloc(), target)?;
+        assert_eq!(rt; told.as_str(), POLYLINES_TOLD);
     }
-    let far = b"/nearest/v1/car/polyline6(agdtjD?)";
-    assert!(rt; is_refused(&rt, far, InvalidValue, b"coordinate 0"));
+    assert_refused(&rt, rt.alloc(), FAR_POLYLINE)
 }
 
 // A target of so many coordinates, the last of them this one.
-fn target_of(rt: &HostRuntime, count: usize, last: &[u8]) -> Result<Vec<u8>, AllocError> {
-    let mut target = Vec::from_slice(rt.alloc(), b"/route/v1/car/")?;
+fn target_of(alloc: Global, count: usize, last: &[u8]) -> Result<Vec<u8>, AllocError> {
+    let mut target = Vec::from_slice(alloc, b"/route/v1/car/")?;
     for _ in 1..count {
         target.extend_from_slice(b"0,0;")?;
     }
@@ -148,17 +142,33 @@ fn target_of(rt: &HostRuntime, count: usize, last: &[u8]) -> Result<Vec<u8>, All
     Ok(target)
 }
 
+// Asserts that a target of 500 coordinates has them all.
+fn assert_most_taken(rt: &impl Abort, alloc: Global) -> Result<(), AllocError> {
+    let target = target_of(alloc, 500, b"0,0")?;
+    let most = request(alloc, &target).ok().expect(rt, "a request");
+    assert_eq!(rt; most.points.as_slice().len(), 500);
+    Ok(())
+}
+
+// Last coordinates, each with the code and the message by which a target of 501 coordinates with this last one is
+// refused, and a bar between each two parts.
+const MANY: &[u8] = b"0,0|TooBig|501 coordinates, at most 500
+0,91|InvalidValue|coordinate 500
+0|InvalidQuery|coordinate 500";
+
 #[test]
 fn a_route_has_at_most_500_coordinates(rt: HostRuntime) -> Result<(), AllocError> {
-    let most = request(rt.alloc(), &target_of(&rt, 500, b"0,0")?)
-        .ok()
-        .expect(&rt, "a request");
-    assert_eq!(rt; most.points.as_slice().len(), 500);
-    let many = target_of(&rt, 501, b"0,0")?;
-    assert!(rt; is_refused(&rt, &many, TooBig, b"501 coordinates, at most 500"));
-    let far = target_of(&rt, 501, b"0,91")?;
-    assert!(rt; is_refused(&rt, &far, InvalidValue, b"coordinate 500"));
-    let half = target_of(&rt, 501, b"0")?;
-    assert!(rt; is_refused(&rt, &half, InvalidQuery, b"coordinate 500"));
+    let alloc = rt.alloc();
+    assert_most_taken(&rt, alloc)?;
+    for row in MANY.split(|byte| *byte == b'\n') {
+        let mut parts = row.split(|byte| *byte == b'|');
+        match (parts.next(), parts.next(), parts.next()) {
+            (Some(last), Some(code), Some(message)) => {
+                let target = target_of(alloc, 501, last)?;
+                assert!(rt; is_told(alloc, &target, code, message)?, "{message:?}");
+            }
+            _ => panic!(rt; "a row of three"),
+        }
+    }
     Ok(())
 }

@@ -2,12 +2,12 @@
 //! tests of the crate above, over whole targets.
 
 use option_values::{
-    Alternatives, Approach, Bearing, Chosen, ContinueStraight, Geometries, Overview, Snapping,
+    Alternatives, Approach, Bearing, ContinueStraight, Geometries, Overview, Snapping,
     alternatives_of, are_read, chosen_among, continue_straight_of, cut, every_annotation,
     geometries_of, hints_each, is_chosen, number_of, one_each, overview_of, route_annotations_of,
     since_of, snapping_of, table_annotations_of, truth_of,
 };
-use std::alloc::AllocError;
+use std::alloc::{AllocError, Global};
 
 #[test]
 fn each_value_is_read(rt: HostRuntime) {
@@ -27,20 +27,43 @@ fn each_value_is_read(rt: HostRuntime) {
     assert_eq!(rt; cut("a=b=c", '='), Some(("a", "b=c")));
 }
 
+// The radiuses of so many coordinates.
+fn radiuses_told(alloc: Global, count: usize, value: &str) -> Result<String, AllocError> {
+    let radiuses = one_each::<Option<u64>>(alloc, None, count, Some(value))?;
+    format!(in alloc; "{radiuses:?}")
+}
+
+// The bearings of so many coordinates where none are given.
+fn bearings_told(alloc: Global, count: usize) -> Result<String, AllocError> {
+    let bearings = one_each::<Option<Bearing>>(alloc, None, count, None)?;
+    format!(in alloc; "{bearings:?}")
+}
+
+// The hints of so many coordinates.
+fn hints_told(alloc: Global, count: usize, value: &str) -> Result<String, AllocError> {
+    let hints = hints_each(alloc, count, Some(value))?;
+    format!(in alloc; "{hints:?}")
+}
+
+// Which of so many coordinates are chosen.
+fn chosen_told(alloc: Global, count: usize, value: &str) -> Result<String, AllocError> {
+    let chosen = chosen_among(alloc, count, Some(value))?;
+    format!(in alloc; "{chosen:?}")
+}
+
+const HINTS_TOLD: &str = "Some([Text { inner: \"a\" }, Text { inner: \"\" }])";
+
 #[test]
 fn lists_have_an_entry_for_each_coordinate(rt: HostRuntime) -> Result<(), AllocError> {
-    let radiuses = one_each::<Option<u64>>(rt.alloc(), None, 2, Some("12.39;"))?;
-    assert!(rt; matches!(&radiuses, Some(list) if list.as_slice() == [Some(123), None].as_slice()));
-    let bearings = one_each::<Option<Bearing>>(rt.alloc(), None, 1, None)?;
-    assert!(rt; matches!(&bearings, Some(list) if list.as_slice() == [None].as_slice()));
+    let alloc = rt.alloc();
+    let radiuses = radiuses_told(alloc, 2, "12.39;")?;
+    assert_eq!(rt; radiuses.as_str(), "Some([Some(123), None])");
+    assert_eq!(rt; bearings_told(alloc, 1)?.as_str(), "Some([None])");
     assert!(rt; are_read::<Option<Approach>>("unrestricted;") && are_read::<u32>("0;1"));
-    let hints = hints_each(rt.alloc(), 2, Some("a;"))?;
-    assert!(rt; matches!(&hints, Some(list) if list.len() == 2));
+    assert_eq!(rt; hints_told(alloc, 2, "a;")?.as_str(), HINTS_TOLD);
     assert!(rt; is_chosen("all") && is_chosen("1;0"));
-    let chosen = chosen_among(rt.alloc(), 2, Some("1;0;1"))?;
-    assert!(rt;
-        matches!(&chosen, Some(Chosen::Only(list)) if list.as_slice() == [1, 0, 1].as_slice())
-    );
-    assert!(rt; chosen_among(rt.alloc(), 2, Some("2"))?.is_none());
+    let chosen = chosen_told(alloc, 2, "1;0;1")?;
+    assert_eq!(rt; chosen.as_str(), "Some(Only(Indexes { inner: [1, 0, 1] }))");
+    assert_eq!(rt; chosen_told(alloc, 2, "2")?.as_str(), "None");
     Ok(())
 }
