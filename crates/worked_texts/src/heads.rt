@@ -3,6 +3,7 @@ ghost use Rattle.std.specs.Prelude.{◌≤◌};
 use http_head::parts::{Front, Head, Span};
 use http_head::{BUSY, BUSY_CLOSE, HEAD_BAD, busy_reply, head, head_bad_reply, response};
 use std::alloc::{AllocError, Global};
+use std::process::Abort;
 
 /// The `close` and `announced` of a whole head, as `close announced`, or the other answers' names.
 fn told(bytes: &[u8]) -> &'static str {
@@ -115,14 +116,35 @@ fn head_of_fields(alloc: Global, fields: usize) -> Result<Vec<u8>, AllocError> {
     Ok(bytes)
 }
 
+// Sizes of heads in bytes, and numbers of their fields, each with what is told of such a head.
+const SIZES: &str = "8191 keep
+8192 keep
+8193 more";
+
+const FIELDS: &str = "63 keep
+64 keep
+65 more";
+
+// A size or a number, and what is told.
+fn row_of<'a>(rt: &impl Abort, row: &'a str) -> (usize, &'a str) {
+    let mut parts = row.split(' ');
+    match (parts.next().map(|size| size.parse::<usize>()), parts.next()) {
+        (Some(Ok(size)), Some(want)) => (size, want),
+        _ => panic!(rt; "a row of two"),
+    }
+}
+
 #[test]
 fn a_head_has_8192_bytes_and_64_fields_at_most(rt: HostRuntime) -> Result<(), AllocError> {
-    for (size, want) in [(8191, "keep"), (8192, "keep"), (8193, "more")] {
+    for row in SIZES.split('\n') {
+        let (size, want) = row_of(&rt, row);
+        assert!(rt; size >= 18);
         let bytes = head_of_size(rt.alloc(), size)?;
         assert_eq!(rt; bytes.len(), size);
         assert_eq!(rt; told(&bytes), want, "{size} bytes");
     }
-    for (fields, want) in [(63, "keep"), (64, "keep"), (65, "more")] {
+    for row in FIELDS.split('\n') {
+        let (fields, want) = row_of(&rt, row);
         let bytes = head_of_fields(rt.alloc(), fields)?;
         assert_eq!(rt; told(&bytes), want, "{fields} fields");
     }

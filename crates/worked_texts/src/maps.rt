@@ -1,95 +1,130 @@
 //! Worked texts; expected values are from the OPL manual and this project's rules.
 
 use opl_read::{ReadFault, read};
-use road_base::{Kind, Object, Point};
+use road_base::{Node, Object, Relation, Tags, Way};
 use std::alloc::{AllocError, Global};
+use std::process::Abort;
 
 const TOWN: &[u8] =
     b"# a town\nn1 v3 dV c7 t2020-01-01T00:00:00Z i1 uA T x0 y0\r\n\tn2 y0.001   x0 \nn3 x0.001 y0.001 Thighway=traffic_signals,name=a=b,name=c\nc5 any\n\nw10 Nn1,n2x0y0.001,n3 Thighway=residential\nn4 dD Ta=b\nn4 x-1.0000005 y\nn5 x-1.0000005 y0";
 
-#[test]
-fn a_town_of_five_nodes_and_a_way(rt: HostRuntime) {
-    let objects = read(rt.alloc(), TOWN).ok().expect(&rt, "a good text");
-    assert_eq!(rt; objects.len(), 6);
-    match &objects[2] {
-        Object::Node(node) => {
-            assert_eq!(rt; node.id, 3);
-            assert!(rt; node.point == Point::of(1000, 1000));
-            assert_eq!(rt; node.tags.get("highway"), Some("traffic_signals"));
-            assert_eq!(rt; node.tags.get("name"), Some("a=b"));
-        }
-        _ => panic!(rt; "a node"),
+const TOWN_TOLD: &str = "node 1 0,0
+node 2 0,1000
+node 3 1000,1000 highway=traffic_signals name=a=b
+way 10 1 2 3 highway=residential
+node 4 nowhere
+node 5 -1000001,0
+";
+
+// What reading a text tells of its objects, a line each: its kind and id, where a node lies, the nodes of a way or the
+// members of a relation, and the tags of these keys, which a semicolon stands between.
+fn objects_told(
+    rt: &impl Abort,
+    alloc: Global,
+    text: &[u8],
+    keys: &str,
+) -> Result<String, AllocError> {
+    let objects = read(alloc, text).ok().expect(rt, "a good text");
+    let mut told = String::new(alloc);
+    for object in &objects {
+        push_object(alloc, &mut told, object, keys)?;
+        told.push_str("\n")?;
     }
-    match &objects[3] {
+    Ok(told)
+}
+
+fn push_object(
+    alloc: Global,
+    told: &mut String,
+    object: &Object,
+    keys: &str,
+) -> Result<(), AllocError> {
+    match object {
+        Object::Node(node) => {
+            push_node(alloc, told, node)?;
+            push_tags(told, &node.tags, keys)
+        }
         Object::Way(way) => {
-            assert_eq!(rt; way.id, 10);
-            assert_eq!(rt; way.tags.get("highway"), Some("residential"));
-            assert_eq!(rt; way.nodes.as_slice(), [1, 2, 3].as_slice());
+            push_way(alloc, told, way)?;
+            push_tags(told, &way.tags, keys)
         }
-        _ => panic!(rt; "a way"),
-    }
-    match &objects[4] {
-        Object::Node(node) => {
-            assert_eq!(rt; node.id, 4);
-            assert!(rt; node.point == None);
+        Object::Relation(relation) => {
+            push_relation(alloc, told, relation)?;
+            push_tags(told, &relation.tags, keys)
         }
-        _ => panic!(rt; "a node"),
     }
-    match &objects[5] {
-        Object::Node(node) => assert!(rt; node.point == Point::of(-1_000_001, 0)),
-        _ => panic!(rt; "a node"),
+}
+
+fn push_node(alloc: Global, told: &mut String, node: &Node) -> Result<(), AllocError> {
+    let text = match node.point {
+        Some(point) => format!(in alloc; "node {} {},{}", node.id, point.lon, point.lat),
+        None => format!(in alloc; "node {} nowhere", node.id),
+    };
+    told.push_str(text?.as_str())
+}
+
+fn push_way(alloc: Global, told: &mut String, way: &Way) -> Result<(), AllocError> {
+    told.push_str(format!(in alloc; "way {}", way.id)?.as_str())?;
+    for id in way.nodes.as_slice() {
+        told.push_str(format!(in alloc; " {id}")?.as_str())?;
     }
+    Ok(())
+}
+
+fn push_relation(alloc: Global, told: &mut String, relation: &Relation) -> Result<(), AllocError> {
+    told.push_str(format!(in alloc; "relation {}", relation.id)?.as_str())?;
+    for member in relation.members.as_slice() {
+        let role = member.role.as_str();
+        let text = format!(in alloc; " {:?} {} [{role}]", member.kind, member.id)?;
+        told.push_str(text.as_str())?;
+    }
+    Ok(())
+}
+
+fn push_tags(told: &mut String, tags: &Tags, keys: &str) -> Result<(), AllocError> {
+    for key in keys.split(';') {
+        if let Some(value) = tags.get(key) {
+            told.push_str(" ")?;
+            told.push_str(key)?;
+            told.push_str("=")?;
+            told.push_str(value)?;
+        }
+    }
+    Ok(())
+}
+
+#[test]
+fn a_town_of_five_nodes_and_a_way(rt: HostRuntime) -> Result<(), AllocError> {
+    let told = objects_told(&rt, rt.alloc(), TOWN, "highway;name")?;
+    assert_eq!(rt; told.as_str(), TOWN_TOLD);
+    Ok(())
 }
 
 const ESCAPES: &[u8] = b"n1 Ta%20%b=c%e4%,six=%01f600%,upper=%1F600%,both=%25%%3d%,bare=";
 
+const ESCAPES_TOLD: &str =
+    "node 1 nowhere a b=c\u{e4} six=\u{1f600} upper=\u{1f600} both=%= bare=\n";
+
 #[test]
-fn escapes_stand_for_characters(rt: HostRuntime) {
-    let objects = read(rt.alloc(), ESCAPES).ok().expect(&rt, "a good text");
-    assert_eq!(rt; objects.len(), 1);
-    match &objects[0] {
-        Object::Node(node) => {
-            assert_eq!(rt; node.tags.get("a b"), Some("c\u{e4}"));
-            assert_eq!(rt; node.tags.get("six"), Some("\u{1f600}"));
-            assert_eq!(rt; node.tags.get("upper"), Some("\u{1f600}"));
-            assert_eq!(rt; node.tags.get("both"), Some("%="));
-            assert_eq!(rt; node.tags.get("bare"), Some(""));
-        }
-        _ => panic!(rt; "a node"),
-    }
+fn escapes_stand_for_characters(rt: HostRuntime) -> Result<(), AllocError> {
+    let told = objects_told(&rt, rt.alloc(), ESCAPES, "a b;six;upper;both;bare")?;
+    assert_eq!(rt; told.as_str(), ESCAPES_TOLD);
+    Ok(())
 }
 
 const RELATIONS: &[u8] =
     b"r5 Mn-1@,w10@from%2c%to,r7@a@b Ttype=restriction,note=a%2C%b\nr6 M\nr5 dD\n";
 
+const RELATIONS_TOLD: &str =
+    "relation 5 Node -1 [] Way 10 [from,to] Relation 7 [a@b] type=restriction note=a,b
+relation 6
+";
+
 #[test]
-fn a_relation_has_members_in_roles(rt: HostRuntime) {
-    let objects = read(rt.alloc(), RELATIONS).ok().expect(&rt, "a good text");
-    assert_eq!(rt; objects.len(), 2);
-    match &objects[0] {
-        Object::Relation(relation) => {
-            assert_eq!(rt; relation.id, 5);
-            assert_eq!(rt; relation.tags.get("type"), Some("restriction"));
-            assert_eq!(rt; relation.tags.get("note"), Some("a,b"));
-            let wanted = [
-                (Kind::Node, -1, ""),
-                (Kind::Way, 10, "from,to"),
-                (Kind::Relation, 7, "a@b"),
-            ];
-            let members = relation.members.as_slice();
-            assert_eq!(rt; members.len(), wanted.len());
-            for (member, (kind, id, role)) in members.iter().zip(wanted) {
-                assert_eq!(rt; member.kind, kind);
-                assert_eq!(rt; member.id, id);
-                assert_eq!(rt; member.role.as_str(), role);
-            }
-        }
-        _ => panic!(rt; "a relation"),
-    }
-    match &objects[1] {
-        Object::Relation(relation) => assert!(rt; relation.members.as_slice().is_empty()),
-        _ => panic!(rt; "a relation"),
-    }
+fn a_relation_has_members_in_roles(rt: HostRuntime) -> Result<(), AllocError> {
+    let told = objects_told(&rt, rt.alloc(), RELATIONS, "type;note")?;
+    assert_eq!(rt; told.as_str(), RELATIONS_TOLD);
+    Ok(())
 }
 
 // Texts, each with what reading it tells: how many objects there are, or the line and the fault of the first faulty one. A
