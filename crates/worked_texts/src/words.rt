@@ -1,6 +1,6 @@
 //! What no clause says: that words are read with ample memory, and what some words make.
 
-use command_words::{ServeWords, Words, WordsFault, read_words};
+use command_words::{WordsFault, read_words};
 use std::alloc::{AllocError, Global};
 use std::process::Abort;
 
@@ -13,36 +13,46 @@ fn words_of(alloc: Global, line: &str) -> Result<Vec<String>, AllocError> {
     Ok(words)
 }
 
-// Whether the words of a line make this command.
-fn makes(alloc: Global, line: &str, command: Words<'_>) -> Result<bool, AllocError> {
+// What the words of a line make.
+fn told(alloc: Global, line: &str) -> Result<String, AllocError> {
     let words = words_of(alloc, line)?;
-    Ok(read_words(alloc, words.as_slice()) == Ok(command))
+    format!(in alloc; "{:?}", read_words(alloc, words.as_slice()))
 }
 
-// Asserts that the words of each line of a text make none. The lines are one text, since a proof takes time for each value of
-// a list.
-fn assert_none(rt: &impl Abort, alloc: Global, lines: &str) -> Result<(), AllocError> {
-    for line in lines.split('\n') {
-        let words = words_of(alloc, line)?;
-        assert!(rt;
-            read_words(alloc, words.as_slice()) == Err(WordsFault::Unknown),
-            "{line}"
-        );
+// Asserts that the words of each line of a table make what its row says: the line, and what is told of it, with a bar
+// between the two. A table is one text, since a proof takes time for each value of a list.
+fn assert_told(rt: &impl Abort, alloc: Global, table: &str) -> Result<(), AllocError> {
+    for row in table.split('\n') {
+        let mut parts = row.split('|');
+        let (Some(line), Some(want)) = (parts.next(), parts.next()) else {
+            panic!(rt; "a row of two");
+        };
+        assert_eq!(rt; told(alloc, line)?.as_str(), want, "{line}");
     }
     Ok(())
 }
 
-#[test]
-fn words_that_make_a_command(rt: HostRuntime) -> Result<(), AllocError> {
-    let alloc = rt.alloc();
-    let check = Words::Check("map", "settings");
-    let ask = Words::Ask("map", "settings");
-    assert!(rt; makes(alloc, "check map settings", check)?);
-    assert!(rt; makes(alloc, "ask map settings", ask)?);
-    assert!(rt; makes(alloc, "ask -- map settings", ask)?);
-    assert!(rt; !makes(alloc, "ask settings map", ask)?);
+// Asserts that the words of each line of a text make none.
+fn assert_none(rt: &impl Abort, alloc: Global, lines: &str) -> Result<(), AllocError> {
+    for line in lines.split('\n') {
+        assert_eq!(rt; told(alloc, line)?.as_str(), "Err(Unknown)", "{line}");
+    }
     Ok(())
 }
+
+const OVER_A_MAP: &str = "check map settings|Ok(Check(\"map\", \"settings\"))
+ask map settings|Ok(Ask(\"map\", \"settings\"))
+ask -- map settings|Ok(Ask(\"map\", \"settings\"))
+ask settings map|Ok(Ask(\"settings\", \"map\"))";
+
+#[test]
+fn words_that_make_a_command(rt: HostRuntime) -> Result<(), AllocError> {
+    assert_told(&rt, rt.alloc(), OVER_A_MAP)
+}
+
+const OVER_A_TOWN: &str = "town 2|Ok(Town(2))
+town 1000|Ok(Town(1000))
+drill +020|Ok(Drill(20))";
 
 const NO_TOWN: &str = "town
 town 1
@@ -54,37 +64,27 @@ drill 1";
 
 #[test]
 fn words_over_a_town(rt: HostRuntime) -> Result<(), AllocError> {
-    let alloc = rt.alloc();
-    assert!(rt; makes(alloc, "town 2", Words::Town(2))?);
-    assert!(rt; makes(alloc, "town 1000", Words::Town(1000))?);
-    assert!(rt; makes(alloc, "drill +020", Words::Drill(20))?);
-    assert_none(&rt, alloc, NO_TOWN)
+    assert_told(&rt, rt.alloc(), OVER_A_TOWN)?;
+    assert_none(&rt, rt.alloc(), NO_TOWN)
 }
+
+const LEAST_WORDS: &str = "serve map settings --listen a --control b";
+
+const LEAST_SERVED: &str =
+    "Ok(Serve(ServeWords { map: \"map\", settings: \"settings\", listen: \"a\", control: \"b\", \
+    workers: 4, speeds: None, turns: None }))";
 
 const MOST_WORDS: &str =
     "serve --turn-penalty-file=t --control=b map --workers +064 settings --listen=a --segment-speed-file s";
 
+const MOST_SERVED: &str =
+    "Ok(Serve(ServeWords { map: \"map\", settings: \"settings\", listen: \"a\", control: \"b\", \
+    workers: 64, speeds: Some(\"s\"), turns: Some(\"t\") }))";
+
 #[test]
 fn words_that_serve(rt: HostRuntime) -> Result<(), AllocError> {
-    let alloc = rt.alloc();
-    let plain = ServeWords {
-        map: "map",
-        settings: "settings",
-        listen: "a",
-        control: "b",
-        workers: 4,
-        speeds: None,
-        turns: None,
-    };
-    let least = "serve map settings --listen a --control b";
-    assert!(rt; makes(alloc, least, Words::Serve(plain))?);
-    let full = ServeWords {
-        workers: 64,
-        speeds: Some("s"),
-        turns: Some("t"),
-        ..plain
-    };
-    assert!(rt; makes(alloc, MOST_WORDS, Words::Serve(full))?);
+    assert_eq!(rt; told(rt.alloc(), LEAST_WORDS)?.as_str(), LEAST_SERVED);
+    assert_eq!(rt; told(rt.alloc(), MOST_WORDS)?.as_str(), MOST_SERVED);
     Ok(())
 }
 
