@@ -23,8 +23,11 @@ fn hop_told(alloc: Global, hop: &Hop) -> Result<String, AllocError> {
     }
 }
 
-// The cost of a packed walk, its first vertex and its hops; `-` for none.
-fn packed_told(alloc: Global, found: &Option<PackedFound<DurLen>>) -> Result<String, AllocError> {
+/// The cost of a packed walk, its first vertex and its hops; `-` for none.
+pub fn packed_told(
+    alloc: Global,
+    found: &Option<PackedFound<DurLen>>,
+) -> Result<String, AllocError> {
     let Some(found) = found else {
         return String::from_str(alloc, "- ");
     };

@@ -10,6 +10,7 @@ use crate::drawings::{
     vertices_told,
 };
 use crate::plain::walks_told;
+use crate::queries::packed_told;
 use overlay_query::{cheapest, least_costs};
 use path_unpack::{cheapest_from, least_from, unpack};
 use search_graph::DurLen;
@@ -18,7 +19,7 @@ use std::process::Abort;
 use std::test::Fail;
 use step_search::Search;
 
-// What the walk to one target costs, and the walk, opened apart from the query.
+// The packed walk to one target, and the walk that it is opened to, apart from the query.
 fn unpacked_told(
     rt: &impl Abort,
     alloc: Global,
@@ -42,8 +43,9 @@ fn unpacked_told(
         &targets,
         &mut search,
     )?;
+    let mut text = packed_told(alloc, &found)?;
     let Some(found) = found else {
-        return Ok(String::from_str(alloc, "- ")?);
+        return Ok(text);
     };
     let walk = unpack(
         alloc,
@@ -53,7 +55,7 @@ fn unpacked_told(
         &found.packed,
         &mut search,
     )?;
-    let mut text = cost_told(alloc, Some(found.cost))?;
+    text.push_str("is ")?;
     text.push_str(vertices_told(alloc, walk.as_slice())?.as_str())?;
     Ok(text)
 }
@@ -94,7 +96,7 @@ fn cheapest_told(
 fn shortcuts_of_both_levels_are_opened(rt: HostRuntime) -> Result<(), Fail> {
     let ring = cut(&rt, rt.alloc(), &RING_OF_TEN, &[3, 5])?;
     let told = unpacked_told(&rt, rt.alloc(), &ring, "4:5/0", "3:2/2")?;
-    assert_eq!(rt; told.as_str(), "91/12 4 5 6 7 9 0 1 2 3 ");
+    assert_eq!(rt; told.as_str(), "91/12 4 5 9[2.1] 0 2[1.0] 3 is 4 5 6 7 9 0 1 2 3 ");
     Ok(())
 }
 
