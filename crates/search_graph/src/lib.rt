@@ -15,12 +15,8 @@ mod adjacency;
 mod costs;
 mod ends;
 mod indexing;
-#[cfg(test)]
-mod list_tests;
 mod numbers;
 mod rows;
-#[cfg(test)]
-mod tests;
 mod weighting;
 
 pub use adjacency::{Graph, GraphFault};

@@ -5,7 +5,7 @@ ghost use Rattle.search_graph.specs.Durations.{durlen_ops};
 ghost use Rattle.search_graph.specs.Weighted.{AreSmall};
 ghost use Rattle.cell_frame.specs.Cliqued.{AreExact};
 
-use crate::drawings::{Drawing, STREETS, cost_told, frame, weights};
+use crate::drawings::{Drawing, STREETS, frame, row_told, weights};
 use cell_customize::{customize, customize_in_threads};
 use cell_frame::{Cliques, Frame};
 use cell_recustomize::{Recustomized, recustomize, recustomize_in_threads};
@@ -17,7 +17,7 @@ use std::thread::Threads;
 use weight_changes::changed;
 
 // What the walks cost inside the cell of this level that holds an entry, from there to each exit.
-fn row_told(
+fn walks_told(
     rt: &impl Abort,
     alloc: Global,
     frame: &Frame,
@@ -32,12 +32,7 @@ fn row_told(
     let Some(place) = frame.entry(cell, entry) else {
         return String::from_str(alloc, "no entry");
     };
-    let mut text = String::new(alloc);
-    let row = cliques.row(frame, cell, place);
-    for i in 0..row.len() {
-        text.push_str(cost_told(alloc, row.get(i))?.as_str())?;
-    }
-    Ok(text)
+    row_told(alloc, &cliques.row(frame, cell, place))
 }
 
 // Each way of a street is a cell of level 1, in which nothing is paid, and the street is one of level 2: a way into it and out
@@ -50,13 +45,16 @@ fn turns_back(
 ) -> Result<(), AllocError>
     requires { (w : _) × AreExact durlen_ops frame.now w cliques.now (length frame.now.cells.levels) }
 {
-    assert_eq!(rt; row_told(rt, alloc, frame, cliques, 1, 1)?.as_str(), "0/0 ");
     assert_eq!(rt;
-        row_told(rt, alloc, frame, cliques, 2, 1)?.as_str(),
+        walks_told(rt, alloc, frame, cliques, 1, 1)?.as_str(),
+        "0/0 "
+    );
+    assert_eq!(rt;
+        walks_told(rt, alloc, frame, cliques, 2, 1)?.as_str(),
         "299/1111 "
     );
     assert_eq!(rt;
-        row_told(rt, alloc, frame, cliques, 2, 2)?.as_str(),
+        walks_told(rt, alloc, frame, cliques, 2, 2)?.as_str(),
         "299/1111 "
     );
     Ok(())
@@ -133,11 +131,11 @@ fn a_slower_way_touches_its_street(rt: HostRuntime) -> Result<(), Fail> {
     let made = after(&rt, alloc, &frame, &SLOWER)?;
     assert_eq!(rt; made.searches, 1);
     assert_eq!(rt;
-        row_told(&rt, alloc, &frame, &made.cliques, 1, 1)?.as_str(),
+        walks_told(&rt, alloc, &frame, &made.cliques, 1, 1)?.as_str(),
         "399/1111 "
     );
     assert_eq!(rt;
-        row_told(&rt, alloc, &frame, &made.cliques, 1, 2)?.as_str(),
+        walks_told(&rt, alloc, &frame, &made.cliques, 1, 2)?.as_str(),
         "299/1111 "
     );
     Ok(())
@@ -150,7 +148,7 @@ fn a_dearer_turn_between_streets_touches_neither(rt: HostRuntime) -> Result<(), 
     let made = after(&rt, alloc, &frame, &DEARER)?;
     assert_eq!(rt; made.searches, 0);
     assert_eq!(rt;
-        row_told(&rt, alloc, &frame, &made.cliques, 1, 1)?.as_str(),
+        walks_told(&rt, alloc, &frame, &made.cliques, 1, 1)?.as_str(),
         "299/1111 "
     );
     Ok(())
@@ -163,11 +161,11 @@ fn threads_find_what_one_thread_finds(rt: HostRuntime) -> Result<(), Fail> {
     let made = after_in_threads(&rt, alloc, &frame, &SLOWER)?;
     assert_eq!(rt; made.searches, 1);
     assert_eq!(rt;
-        row_told(&rt, alloc, &frame, &made.cliques, 1, 1)?.as_str(),
+        walks_told(&rt, alloc, &frame, &made.cliques, 1, 1)?.as_str(),
         "399/1111 "
     );
     assert_eq!(rt;
-        row_told(&rt, alloc, &frame, &made.cliques, 1, 2)?.as_str(),
+        walks_told(&rt, alloc, &frame, &made.cliques, 1, 2)?.as_str(),
         "299/1111 "
     );
     Ok(())

@@ -10,8 +10,8 @@ ghost use Rattle.cell_frame.specs.Cliqued.{AreExact};
 use cell_customize::customize;
 use cell_frame::{Cliques, Frame};
 use cell_partition::cells;
-use cost_lists::{CostList, FullCostList};
-use search_graph::{DurLen, Graph, Start, Target, Weights, small_weights};
+use cost_lists::{CostList, CostRow, FullCostList};
+use search_graph::{DurLen, Graph, GraphFault, Start, Target, Weights, small_weights};
 use std::alloc::{AllocError, Global};
 use std::process::Abort;
 use std::test::Fail;
@@ -63,11 +63,24 @@ pub const RING_OF_TEN: Drawing = Drawing {
 };
 
 // The whole number that a text is.
-fn number(rt: &impl Abort, text: Option<&str>) -> u32 {
-    let Some(Ok(number)) = text.map(|text| text.parse::<u32>()) else {
+fn number(rt: &impl Abort, text: Option<&str>) -> u64 {
+    let Some(Ok(number)) = text.map(|text| text.parse::<u64>()) else {
         panic!(rt; "a number");
     };
     number
+}
+
+/// The two numbers of an entry.
+pub fn pair(rt: &impl Abort, entry: &str, between: char) -> (u64, u64) {
+    let mut parts = entry.split(between);
+    (number(rt, parts.next()), number(rt, parts.next()))
+}
+
+// The two numbers of an entry, as `u32`.
+fn short_pair(rt: &impl Abort, entry: &str, between: char) -> (u32, u32) {
+    let (one, other) = pair(rt, entry, between);
+    assert!(rt; one <= 4294967295 && other <= 4294967295);
+    (one as u32, other as u32)
 }
 
 // The two numbers of each entry of a list.
@@ -79,8 +92,7 @@ fn pairs(
 ) -> Result<Vec<(u32, u32)>, AllocError> {
     let mut pairs = Vec::new(alloc);
     for entry in list.split(' ') {
-        let mut parts = entry.split(between);
-        pairs.push((number(rt, parts.next()), number(rt, parts.next())))?;
+        pairs.push(short_pair(rt, entry, between))?;
     }
     Ok(pairs)
 }
@@ -92,10 +104,11 @@ fn cost_of(rt: &impl Abort, text: &str) -> Option<DurLen>
     if text == "-" {
         return None;
     }
-    let mut parts = text.split('/');
-    let duration = number(rt, parts.next()) as u64;
-    let length = number(rt, parts.next()) as u64;
-    Some(DurLen { duration, length })
+    let (duration, length) = short_pair(rt, text, '/');
+    Some(DurLen {
+        duration: duration as u64,
+        length: length as u64,
+    })
 }
 
 fn vertex_costs(rt: &impl Abort, alloc: Global, list: &str) -> Result<CostList<DurLen>, AllocError>
@@ -153,12 +166,23 @@ pub fn weights(
     Ok(small_weights(graph, vertex, arc))
 }
 
+/// The graph of arcs, each as `tail-head`.
+pub fn graph_of(
+    rt: &impl Abort,
+    alloc: Global,
+    vertices: u32,
+    arcs: &str,
+) -> Result<Graph, GraphFault> {
+    let arcs = pairs(rt, alloc, arcs, '-')?;
+    assert!(rt; arcs.len() <= 1000);
+    Graph::of(alloc, vertices, &arcs)
+}
+
 /// The graph of a drawing.
 pub fn graph(rt: &impl Abort, alloc: Global, drawing: &Drawing) -> Result<Graph, Fail> {
     let vertices = pairs(rt, alloc, drawing.vertices, ',')?.len();
-    let arcs = pairs(rt, alloc, drawing.arcs, '-')?;
-    assert!(rt; vertices <= 1000 && arcs.len() <= 1000);
-    Ok(Graph::of(alloc, vertices as u32, &arcs)?)
+    assert!(rt; vertices <= 1000);
+    Ok(graph_of(rt, alloc, vertices as u32, drawing.arcs)?)
 }
 
 // A number as a coordinate.
@@ -194,11 +218,11 @@ fn end(rt: &impl Abort, vertices: u32, entry: &str) -> (u32, DurLen)
 {
     let mut parts = entry.split(':');
     let vertex = number(rt, parts.next());
-    assert!(rt; vertex < vertices);
+    assert!(rt; vertex < vertices as u64);
     let Some(Some(cost)) = parts.next().map(|text| cost_of(rt, text)) else {
         panic!(rt; "each end has a cost");
     };
-    (vertex, cost)
+    (vertex as u32, cost)
 }
 
 /// The starts of a list, each as `vertex:cost`.
@@ -248,6 +272,15 @@ pub fn costs_told(alloc: Global, costs: &[Option<DurLen>]) -> Result<String, All
     let mut text = String::new(alloc);
     for cost in costs {
         text.push_str(cost_told(alloc, *cost)?.as_str())?;
+    }
+    Ok(text)
+}
+
+/// The costs of a row, each with a blank behind it.
+pub fn row_told(alloc: Global, row: &CostRow<'_, DurLen>) -> Result<String, AllocError> {
+    let mut text = String::new(alloc);
+    for place in 0..row.len() {
+        text.push_str(cost_told(alloc, row.get(place))?.as_str())?;
     }
     Ok(text)
 }

@@ -7,7 +7,11 @@ mod changes;
 #[cfg(test)]
 mod cliques;
 #[cfg(test)]
+mod costs;
+#[cfg(test)]
 mod drawings;
+#[cfg(test)]
+mod graphs;
 #[cfg(test)]
 mod partitions;
 #[cfg(test)]

@@ -96,7 +96,10 @@ fn cheapest_told(
 fn shortcuts_of_both_levels_are_opened(rt: HostRuntime) -> Result<(), Fail> {
     let ring = cut(&rt, rt.alloc(), &RING_OF_TEN, &[3, 5])?;
     let told = unpacked_told(&rt, rt.alloc(), &ring, "4:5/0", "3:2/2")?;
-    assert_eq!(rt; told.as_str(), "91/12 4 5 9[2.1] 0 2[1.0] 3 is 4 5 6 7 9 0 1 2 3 ");
+    assert_eq!(rt;
+        told.as_str(),
+        "91/12 4 5 9[2.1] 0 2[1.0] 3 is 4 5 6 7 9 0 1 2 3 "
+    );
     Ok(())
 }
 

@@ -1,0 +1,98 @@
+//! Lists of costs.
+
+ghost use Rattle.std.specs.Prelude.{◌≤◌, length};
+
+use crate::drawings::{cost_told, pair, row_told};
+use cost_lists::CostList;
+use search_graph::DurLen;
+use std::alloc::{AllocError, Global};
+use std::process::Abort;
+use std::test::Fail;
+
+/// The last that are short, the first that aren't, and none.
+const COSTS: &str =
+    "7/12 - 2147483647/4294967295 2147483648/0 0/4294967296 18446744073709551615/18446744073709551615 0/0";
+
+// The cost that a text tells, None for `-`.
+fn cost(rt: &impl Abort, text: &str) -> Option<DurLen> {
+    if text == "-" {
+        return None;
+    }
+    let (duration, length) = pair(rt, text, '/');
+    Some(DurLen { duration, length })
+}
+
+// Puts costs at the end of a list.
+fn push_all(rt: &impl Abort, list: &mut CostList<DurLen>, costs: &str) -> Result<(), AllocError> {
+    for text in costs.split(' ') {
+        list.push(cost(rt, text))?;
+    }
+    Ok(())
+}
+
+// How many costs there are, and which, each with a blank behind it.
+fn list_told(alloc: Global, list: &CostList<DurLen>) -> Result<String, AllocError> {
+    let mut text = format!(in alloc; "{}: ", list.len())?;
+    for i in 0..list.len() {
+        text.push_str(cost_told(alloc, list.get(i))?.as_str())?;
+    }
+    Ok(text)
+}
+
+#[test]
+fn a_list_gives_back_what_was_put_in(rt: HostRuntime) -> Result<(), Fail> {
+    let mut list = CostList::new(rt.alloc());
+    push_all(&rt, &mut list, COSTS)?;
+    let told = list_told(rt.alloc(), &list)?;
+    let want = format!(in rt.alloc(); "7: {COSTS} ")?;
+    assert_eq!(rt; told.as_str(), want.as_str());
+    Ok(())
+}
+
+// The places of a list from one on and below another.
+fn part_told(
+    alloc: Global,
+    list: &CostList<DurLen>,
+    from: usize,
+    to: usize,
+) -> Result<String, AllocError>
+    requires from { from ≤ to }
+    requires to { to ≤ length list.now }
+{
+    let row = list.row(from, to);
+    if row.is_empty() {
+        return String::from_str(alloc, "none");
+    }
+    let mut text = format!(in alloc; "{}: ", row.len())?;
+    text.push_str(row_told(alloc, &row)?.as_str())?;
+    Ok(text)
+}
+
+#[test]
+fn a_row_has_its_places(rt: HostRuntime) -> Result<(), Fail> {
+    let mut list = CostList::with_capacity(rt.alloc(), 7)?;
+    push_all(&rt, &mut list, COSTS)?;
+    assert!(rt; list.len() == 7);
+    let want = "3: 2147483648/0 0/4294967296 18446744073709551615/18446744073709551615 ";
+    let told = part_told(rt.alloc(), &list, 3, 6)?;
+    assert_eq!(rt; told.as_str(), want);
+    let none = part_told(rt.alloc(), &list, 3, 3)?;
+    assert_eq!(rt; none.as_str(), "none");
+    Ok(())
+}
+
+#[test]
+fn lists_are_put_together_and_changed(rt: HostRuntime) -> Result<(), Fail> {
+    let mut one = CostList::new(rt.alloc());
+    push_all(&rt, &mut one, "2147483648/1")?;
+    let mut other = CostList::new(rt.alloc());
+    push_all(&rt, &mut other, "- 1/4294967296")?;
+    one.append(&other)?;
+    let told = list_told(rt.alloc(), &one)?;
+    assert_eq!(rt; told.as_str(), "3: 2147483648/1 - 1/4294967296 ");
+    assert!(rt; one.len() == 3);
+    one.set(0, cost(&rt, "5/6"))?;
+    let told = list_told(rt.alloc(), &one)?;
+    assert_eq!(rt; told.as_str(), "3: 5/6 - 1/4294967296 ");
+    Ok(())
+}
