@@ -15,19 +15,31 @@ fn point(lon: i64, lat: i64) -> Point {
 fn lengths_are_those_of_the_formulas(rt: HostRuntime) {
     let origin = point(0, 0);
     // A thousandth of a degree is 1111.95 decimetres at the equator, rounded down.
-    assert_eq!(rt; length(origin, point(0, 1000)), 1111);
-    assert_eq!(rt; length(origin, point(1000, 0)), 1111);
+    let (north, east) = (point(0, 1000), point(1000, 0));
+    assert_eq!(rt; (length(origin, north), length(origin, east)), (1111, 1111));
     // At 60 degrees a degree of longitude is half as long.
+    let (a, b) = (point(0, 60_000_000), point(1000, 60_000_000));
     assert_eq!(rt;
-        distance(point(0, 60_000_000), point(1000, 60_000_000)),
-        555
+        (
+            distance(a, b),
+            distance(origin, origin),
+            length(origin, origin)
+        ),
+        (555, 0, 1)
     );
-    assert_eq!(rt; distance(origin, origin), 0);
-    assert_eq!(rt; length(origin, origin), 1);
-    assert_eq!(rt; cosine(0), 65536);
-    assert_eq!(rt; cosine(-60_000_000), 32768);
-    assert_eq!(rt; cosine(90_000_000), 0);
-    assert_eq!(rt; plane(-3, 4, 65536), 107374182400);
+}
+
+#[test]
+fn planes_are_those_of_the_formulas(rt: HostRuntime) {
+    assert_eq!(rt;
+        (
+            cosine(0),
+            cosine(-60_000_000),
+            cosine(90_000_000),
+            plane(-3, 4, 65536)
+        ),
+        (65536, 32768, 0, 107374182400)
+    );
 }
 
 #[test]
@@ -45,10 +57,17 @@ fn places_are_the_nearest(rt: HostRuntime) {
         assert_eq!(rt; project(point(lon, lat), a, b), want, "at {lon}");
     }
     assert_eq!(rt; project(b, a, a), 0);
+}
+
+#[test]
+fn places_have_their_points(rt: HostRuntime) {
+    let (a, b) = (point(0, 0), point(1000, 0));
     let middle = point_at(a, b, 512);
-    assert_eq!(rt; (middle.lon, middle.lat), (500, 0));
     let back = point_at(b, point(997, -3), 512);
-    assert_eq!(rt; (back.lon, back.lat), (999, -1));
+    assert_eq!(rt;
+        (middle.lon, middle.lat, back.lon, back.lat),
+        (500, 0, 999, -1)
+    );
 }
 
 #[test]
