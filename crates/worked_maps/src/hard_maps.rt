@@ -24,8 +24,9 @@ fn restrict(
     members: &str,
 ) -> Result<(), AllocError> {
     for i in 0..50 {
-        let head = format!(in alloc; "r{first}{i} Ttype=restriction,restriction={value}")?;
-        text.push_str(format!(in alloc; "{head} Mw1@from,{members}\n")?.as_str())?;
+        let tags = "Ttype=restriction,restriction=";
+        let line = format!(in alloc; "r{first}{i} {tags}{value} Mw1@from,{members}\n")?;
+        text.push_str(line.as_str())?;
     }
     Ok(())
 }
