@@ -6,6 +6,7 @@ use crate::towns::{bend, crossing, objects_of, profile_of, to_and_fro};
 use edge_graph::{BuildFault, Network};
 use road_base::Object;
 use std::alloc::{AllocError, Global};
+use std::process::Abort;
 
 pub const CAR: &str =
     "name = \"car\"\nvehicle = \"motorcar\"\nbarriers = [\"bollard\"]\nu_turn_penalty = 200\n[speeds]\nresidential = 40\n";
@@ -65,6 +66,14 @@ fn a_way_has_both_directions_and_turns_back_at_its_ends(rt: HostRuntime) -> Resu
     Ok(())
 }
 
+// Asserts which turns the bend has. The network stands behind a reference, so that no assertion drops it.
+fn assert_turns(rt: &impl Abort, network: &Network) {
+    assert_eq!(rt; network.segments(), 2);
+    assert_eq!(rt; network.turn(0, 2), Some(0));
+    assert_eq!(rt; network.turn(3, 1), Some(3));
+    assert_eq!(rt; network.turn(0, 1), None);
+}
+
 #[test]
 fn a_turn_is_found_by_its_ends(rt: HostRuntime) -> Result<(), AllocError> {
     let alloc = rt.alloc();
@@ -72,10 +81,7 @@ fn a_turn_is_found_by_its_ends(rt: HostRuntime) -> Result<(), AllocError> {
     let Ok(network) = built else {
         return Err(AllocError);
     };
-    assert_eq!(rt; network.segments(), 2);
-    assert_eq!(rt; network.turn(0, 2), Some(0));
-    assert_eq!(rt; network.turn(3, 1), Some(3));
-    assert_eq!(rt; network.turn(0, 1), None);
+    assert_turns(&rt, &network);
     Ok(())
 }
 
