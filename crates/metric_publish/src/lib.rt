@@ -21,5 +21,3 @@ pub mod opening;
 pub mod rule;
 pub mod seat;
 pub mod shown;
-#[cfg(test)]
-mod tests;

@@ -1,4 +1,4 @@
-use Rattle.metric_publish.proofs.tests.four_seats_never_go_back.Given as goal
+use Rattle.worked_doors.proofs.publishing.four_seats_never_go_back.Given as goal
 
 -- the list that was just opened
 abbrev pub ghosts-race : goal.ghosts-race

@@ -1,4 +1,4 @@
-use Rattle.metric_publish.proofs.tests.numbers_end_at_4294967295.Given as goal
+use Rattle.worked_doors.proofs.publishing.numbers_end_at_4294967295.Given as goal
 
 -- the list that was just opened
 abbrev pub ghosts-publish_past_the_end : goal.ghosts-publish_past_the_end

@@ -1,13 +1,16 @@
-ghost use Rattle.std.specs.Prelude.{◌≡◌, ℕ};
+//! What is published at a desk or on the board of one thread, and what seats read of it.
 
-use crate::desk::DeskOf;
-use crate::entry::Kindred;
-use crate::held::{Receipt, Refused};
-use crate::history::{Naming, Opened};
-use crate::local_board::LocalBoard;
-use crate::meaning::{Publishing, Reading};
-use crate::opening::open;
-use crate::seat::Seat;
+ghost use Rattle.std.specs.Prelude.{◌≡◌};
+ghost use Rattle.worked_doors.specs.declared.publishing.Figure.{Figure};
+
+use metric_publish::desk::DeskOf;
+use metric_publish::entry::Kindred;
+use metric_publish::held::{Receipt, Refused};
+use metric_publish::history::{Naming, Opened};
+use metric_publish::local_board::LocalBoard;
+use metric_publish::meaning::{Publishing, Reading};
+use metric_publish::opening::open;
+use metric_publish::seat::Seat;
 use std::alloc::{AllocError, Global};
 use std::marker::Brand;
 use std::process::Abort;
@@ -21,8 +24,14 @@ const LAST: u32 = 305;
 
 const READS: u32 = 2000;
 
-// Any two numbers may stand in one list.
-impl Kindred for u64 {
+/// What is published.
+#[derive(Drop)]
+pub struct Figure {
+    pub value: u64,
+}
+
+// Any two may stand in one list.
+impl Kindred for Figure {
     ghost akin = { λ x y. Unit {0} };
 
     ghost itself = { λ x. tt };
@@ -30,13 +39,17 @@ impl Kindred for u64 {
     ghost together = { λ x y z a b. tt };
 }
 
+pub fn new_figure(alloc: Global, value: u64) -> Result<Arc<Figure>, AllocError> {
+    Ok(Arc::new(alloc, Figure { value })?)
+}
+
 // Publishes numbers under themselves. It returns how many were not published so.
-fn publish_numbers<R, D: Publishing<u64, R>>(rt: &R, alloc: Global, desk: &mut D) -> u32
-    requires { (x : ℕ) → D.kin desk.old x }
+fn publish_numbers<R, D: Publishing<Figure, R>>(rt: &R, alloc: Global, desk: &mut D) -> u32
+    requires { (x : Figure) → D.kin desk.old x }
 {
     let mut wrong = 0u32;
     for number in FIRST + 1..LAST + 1 {
-        let Ok(value) = Arc::new(alloc, u64::from(number)) else {
+        let Ok(value) = new_figure(alloc, u64::from(number)) else {
             return u32::MAX;
         };
         match desk.publish(rt, value) {
@@ -48,12 +61,12 @@ fn publish_numbers<R, D: Publishing<u64, R>>(rt: &R, alloc: Global, desk: &mut D
 }
 
 // Reads many times. It returns how many reads failed, went back or gave another value than their number.
-fn read_numbers<S: Reading<u64>>(seat: &mut S, times: u32) -> u32 {
+fn read_numbers<S: Reading<Figure>>(seat: &mut S, times: u32) -> u32 {
     let mut wrong = 0u32;
     let mut last = 0;
     for _ in 0..times {
         match seat.enter() {
-            Ok(held) if held.number() >= last && *held.value() == u64::from(held.number()) => {
+            Ok(held) if held.number() >= last && held.value().value == u64::from(held.number()) => {
                 last = held.number();
             }
             _ => wrong = wrong.saturating_add(1),
@@ -69,23 +82,23 @@ enum Told {
     Memory(u64),
 }
 
-fn answered(answer: Result<Receipt, Refused<u64>>) -> Told {
+fn answered(answer: Result<Receipt, Refused<Figure>>) -> Told {
     match answer {
         Ok(receipt) => Told::Published(receipt.number),
-        Err(Refused::Spent(back)) => Told::Spent(*back),
-        Err(Refused::Memory(back)) => Told::Memory(*back),
+        Err(Refused::Spent(back)) => Told::Spent(back.value),
+        Err(Refused::Memory(back)) => Told::Memory(back.value),
     }
 }
 
 #[derive(Drop)]
 struct Watch<J: Naming> {
-    seat: Seat<u64, J>,
+    seat: Seat<Figure, J>,
     wrong: u32,
 }
 
 fn watches_of<J: Naming>(
     alloc: Global,
-    seats: Vec<Seat<u64, J>>,
+    seats: Vec<Seat<Figure, J>>,
 ) -> Result<Vec<Watch<J>>, AllocError> {
     let mut watches = Vec::new(alloc);
     for seat in seats {
@@ -94,10 +107,10 @@ fn watches_of<J: Naming>(
     Ok(watches)
 }
 
-fn publish_at_desk<R: Wait, J: Naming>(rt: &R, alloc: Global, desk: &mut DeskOf<u64, J>) -> u32 {
+fn publish_at_desk<R: Wait, J: Naming>(rt: &R, alloc: Global, desk: &mut DeskOf<Figure, J>) -> u32 {
     let mut wrong = 0u32;
     for number in FIRST + 1..LAST + 1 {
-        let Ok(value) = Arc::new(alloc, u64::from(number)) else {
+        let Ok(value) = new_figure(alloc, u64::from(number)) else {
             return u32::MAX;
         };
         if answered(desk.publish(rt, value)) != Told::Published(number) {
@@ -112,7 +125,7 @@ fn look<J: Naming>(watch: &mut Watch<J>) {
 }
 
 // Each seat learns what the desk tells, and reads once more.
-fn settled<J: Naming>(desk: &DeskOf<u64, J>, watches: &mut Vec<Watch<J>>) -> u32 {
+fn settled<J: Naming>(desk: &DeskOf<Figure, J>, watches: &mut Vec<Watch<J>>) -> u32 {
     let mut settled = 0u32;
     for watch in watches.iter_mut() {
         watch.seat.learn(desk.tell());
@@ -127,12 +140,12 @@ fn settled<J: Naming>(desk: &DeskOf<u64, J>, watches: &mut Vec<Watch<J>>) -> u32
 fn race<R: Threads + Wait + Abort + Sync, J: Naming + Send + Sync>(
     rt: &R,
     alloc: Global,
-    opened: Opened<u64>,
+    opened: Opened<Figure>,
 ) -> Result<(), Fail>
     requires { opened.seen.book ≡ J.book }
 {
-    let first = Arc::new(alloc, u64::from(FIRST))?;
-    let (mut desk, seats) = open::<u64, J, R>(rt, alloc, opened, first, FIRST, 4)?;
+    let first = new_figure(alloc, u64::from(FIRST))?;
+    let (mut desk, seats) = open::<Figure, J, R>(rt, alloc, opened, first, FIRST, 4)?;
     let mut watches = match watches_of(alloc, seats) {
         Ok(watches) => watches,
         Err(_) => {
@@ -159,14 +172,14 @@ fn four_seats_never_go_back(rt: HostRuntime) -> Result<(), Fail> {
 fn publish_past_the_end<R: Wait + Abort, J: Naming>(
     rt: &R,
     alloc: Global,
-    opened: Opened<u64>,
+    opened: Opened<Figure>,
 ) -> Result<(), Fail>
     requires { opened.seen.book ≡ J.book }
 {
-    let first = Arc::new(alloc, 7u64)?;
-    let next = Arc::new(alloc, 8u64)?;
-    let last = Arc::new(alloc, 9u64)?;
-    let (mut desk, _seats) = open::<u64, J, R>(rt, alloc, opened, first, u32::MAX - 1, 1)?;
+    let first = new_figure(alloc, 7)?;
+    let next = new_figure(alloc, 8)?;
+    let last = new_figure(alloc, 9)?;
+    let (mut desk, _seats) = open::<Figure, J, R>(rt, alloc, opened, first, u32::MAX - 1, 1)?;
     let published = desk.publish(rt, next);
     let refused = desk.publish(rt, last);
     desk.end(rt);
@@ -183,7 +196,7 @@ fn numbers_end_at_4294967295(rt: HostRuntime) -> Result<(), Fail> {
 #[test]
 fn one_thread_reads_what_it_published(rt: HostRuntime) -> Result<(), Fail> {
     let alloc = rt.alloc();
-    let first = Arc::new(alloc, u64::from(FIRST))?;
+    let first = new_figure(alloc, u64::from(FIRST))?;
     let mut board = LocalBoard::of(alloc, first, FIRST)?;
     let before = read_numbers(&mut board, 2);
     let published = publish_numbers(&rt, alloc, &mut board);
@@ -196,10 +209,10 @@ fn one_thread_reads_what_it_published(rt: HostRuntime) -> Result<(), Fail> {
 #[test]
 fn the_numbers_of_one_thread_end_too(rt: HostRuntime) -> Result<(), Fail> {
     let alloc = rt.alloc();
-    let mut board = LocalBoard::of(alloc, Arc::new(alloc, 7u64)?, u32::MAX)?;
-    let refused = board.publish(Arc::new(alloc, 8u64)?);
+    let mut board = LocalBoard::of(alloc, new_figure(alloc, 7)?, u32::MAX)?;
+    let refused = board.publish(new_figure(alloc, 8)?);
     let held = board.enter()?;
     assert_eq!(rt; answered(refused), Told::Spent(8));
-    assert_eq!(rt; (held.number(), *held.value()), (u32::MAX, 7));
+    assert_eq!(rt; (held.number(), held.value().value), (u32::MAX, 7));
     Ok(())
 }
