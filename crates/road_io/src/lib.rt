@@ -24,6 +24,3 @@ pub use memory::{
     MemCloser, MemConn, MemDoor, MemFiles, MemSink, MemSource, NoDoors, SteadyFiles, SteadySink,
     SteadySource,
 };
-
-#[cfg(test)]
-mod tests;

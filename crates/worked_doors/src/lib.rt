@@ -3,4 +3,6 @@
 #![tactic(auto)]
 
 #[cfg(test)]
+mod forms_in_memory;
+#[cfg(test)]
 mod publishing;

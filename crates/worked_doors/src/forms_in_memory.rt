@@ -4,12 +4,12 @@
 ghost use Rattle.std.specs.Prelude.{All, IfOk};
 ghost use Rattle.road_io.specs.MemoryStates.{IsUnused};
 
-use crate::{
+use road_base::Text;
+use road_io::{
     Closer, Conn, Door, Doors, DoorsFault, Failed, FileFault, Files, Gate, MemCloser, MemConn,
     MemDoor, MemFiles, MemSink, MemSource, NoDoors, OpenGate, Opened, Sink, Source, SteadyFiles,
     SteadySink, SteadySource, put_all, put_whole, take_into,
 };
-use road_base::Text;
 use std::alloc::{AllocError, Global};
 
 fn source(
