@@ -16,6 +16,3 @@ pub use asking::{Announced, ControlHead, MOST_BYTES};
 pub use controlled::{Controlled, file_text, kind_text};
 pub use controls::{base_of_files, control};
 pub use replies::{BodyRoom, ReplyRoom};
-
-#[cfg(test)]
-mod tests;

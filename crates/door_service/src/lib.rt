@@ -25,6 +25,3 @@ mod workers;
 pub use posts::Post;
 pub use serving::{Served, serve};
 pub use sessions::{Controlling, Querying, Then};
-
-#[cfg(test)]
-mod tests;

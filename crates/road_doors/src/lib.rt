@@ -14,6 +14,3 @@ pub use flag_conns::FlagConn;
 pub use flags::{Flag, FlagGate};
 pub use mem_doors::{MemDoors, Returned};
 pub use steady_conns::SteadyConn;
-
-#[cfg(test)]
-mod tests;

@@ -9,6 +9,3 @@ mod serving;
 mod sessions;
 
 pub use serving::serve;
-
-#[cfg(test)]
-mod tests;

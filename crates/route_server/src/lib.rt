@@ -31,8 +31,3 @@ pub use controlling::Controlling;
 pub use http_session::Ended;
 pub use route_connections::serve_connection;
 pub use serving::serve_with;
-
-#[cfg(test)]
-mod control_tests;
-#[cfg(test)]
-mod tests;

@@ -1,35 +1,20 @@
 //! What no clause says: that the calls succeed with ample memory, in which order connections and doors come, and
 //! what the flags hold and set.
 
-ghost use Rattle.std.specs.Prelude.{◌≡◌, ◌≤◌, All, IfOk};
+ghost use Rattle.std.specs.Prelude.{◌≤◌, IfOk};
 ghost use Rattle.road_io.specs.DoorOpening.{IsNewDoor};
-ghost use Rattle.road_io.specs.MemoryStates.{conn_state};
-ghost use Rattle.road_io.specs.Views.{IsFreshConn};
 
-use crate::{Flag, FlagConn, FlagGate, MemDoors, QueueDoor, SteadyConn};
-use road_io::{
-    Closer, Door, Doors, DoorsFault, Gate, MemConn, MemSink, MemSource, Opened, Sink, Source,
-};
+use crate::flag_doors::{connection, flag};
+use road_doors::{FlagConn, FlagGate, MemDoors, QueueDoor, SteadyConn};
+use road_io::{Closer, Door, Doors, DoorsFault, Gate, MemConn, Opened, Sink, Source};
 use std::alloc::{AllocError, Global};
 use std::net::{Net, TcpListener, TcpStream};
 use std::sync::Arc;
 
 const TURNS: u64 = 1000;
 
-fn connection(alloc: Global, input: &[u8]) -> Result<MemConn, AllocError>
-    ensures { IfOk result (λ c. IsFreshConn (conn_state c)) }
-{
-    let source = MemSource::of(
-        Vec::from_slice(alloc, input)?,
-        Vec::new(alloc),
-        Vec::new(alloc),
-    );
-    Ok(MemConn::of(source, MemSink::of(alloc, 8, Vec::new(alloc))?))
-}
-
-fn flag(alloc: Global) -> Result<Arc<Flag>, AllocError> {
-    Ok(Arc::new(alloc, Flag::new())?)
-}
+/// How much output a connection has room for.
+const ROOM: usize = 8;
 
 // Takes one byte of the next connection, puts it, and finishes the connection.
 fn echo_one<D: Door>(door: &mut D) -> Option<u8>
@@ -56,8 +41,8 @@ fn echo_one<D: Door>(door: &mut D) -> Option<u8>
 fn connections_come_in_order_until_the_door_ends(rt: HostRuntime) -> Result<(), AllocError> {
     let alloc = rt.alloc();
     let mut connections = Vec::new(alloc);
-    connections.push(connection(alloc, b"a")?)?;
-    connections.push(connection(alloc, b"b")?)?;
+    connections.push(connection(alloc, b"a", ROOM)?)?;
+    connections.push(connection(alloc, b"b", ROOM)?)?;
     let mut door = QueueDoor::of(alloc, connections, vec![in alloc; 3_u64]?)?;
     assert_eq!(rt; echo_one(&mut door), Some(b'a'));
     assert_eq!(rt; echo_one(&mut door), Some(b'b'));
@@ -77,7 +62,7 @@ fn a_put_sets_one_flag_and_a_take_waits_for_another(rt: HostRuntime) -> Result<(
     let wait = flag(alloc)?;
     let set = flag(alloc)?;
     let mut conn = FlagConn::of(
-        connection(alloc, b"abc")?,
+        connection(alloc, b"abc", ROOM)?,
         Arc::try_clone(&wait)?,
         TURNS,
         Arc::try_clone(&set)?,
@@ -92,7 +77,7 @@ fn a_put_sets_one_flag_and_a_take_waits_for_another(rt: HostRuntime) -> Result<(
     assert_eq!(rt; conn.take(&mut piece), Ok(3));
     assert!(rt; !conn.is_late());
     let never = flag(alloc)?;
-    let late = FlagConn::of(connection(alloc, b"abc")?, never, TURNS, set, 9);
+    let late = FlagConn::of(connection(alloc, b"abc", ROOM)?, never, TURNS, set, 9);
     let mut waiting = Vec::new(alloc);
     waiting.push(late)?;
     let mut door = QueueDoor::of(alloc, waiting, Vec::new(alloc))?;
@@ -141,7 +126,7 @@ fn door(alloc: Global, input: &[u8]) -> Result<QueueDoor<MemConn>, AllocError>
     ensures { IfOk result IsNewDoor }
 {
     let mut connections = Vec::new(alloc);
-    connections.push(connection(alloc, input)?)?;
+    connections.push(connection(alloc, input, ROOM)?)?;
     QueueDoor::of(alloc, connections, Vec::new(alloc))
 }
 

@@ -1,26 +1,17 @@
-//! Connections in memory over a town of three nodes and one way.
+//! Query connections in memory over a town.
 
 ghost use Rattle.std.specs.Prelude.{◌≤◌};
 
-use crate::{Ended, serve_connection};
-use customized::{Metric, Roads, SERVER_LIMITS};
-use edge_graph::Network;
+use crate::connections::{ROOM, in_pieces};
+use crate::towns::{board, roads};
+use customized::Roads;
 use http_head::HEAD_BAD;
-use metric_make::base;
-use metric_publish::local_board::LocalBoard;
-use opl_read::read;
-use road_io::{MemConn, MemSink, MemSource, OpenGate};
+use road_io::{MemConn, OpenGate};
+use route_server::{Ended, serve_connection};
 use snap_index::Grid;
 use std::alloc::{AllocError, Global};
-use std::sync::Arc;
+use std::process::Abort;
 use std::thread::Threads;
-use way_profile::Profile;
-
-const TOWN: &[u8] =
-    b"n1 x0 y0\nn2 x0 y0.001\nn3 x0.001 y0.001\nw10 Thighway=residential Nn1,n2,n3\n";
-
-const SETTINGS: &[u8] =
-    b"name = \"car\"\nvehicle = \"motorcar\"\nu_turn_penalty = 200\n[speeds]\nresidential = 40\n";
 
 /// A request for a route, and the same that asks to close.
 const TWO_ROUTES: &[u8] =
@@ -38,37 +29,19 @@ const NO_PATH: &[u8] =
 const NO_PATH_CLOSE: &[u8] =
     b"HTTP/1.1 400 Bad Request\r\nContent-Type: application/json; charset=utf-8\r\nContent-Length: 38\r\nConnection: close\r\n\r\n{\"code\":\"InvalidUrl\",\"message\":\"path\"}";
 
-/// How much output a test has room for, where it is not about that.
-pub(crate) const ROOM: usize = 100000;
-
-pub(crate) fn network(alloc: Global) -> Result<Network, AllocError> {
-    let Ok(objects) = read(alloc, TOWN) else {
-        return Err(AllocError);
-    };
-    let Ok(profile) = Profile::read(alloc, SETTINGS) else {
-        return Err(AllocError);
-    };
-    match Network::build(alloc, &objects, &profile) {
-        Ok(network) => Ok(network),
-        Err(_) => Err(AllocError),
-    }
-}
-
-/// A connection with this input, which comes in pieces of this size at most, and room for so much output.
-pub(crate) fn conn(
+// How a connection ends that is served on a board of these roads.
+fn ended_on(
+    rt: &(impl Threads + Sync),
     alloc: Global,
-    input: &[u8],
-    piece: usize,
-    room: usize,
-) -> Result<MemConn, AllocError> {
-    let input = Vec::from_slice(alloc, input)?;
-    let pieces = Vec::from_slice(alloc, [piece].as_slice())?;
-    let source = MemSource::of(input, pieces, Vec::new(alloc));
-    let sink = MemSink::of(alloc, room, Vec::new(alloc))?;
-    Ok(MemConn::of(source, sink))
+    roads: &Roads,
+    conn: &mut MemConn,
+) -> Result<Ended, AllocError> {
+    let grid = Grid::of(alloc, roads.network())?;
+    let mut board = board(rt, alloc, roads, 0)?;
+    Ok(serve_connection(rt, alloc, 0, &mut board, &OpenGate, &grid, conn))
 }
 
-/// How such a connection ends, and its output.
+/// How a connection with this input ends, and its output.
 fn served(
     rt: &(impl Threads + Sync),
     alloc: Global,
@@ -76,23 +49,38 @@ fn served(
     piece: usize,
     room: usize,
 ) -> Result<(Ended, Vec<u8>), AllocError> {
-    let network = network(alloc)?;
-    let grid = Grid::of(alloc, &network)?;
-    let roads = Roads::of(alloc, network, &SERVER_LIMITS)?;
-    let base = base(alloc, roads.network())?;
-    let metric = Metric::make(rt, alloc, &roads, base)?;
-    let mut board = LocalBoard::of(alloc, Arc::new(alloc, metric)?, 0)?;
-    let mut conn = conn(alloc, input, piece, room)?;
-    let ended = serve_connection(rt, alloc, 0, &mut board, &OpenGate, &grid, &mut conn);
+    let roads = roads(alloc)?;
+    let mut conn = in_pieces(alloc, input, piece, room)?;
+    let ended = ended_on(rt, alloc, &roads, &mut conn)?;
     Ok((ended, Vec::from_slice(alloc, conn.output())?))
+}
+
+// Asserts how a connection ends, and its output.
+fn assert_served(
+    rt: &(impl Threads + Abort + Sync),
+    alloc: Global,
+    input: &[u8],
+    piece: usize,
+    end: Ended,
+    replies: &[u8],
+) -> Result<(), AllocError> {
+    let (ended, output) = served(rt, alloc, input, piece, ROOM)?;
+    assert_eq!(rt; ended, end);
+    assert_eq!(rt; output.as_slice(), replies);
+    Ok(())
 }
 
 #[test]
 fn two_requests_are_answered_in_any_pieces(rt: HostRuntime) -> Result<(), AllocError> {
     for piece in [TWO_ROUTES.len(), 1] {
-        let (ended, output) = served(&rt, rt.alloc(), TWO_ROUTES, piece, ROOM)?;
-        assert_eq!(rt; ended, Ended::Closed);
-        assert_eq!(rt; output.as_slice(), TWO_REPLIES);
+        assert_served(
+            &rt,
+            rt.alloc(),
+            TWO_ROUTES,
+            piece,
+            Ended::Closed,
+            TWO_REPLIES,
+        )?;
     }
     Ok(())
 }
@@ -108,9 +96,14 @@ const NEAREST_REPLIES: &[u8] =
 #[test]
 fn the_nearest_place_is_answered_twice(rt: HostRuntime) -> Result<(), AllocError> {
     for piece in [NEAREST_TWICE.len(), 1] {
-        let (ended, output) = served(&rt, rt.alloc(), NEAREST_TWICE, piece, ROOM)?;
-        assert_eq!(rt; ended, Ended::EndOfInput);
-        assert_eq!(rt; output.as_slice(), NEAREST_REPLIES);
+        assert_served(
+            &rt,
+            rt.alloc(),
+            NEAREST_TWICE,
+            piece,
+            Ended::EndOfInput,
+            NEAREST_REPLIES,
+        )?;
     }
     Ok(())
 }
@@ -132,30 +125,53 @@ fn head_of_size(alloc: Global, size: usize) -> Result<Vec<u8>, AllocError>
 fn a_head_of_8192_bytes_is_answered_and_none_longer(rt: HostRuntime) -> Result<(), AllocError> {
     let longest = head_of_size(rt.alloc(), 8192)?;
     assert_eq!(rt; longest.len(), 8192);
-    let (ended, output) = served(&rt, rt.alloc(), &longest, 8192, ROOM)?;
-    assert_eq!(rt; ended, Ended::EndOfInput);
-    assert_eq!(rt; output.as_slice(), NO_PATH);
-
+    assert_served(&rt, rt.alloc(), &longest, 8192, Ended::EndOfInput, NO_PATH)?;
     let too_long = head_of_size(rt.alloc(), 8193)?;
-    let (ended, output) = served(&rt, rt.alloc(), &too_long, 8192, ROOM)?;
-    assert_eq!(rt; ended, Ended::HeadBad);
-    assert_eq!(rt; output.as_slice(), HEAD_BAD);
+    assert_served(&rt, rt.alloc(), &too_long, 8192, Ended::HeadBad, HEAD_BAD)
+}
+
+// Inputs, each with how its connection ends, and a name for its output. A bar stands between each two parts, and a
+// dollar sign between each two rows: one text, since a proof takes time for each value of a list.
+const ENDS: &str = "|EndOfInput|nothing$\
+GET /nea|CutShort|nothing$\
+GET / HTTP/1.1\r\n\r\n|EndOfInput|no path$\
+GET / HTTP/1.0\r\n\r\nGET|Closed|no path, close$\
+POST / HTTP/1.1\r\n\r\n|HeadBad|head bad";
+
+fn output_named(rt: &impl Abort, name: &str) -> &'static [u8] {
+    match name {
+        "nothing" => b"",
+        "no path" => NO_PATH,
+        "no path, close" => NO_PATH_CLOSE,
+        "head bad" => HEAD_BAD,
+        _ => panic!(rt; "a name of an output"),
+    }
+}
+
+// Asserts how the connection of a case ends, and its output.
+fn assert_end(
+    rt: &(impl Threads + Abort + Sync),
+    alloc: Global,
+    input: &str,
+    end: &str,
+    name: &str,
+) -> Result<(), AllocError> {
+    let (ended, output) = served(rt, alloc, input.as_bytes(), 3, ROOM)?;
+    assert_eq!(rt; format!(in alloc; "{ended:?}")?.as_str(), end, "{input:?}");
+    assert_eq!(rt; output.as_slice(), output_named(rt, name), "{input:?}");
     Ok(())
 }
 
 #[test]
 fn each_input_has_its_end(rt: HostRuntime) -> Result<(), AllocError> {
-    let cases: [(&[u8], Ended, &[u8]); 5] = [
-        (b"", Ended::EndOfInput, b""),
-        (b"GET /nea", Ended::CutShort, b""),
-        (b"GET / HTTP/1.1\r\n\r\n", Ended::EndOfInput, NO_PATH),
-        (b"GET / HTTP/1.0\r\n\r\nGET", Ended::Closed, NO_PATH_CLOSE),
-        (b"POST / HTTP/1.1\r\n\r\n", Ended::HeadBad, HEAD_BAD),
-    ];
-    for (input, end, replies) in cases {
-        let (ended, output) = served(&rt, rt.alloc(), input, 3, ROOM)?;
-        assert_eq!(rt; ended, end, "{input:?}");
-        assert_eq!(rt; output.as_slice(), replies, "{input:?}");
+    for row in ENDS.split('$') {
+        let mut parts = row.split('|');
+        match (parts.next(), parts.next(), parts.next()) {
+            (Some(input), Some(end), Some(name)) => {
+                assert_end(&rt, rt.alloc(), input, end, name)?;
+            }
+            _ => panic!(rt; "a row of three"),
+        }
     }
     Ok(())
 }
@@ -182,8 +198,5 @@ fn the_hundredth_reply_closes(rt: HostRuntime) -> Result<(), AllocError> {
     let input = repeated(rt.alloc(), b"GET / HTTP/1.1\r\n\r\n", 101)?;
     let mut replies = repeated(rt.alloc(), NO_PATH, 99)?;
     replies.extend_from_slice(NO_PATH_CLOSE)?;
-    let (ended, output) = served(&rt, rt.alloc(), &input, 8192, ROOM)?;
-    assert_eq!(rt; ended, Ended::Closed);
-    assert_eq!(rt; output.as_slice(), replies.as_slice());
-    Ok(())
+    assert_served(&rt, rt.alloc(), &input, 8192, Ended::Closed, &replies)
 }

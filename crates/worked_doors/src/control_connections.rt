@@ -1,19 +1,13 @@
-//! Control connections in memory over a town of three nodes and one way. Expected texts are this project's rules.
+//! Control connections in memory over a town. Expected texts are this project's rules.
 
-ghost use Rattle.std.specs.Prelude.{IfOk};
-ghost use Rattle.control_port.specs.Controlling.{IsOn};
-ghost use Rattle.customized.specs.Exact.{Customized};
-ghost use Rattle.metric_publish.specs.History.{IsKin};
-
-use crate::tests::{ROOM, conn, network};
-use crate::{ControlEnded, Ended, serve_control};
-use customized::{Metric, Roads, SERVER_LIMITS};
+use crate::connections::{ROOM, in_pieces};
+use crate::towns::{board, roads};
+use customized::Roads;
 use http_head::HEAD_BAD;
-use metric_make::base;
-use metric_publish::entry::Kindred;
-use metric_publish::local_board::LocalBoard;
+use road_io::MemConn;
+use route_server::{ControlEnded, Ended, serve_control};
 use std::alloc::{AllocError, Global};
-use std::sync::Arc;
+use std::process::Abort;
 use std::thread::Threads;
 
 /// A metric with a faulty row, a metric of one row, and a stop.
@@ -36,18 +30,16 @@ const BAD_REQUEST: &[u8] =
 const STOPPING: &[u8] =
     b"HTTP/1.1 200 OK\r\nContent-Type: application/json; charset=utf-8\r\nContent-Length: 29\r\nConnection: close\r\n\r\n{\"code\":\"Ok\",\"stopping\":true}";
 
-// A board of these roads, opened by the profile alone.
-fn board(
+// How a control connection ends that is served on a board of these roads, and the number that was published last.
+fn ended_on(
     rt: &(impl Threads + Sync),
     alloc: Global,
     roads: &Roads,
-) -> Result<LocalBoard<Metric>, AllocError>
-    ensures { IfOk result (λ board. (x : Customized) → IsOn roads.now x → IsKin ⟦<Metric as Kindred>⟧.akin board.page.token.log x) }
-{
-    let base = base(alloc, roads.network())?;
-    let metric = Metric::make(rt, alloc, roads, base)?;
-    let shared = Arc::new(alloc, metric)?;
-    LocalBoard::of(alloc, shared, 0)
+    conn: &mut MemConn,
+) -> Result<(ControlEnded, u32), AllocError> {
+    let mut desk = board(rt, alloc, roads, 0)?;
+    let ended = serve_control(rt, alloc, &mut desk, roads, conn);
+    Ok((ended, desk.enter()?.number()))
 }
 
 /// How a control connection with this input ends, its output, and the number that was published last.
@@ -58,12 +50,10 @@ fn controlled(
     piece: usize,
     room: usize,
 ) -> Result<(ControlEnded, Vec<u8>, u32), AllocError> {
-    let roads = Roads::of(alloc, network(alloc)?, &SERVER_LIMITS)?;
-    let mut desk = board(rt, alloc, &roads)?;
-    let mut conn = conn(alloc, input, piece, room)?;
-    let ended = serve_control(rt, alloc, &mut desk, &roads, &mut conn);
-    let output = Vec::from_slice(alloc, conn.output())?;
-    Ok((ended, output, desk.enter()?.number()))
+    let roads = roads(alloc)?;
+    let mut conn = in_pieces(alloc, input, piece, room)?;
+    let (ended, number) = ended_on(rt, alloc, &roads, &mut conn)?;
+    Ok((ended, Vec::from_slice(alloc, conn.output())?, number))
 }
 
 #[test]
@@ -77,42 +67,56 @@ fn control_requests_are_answered_in_any_pieces(rt: HostRuntime) -> Result<(), Al
     Ok(())
 }
 
+// Inputs, each with how its connection ends, and a name for its output. A bar stands between each two parts, and a
+// dollar sign between each two rows: one text, since a proof takes time for each value of a list.
+const ENDS: &str = "|EndOfInput|nothing$\
+POST /con|CutShort|nothing$\
+\x20POST|HeadBad|head bad$\
+POST /control/v1/metric?speeds=0 HTTP/1.1\r\nContent-Length: 5\r\n\r\n1,2|CutShort|nothing$\
+GET /control/v1/stop HTTP/1.1\r\n\r\n|Closed|bad request$\
+POST /control/v1/metric?speeds=23 HTTP/1.1\r\nContent-Length: 22\r\n\r\n1,2,20\n|Closed|bad request$\
+POST /control/v1/metric?speeds=0 HTTP/1.1\r\nContent-Length: 67108865\r\n\r\n|Closed|bad request$\
+POST /control/v1/metric?speeds=0 HTTP/1.0\r\nContent-Length: 0\r\n\r\nPOST|Closed|published, close";
+
+fn output_named(rt: &impl Abort, name: &str) -> &'static [u8] {
+    match name {
+        "nothing" => b"",
+        "head bad" => HEAD_BAD,
+        "bad request" => BAD_REQUEST,
+        "published, close" => PUBLISHED_CLOSE,
+        _ => panic!(rt; "a name of an output"),
+    }
+}
+
+// Asserts how the connection of a case ends, and its output.
+fn assert_end(
+    rt: &(impl Threads + Abort + Sync),
+    alloc: Global,
+    input: &str,
+    end: &str,
+    name: &str,
+) -> Result<(), AllocError> {
+    let (ended, output, _) = controlled(rt, alloc, input.as_bytes(), 3, ROOM)?;
+    let want = format!(in alloc; "Other({end})")?;
+    assert_eq!(rt;
+        format!(in alloc; "{ended:?}")?.as_str(),
+        want.as_str(),
+        "{input:?}"
+    );
+    assert_eq!(rt; output.as_slice(), output_named(rt, name), "{input:?}");
+    Ok(())
+}
+
 #[test]
 fn each_control_input_has_its_end(rt: HostRuntime) -> Result<(), AllocError> {
-    let cases: [(&[u8], Ended, &[u8]); 8] = [
-        (b"", Ended::EndOfInput, b""),
-        (b"POST /con", Ended::CutShort, b""),
-        (b" POST", Ended::HeadBad, HEAD_BAD),
-        (
-            b"POST /control/v1/metric?speeds=0 HTTP/1.1\r\nContent-Length: 5\r\n\r\n1,2",
-            Ended::CutShort,
-            b"",
-        ),
-        (
-            b"GET /control/v1/stop HTTP/1.1\r\n\r\n",
-            Ended::Closed,
-            BAD_REQUEST,
-        ),
-        (
-            b"POST /control/v1/metric?speeds=23 HTTP/1.1\r\nContent-Length: 22\r\n\r\n1,2,20\n",
-            Ended::Closed,
-            BAD_REQUEST,
-        ),
-        (
-            b"POST /control/v1/metric?speeds=0 HTTP/1.1\r\nContent-Length: 67108865\r\n\r\n",
-            Ended::Closed,
-            BAD_REQUEST,
-        ),
-        (
-            b"POST /control/v1/metric?speeds=0 HTTP/1.0\r\nContent-Length: 0\r\n\r\nPOST",
-            Ended::Closed,
-            PUBLISHED_CLOSE,
-        ),
-    ];
-    for (input, end, replies) in cases {
-        let (ended, output, _) = controlled(&rt, rt.alloc(), input, 3, ROOM)?;
-        assert_eq!(rt; ended, ControlEnded::Other(end), "{input:?}");
-        assert_eq!(rt; output.as_slice(), replies, "{input:?}");
+    for row in ENDS.split('$') {
+        let mut parts = row.split('|');
+        match (parts.next(), parts.next(), parts.next()) {
+            (Some(input), Some(end), Some(name)) => {
+                assert_end(&rt, rt.alloc(), input, end, name)?;
+            }
+            _ => panic!(rt; "a row of three"),
+        }
     }
     Ok(())
 }

@@ -1,4 +1,4 @@
-use Rattle.door_service.proofs.tests.workers_run_beside_each_other_and_beside_the_desk.Given as goal
+use Rattle.worked_doors.proofs.serving.workers_run_beside_each_other_and_beside_the_desk.Given as goal
 
 -- the list that was just opened
 abbrev pub ghosts-serve_once : goal.ghosts-serve_once
