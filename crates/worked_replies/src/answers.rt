@@ -193,11 +193,10 @@ fn told_at(
 ) -> Result<String, ReplyFault> {
     let target = Asked::Target("/route/v1/car/0,0;0.001,0.001?overview=false&since=5");
     let answer = ask_at(rt, alloc, town, number, target)?;
-    let text = if answer.code == Code::Ok {
-        ""
-    } else {
-        answer.text.as_str()
-    };
+    if answer.code == Code::Ok {
+        return Ok(format!(in alloc; "{} Ok", answer.status)?);
+    }
+    let text = answer.text.as_str();
     Ok(format!(in alloc; "{} {:?} {text}", answer.status, answer.code)?)
 }
 
@@ -209,7 +208,7 @@ fn a_request_ahead_of_the_metric_is_told_so(rt: HostRuntime) -> Result<(), Reply
     let early = told_at(&rt, rt.alloc(), CORNER, 4)?;
     assert_eq!(rt; early.as_str(), AHEAD);
     let due = told_at(&rt, rt.alloc(), CORNER, 5)?;
-    assert_eq!(rt; due.as_str(), "200 Ok ");
+    assert_eq!(rt; due.as_str(), "200 Ok");
     // it comes before a coordinate without a place
     let nowhere = told_at(&rt, rt.alloc(), DESERT, 4)?;
     assert_eq!(rt; nowhere.as_str(), AHEAD);
