@@ -15,6 +15,7 @@ use metric_make::base;
 use road_base::Object;
 use search_graph::DurLen;
 use std::alloc::{AllocError, Global};
+use std::process::Abort;
 use std::thread::Threads;
 
 // Vertices, each with a blank behind it.
@@ -98,17 +99,32 @@ pub fn customized(
     Metric::make(rt, alloc, &roads, base)
 }
 
+// What the metric of two streets that meet at a bend is, cut into cells by these limits.
+fn bend_told(
+    rt: &(impl Threads + Sync),
+    alloc: Global,
+    limits: &[u32],
+) -> Result<String, AllocError>
+    requires ascending { IsStrictlyIncreasing limits.now }
+    requires some { All (λ limit. 1 ≤ limit) limits.now }
+{
+    let metric = customized(rt, alloc, &bend(alloc, "")?, limits)?;
+    told(alloc, &metric)
+}
+
 // A way into a street and out again turns back at its end. Above both streets nothing is entered or left.
 #[test]
 fn a_way_into_a_street_turns_back_at_its_end(rt: HostRuntime) -> Result<(), AllocError> {
     let alloc = rt.alloc();
-    let streets = "0 0 1 1 | 1 to 0 299/1111 | 2 to 3 299/1111 ; ";
-    let one = customized(&rt, alloc, &bend(alloc, "")?, &[2])?;
-    assert_eq!(rt; told(alloc, &one)?.as_str(), streets);
-    let two = customized(&rt, alloc, &bend(alloc, "")?, &[2, 4])?;
+    let one = bend_told(&rt, alloc, &[2])?;
     assert_eq!(rt;
-        told(alloc, &two)?.as_str(),
-        format!(in alloc; "{streets}0 0 0 0 | to ; ")?.as_str()
+        one.as_str(),
+        "0 0 1 1 | 1 to 0 299/1111 | 2 to 3 299/1111 ; "
+    );
+    let two = bend_told(&rt, alloc, &[2, 4])?;
+    assert_eq!(rt;
+        two.as_str(),
+        "0 0 1 1 | 1 to 0 299/1111 | 2 to 3 299/1111 ; 0 0 0 0 | to ; "
     );
     Ok(())
 }
@@ -132,12 +148,9 @@ fn a_street_round_a_block_is_cut_by_its_segments(rt: HostRuntime) -> Result<(), 
     Ok(())
 }
 
-// What an answer is given is the metric's own.
-#[test]
-fn an_answer_is_given_the_metrics_own_parts(rt: HostRuntime) -> Result<(), AllocError> {
-    let alloc = rt.alloc();
-    let metric = customized(&rt, alloc, &bend(alloc, "")?, &[2])?;
-    metric.kin(&metric);
+// Asserts which parts the metric of the bend gives.
+fn assert_parts(rt: &impl Abort, metric: &Metric) {
+    metric.kin(metric);
     let under = metric.under();
     assert_eq!(rt;
         (under.network().segments(), under.network().turns()),
@@ -145,5 +158,13 @@ fn an_answer_is_given_the_metrics_own_parts(rt: HostRuntime) -> Result<(), Alloc
     );
     assert_eq!(rt; under.frame().levels(), 1);
     assert_eq!(rt; metric.network().segments(), 2);
+}
+
+// What an answer is given is the metric's own.
+#[test]
+fn an_answer_is_given_the_metrics_own_parts(rt: HostRuntime) -> Result<(), AllocError> {
+    let alloc = rt.alloc();
+    let metric = customized(&rt, alloc, &bend(alloc, "")?, &[2])?;
+    assert_parts(&rt, &metric);
     Ok(())
 }
