@@ -60,8 +60,22 @@ pub fn gate_of(flags: Flags) -> FlagGate {
     FlagGate::of(0, 0, arrived, answered, TURNS)
 }
 
-/// Puts a connection behind these with this input, which it gives once one flag is set, and room for so much output,
-/// of which the first byte sets another.
+/// A connection with this input, which it gives once one flag is set, and room for so much output, of which the first byte
+/// sets another.
+pub fn flag_conn(
+    alloc: Global,
+    input: &[u8],
+    room: usize,
+    wait: &Arc<Flag>,
+    set: &Arc<Flag>,
+) -> Result<FlagConn<MemConn>, AllocError>
+    ensures { IfOk result (λ c. IsFreshConn (conn_state c.conn)) }
+{
+    let conn = connection(alloc, input, room)?;
+    Ok(FlagConn::of(conn, Arc::try_clone(wait)?, TURNS, Arc::try_clone(set)?, 1))
+}
+
+/// Puts such a connection behind these.
 pub fn push_conn(
     alloc: Global,
     connections: &mut Vec<FlagConn<MemConn>>,
@@ -73,9 +87,7 @@ pub fn push_conn(
     requires { All (λ c. IsFreshConn (conn_state c.conn)) connections.old.items }
     ensures { OnOk result (All (λ c. IsFreshConn (conn_state c.conn)) connections.new.items) }
 {
-    let conn = connection(alloc, input, room)?;
-    let conn = FlagConn::of(conn, Arc::try_clone(wait)?, TURNS, Arc::try_clone(set)?, 1);
-    connections.push(conn)?;
+    connections.push(flag_conn(alloc, input, room, wait, set)?)?;
     Ok(())
 }
 
