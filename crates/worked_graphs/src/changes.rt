@@ -2,10 +2,10 @@
 
 use crate::drawings::{Drawing, STREETS, graph, vertices_told, weights};
 use search_graph::Graph;
-use std::alloc::Global;
+use std::alloc::{AllocError, Global};
 use std::process::Abort;
 use std::test::Fail;
-use weight_changes::changed;
+use weight_changes::{Changed, changed};
 
 /// The two streets, with the second way closed.
 const CLOSED: Drawing = Drawing {
@@ -19,6 +19,14 @@ const CHEAPER: Drawing = Drawing {
     ..STREETS
 };
 
+// The vertices of these places, and the arcs.
+fn places_told(alloc: Global, places: &Changed) -> Result<String, AllocError> {
+    let mut text = vertices_told(alloc, places.vertices.as_slice())?;
+    text.push_str("| ")?;
+    text.push_str(vertices_told(alloc, places.arcs.as_slice())?.as_str())?;
+    Ok(text)
+}
+
 // The vertices and the arcs at which the costs of two drawings differ.
 fn changes_told(
     rt: &impl Abort,
@@ -30,10 +38,7 @@ fn changes_told(
     let old = weights(rt, alloc, graph, old)?;
     let new = weights(rt, alloc, graph, new)?;
     let places = changed(alloc, graph, &old, &new)?;
-    let mut text = vertices_told(alloc, places.vertices.as_slice())?;
-    text.push_str("| ")?;
-    text.push_str(vertices_told(alloc, places.arcs.as_slice())?.as_str())?;
-    Ok(text)
+    Ok(places_told(alloc, &places)?)
 }
 
 #[test]

@@ -9,7 +9,7 @@ use crate::drawings::{Drawing, STREETS, frame, row_told, weights};
 use cell_customize::{customize, customize_in_threads};
 use cell_frame::{Cliques, Frame};
 use cell_recustomize::{Recustomized, recustomize, recustomize_in_threads};
-use search_graph::DurLen;
+use search_graph::{DurLen, Weights};
 use std::alloc::{AllocError, Global};
 use std::process::Abort;
 use std::test::Fail;
@@ -60,16 +60,72 @@ fn turns_back(
     Ok(())
 }
 
+// The cliques of the two streets.
+fn of_streets(rt: &impl Abort, alloc: Global, frame: &Frame) -> Result<Cliques<DurLen>, AllocError>
+    ensures { IfOk result (λ cliques. (w : _) × AreExact durlen_ops frame.now w cliques (length frame.now.cells.levels)) }
+{
+    let weights = weights(rt, alloc, frame.graph(), &STREETS)?;
+    customize(alloc, frame, &weights)
+}
+
+// The same by threads.
+fn of_streets_in_threads(
+    rt: &(impl Abort + Threads + Sync),
+    alloc: Global,
+    frame: &Frame,
+) -> Result<Cliques<DurLen>, AllocError>
+    ensures { IfOk result (λ cliques. (w : _) × AreExact durlen_ops frame.now w cliques (length frame.now.cells.levels)) }
+{
+    let weights = weights(rt, alloc, frame.graph(), &STREETS)?;
+    customize_in_threads(rt, alloc, frame, &weights)
+}
+
 #[test]
 fn a_way_into_a_street_turns_back_at_its_end(rt: HostRuntime) -> Result<(), Fail> {
     let alloc = rt.alloc();
     let frame = frame(&rt, alloc, &STREETS, &[1, 2])?;
-    let weights = weights(&rt, alloc, frame.graph(), &STREETS)?;
-    let cliques = customize(alloc, &frame, &weights)?;
+    let cliques = of_streets(&rt, alloc, &frame)?;
     turns_back(&rt, alloc, &frame, &cliques)?;
-    let in_threads = customize_in_threads(&rt, alloc, &frame, &weights)?;
+    let in_threads = of_streets_in_threads(&rt, alloc, &frame)?;
     turns_back(&rt, alloc, &frame, &in_threads)?;
     Ok(())
+}
+
+// The cliques for new weights, from those for old ones.
+fn brought_up(
+    alloc: Global,
+    frame: &Frame,
+    old: &Weights<DurLen>,
+    new: &Weights<DurLen>,
+) -> Result<Recustomized<DurLen>, AllocError>
+    requires old { AreSmall durlen_ops frame.now.graph old.now }
+    requires new { AreSmall durlen_ops frame.now.graph new.now }
+    ensures { IfOk result (λ made. AreExact durlen_ops frame.now new.now made.cliques (length frame.now.cells.levels)) }
+{
+    let cliques = customize(alloc, frame, old)?;
+    let places = changed(alloc, frame.graph(), old, new)?;
+    let vertices = places.vertices.as_slice();
+    let arcs = places.arcs.as_slice();
+    recustomize(alloc, frame, new, &cliques, vertices, arcs)
+}
+
+// The same by threads.
+fn brought_up_in_threads(
+    rt: &(impl Threads + Sync),
+    alloc: Global,
+    frame: &Frame,
+    old: &Weights<DurLen>,
+    new: &Weights<DurLen>,
+) -> Result<Recustomized<DurLen>, AllocError>
+    requires old { AreSmall durlen_ops frame.now.graph old.now }
+    requires new { AreSmall durlen_ops frame.now.graph new.now }
+    ensures { IfOk result (λ made. AreExact durlen_ops frame.now new.now made.cliques (length frame.now.cells.levels)) }
+{
+    let cliques = customize(alloc, frame, old)?;
+    let places = changed(alloc, frame.graph(), old, new)?;
+    let vertices = places.vertices.as_slice();
+    let arcs = places.arcs.as_slice();
+    recustomize_in_threads(rt, alloc, frame, new, &cliques, vertices, arcs)
 }
 
 // The cliques of the two streets after their costs changed to those of a drawing.
@@ -78,18 +134,13 @@ fn after(
     alloc: Global,
     frame: &Frame,
     drawing: &Drawing,
-) -> Result<Recustomized<DurLen>, Fail>
+) -> Result<Recustomized<DurLen>, AllocError>
     ensures { IfOk result (λ made. (w : _) × AreExact durlen_ops frame.now w made.cliques (length frame.now.cells.levels)) }
 {
     let graph = frame.graph();
     let before = weights(rt, alloc, graph, &STREETS)?;
-    let old = customize(alloc, frame, &before)?;
     let after = weights(rt, alloc, graph, drawing)?;
-    let places = changed(alloc, graph, &before, &after)?;
-    let vertices = places.vertices.as_slice();
-    let arcs = places.arcs.as_slice();
-    let made = recustomize(alloc, frame, &after, &old, vertices, arcs)?;
-    Ok(made)
+    brought_up(alloc, frame, &before, &after)
 }
 
 // The same by threads.
@@ -98,18 +149,13 @@ fn after_in_threads(
     alloc: Global,
     frame: &Frame,
     drawing: &Drawing,
-) -> Result<Recustomized<DurLen>, Fail>
+) -> Result<Recustomized<DurLen>, AllocError>
     ensures { IfOk result (λ made. (w : _) × AreExact durlen_ops frame.now w made.cliques (length frame.now.cells.levels)) }
 {
     let graph = frame.graph();
     let before = weights(rt, alloc, graph, &STREETS)?;
-    let old = customize(alloc, frame, &before)?;
     let after = weights(rt, alloc, graph, drawing)?;
-    let places = changed(alloc, graph, &before, &after)?;
-    let vertices = places.vertices.as_slice();
-    let arcs = places.arcs.as_slice();
-    let made = recustomize_in_threads(rt, alloc, frame, &after, &old, vertices, arcs)?;
-    Ok(made)
+    brought_up_in_threads(rt, alloc, frame, &before, &after)
 }
 
 /// The two streets with the first way slower.
@@ -124,20 +170,28 @@ const DEARER: Drawing = Drawing {
     ..STREETS
 };
 
+// How many searches there were, and what the walks cost inside both streets from where each is entered.
+fn streets_told(
+    rt: &impl Abort,
+    alloc: Global,
+    frame: &Frame,
+    made: &Recustomized<DurLen>,
+) -> Result<String, AllocError>
+    requires { (w : _) × AreExact durlen_ops frame.now w made.now.cliques (length frame.now.cells.levels) }
+{
+    let mut text = format!(in alloc; "{}: ", made.searches)?;
+    text.push_str(walks_told(rt, alloc, frame, &made.cliques, 1, 1)?.as_str())?;
+    text.push_str(walks_told(rt, alloc, frame, &made.cliques, 1, 2)?.as_str())?;
+    Ok(text)
+}
+
 #[test]
 fn a_slower_way_touches_its_street(rt: HostRuntime) -> Result<(), Fail> {
     let alloc = rt.alloc();
     let frame = frame(&rt, alloc, &STREETS, &[2, 4])?;
     let made = after(&rt, alloc, &frame, &SLOWER)?;
-    assert_eq!(rt; made.searches, 1);
-    assert_eq!(rt;
-        walks_told(&rt, alloc, &frame, &made.cliques, 1, 1)?.as_str(),
-        "399/1111 "
-    );
-    assert_eq!(rt;
-        walks_told(&rt, alloc, &frame, &made.cliques, 1, 2)?.as_str(),
-        "299/1111 "
-    );
+    let told = streets_told(&rt, alloc, &frame, &made)?;
+    assert_eq!(rt; told.as_str(), "1: 399/1111 299/1111 ");
     Ok(())
 }
 
@@ -146,11 +200,8 @@ fn a_dearer_turn_between_streets_touches_neither(rt: HostRuntime) -> Result<(), 
     let alloc = rt.alloc();
     let frame = frame(&rt, alloc, &STREETS, &[2, 4])?;
     let made = after(&rt, alloc, &frame, &DEARER)?;
-    assert_eq!(rt; made.searches, 0);
-    assert_eq!(rt;
-        walks_told(&rt, alloc, &frame, &made.cliques, 1, 1)?.as_str(),
-        "299/1111 "
-    );
+    let told = streets_told(&rt, alloc, &frame, &made)?;
+    assert_eq!(rt; told.as_str(), "0: 299/1111 299/1111 ");
     Ok(())
 }
 
@@ -159,14 +210,7 @@ fn threads_find_what_one_thread_finds(rt: HostRuntime) -> Result<(), Fail> {
     let alloc = rt.alloc();
     let frame = frame(&rt, alloc, &STREETS, &[2, 4])?;
     let made = after_in_threads(&rt, alloc, &frame, &SLOWER)?;
-    assert_eq!(rt; made.searches, 1);
-    assert_eq!(rt;
-        walks_told(&rt, alloc, &frame, &made.cliques, 1, 1)?.as_str(),
-        "399/1111 "
-    );
-    assert_eq!(rt;
-        walks_told(&rt, alloc, &frame, &made.cliques, 1, 2)?.as_str(),
-        "299/1111 "
-    );
+    let told = streets_told(&rt, alloc, &frame, &made)?;
+    assert_eq!(rt; told.as_str(), "1: 399/1111 299/1111 ");
     Ok(())
 }

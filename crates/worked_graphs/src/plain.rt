@@ -23,8 +23,8 @@ pub fn walks_told(alloc: Global, found: &[Option<Found<DurLen>>]) -> Result<Stri
     Ok(text)
 }
 
-// A cheapest walk to each target.
-fn least_told(
+/// A cheapest walk to each target.
+pub fn least_told(
     rt: &impl Abort,
     alloc: Global,
     graph: &Graph,

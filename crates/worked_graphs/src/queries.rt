@@ -15,7 +15,7 @@ use std::process::Abort;
 use std::test::Fail;
 use step_search::Search;
 
-// The vertex to which a hop leads, with the level and the number of its cell where it is a shortoverlay.
+// The vertex to which a hop leads, with the level and the number of its cell where it is a shortcut.
 fn hop_told(alloc: Global, hop: &Hop) -> Result<String, AllocError> {
     match hop.by {
         Some(cell) => format!(in alloc; "{}[{}.{}] ", hop.to, cell.level, cell.number),
@@ -35,6 +35,16 @@ pub fn packed_told(
     text.push_str(format!(in alloc; "{} ", found.packed.first)?.as_str())?;
     for hop in found.packed.hops.as_slice() {
         text.push_str(hop_told(alloc, hop)?.as_str())?;
+    }
+    Ok(text)
+}
+
+// Packed walks, each with a bar behind it.
+fn all_told(alloc: Global, all: &[Option<PackedFound<DurLen>>]) -> Result<String, AllocError> {
+    let mut text = String::new(alloc);
+    for found in all {
+        text.push_str(packed_told(alloc, found)?.as_str())?;
+        text.push_str("| ")?;
     }
     Ok(text)
 }
@@ -61,12 +71,17 @@ fn least_told(
         &starts,
         &targets,
     )?;
-    let mut text = String::new(alloc);
-    for found in found.as_slice() {
-        text.push_str(packed_told(alloc, found)?.as_str())?;
-        text.push_str("| ")?;
-    }
-    Ok(text)
+    Ok(all_told(alloc, found.as_slice())?)
+}
+
+// A packed walk, and what a walk to each target costs.
+fn of_costs_told(
+    alloc: Global,
+    packed: &str,
+    costs: &[Option<DurLen>],
+) -> Result<String, AllocError> {
+    let costs = costs_told(alloc, costs)?;
+    format!(in alloc; "{packed}of {costs}")
 }
 
 // The cheapest packed walk to one of the targets, and what a walk to each costs.
@@ -93,8 +108,7 @@ fn cheapest_told(
         &targets,
         &mut search,
     )?;
-    let mut text = packed_told(alloc, &found)?;
-    text.push_str("of ")?;
+    let packed = packed_told(alloc, &found)?;
     let costs = least_costs(
         alloc,
         &overlay.frame,
@@ -103,8 +117,7 @@ fn cheapest_told(
         &starts,
         &targets,
     )?;
-    text.push_str(costs_told(alloc, &costs)?.as_str())?;
-    Ok(text)
+    Ok(of_costs_told(alloc, packed.as_str(), &costs)?)
 }
 
 #[test]

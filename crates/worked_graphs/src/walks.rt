@@ -1,23 +1,31 @@
 //! Walks along arcs, by the cliques of a frame, beside those of plain search.
 
-ghost use Rattle.std.specs.Prelude.{◌≡◌, length};
+ghost use Rattle.std.specs.Prelude.{◌≡◌, ◌≤◌, All, length};
+ghost use Rattle.std.specs.List.Sorted.{IsStrictlyIncreasing};
 ghost use Rattle.search_graph.specs.Durations.{durlen_ops};
 ghost use Rattle.search_graph.specs.Weighted.{AreSmall, IsWeighting};
 ghost use Rattle.cell_frame.specs.Cliqued.{AreExact};
 
 use crate::drawings::{
-    Overlay, RING_OF_EIGHT, RING_OF_TEN, SMALL, cost_told, costs_told, cut, starts, targets,
-    vertices_told,
+    Drawing, Overlay, RING_OF_EIGHT, RING_OF_TEN, SMALL, cost_told, costs_told, cut, starts,
+    targets, vertices_told,
 };
-use crate::plain::walks_told;
+use crate::plain::{least_told, walks_told};
 use crate::queries::packed_told;
 use overlay_query::{cheapest, least_costs};
 use path_unpack::{cheapest_from, least_from, unpack};
+use plain_search::Found;
 use search_graph::DurLen;
-use std::alloc::Global;
+use std::alloc::{AllocError, Global};
 use std::process::Abort;
 use std::test::Fail;
 use step_search::Search;
+
+// A packed walk, and the walk that it is opened to.
+fn opened_told(alloc: Global, packed: &str, walk: &[u32]) -> Result<String, AllocError> {
+    let walk = vertices_told(alloc, walk)?;
+    format!(in alloc; "{packed}is {walk}")
+}
 
 // The packed walk to one target, and the walk that it is opened to, apart from the query.
 fn unpacked_told(
@@ -43,9 +51,9 @@ fn unpacked_told(
         &targets,
         &mut search,
     )?;
-    let mut text = packed_told(alloc, &found)?;
+    let packed = packed_told(alloc, &found)?;
     let Some(found) = found else {
-        return Ok(text);
+        return Ok(packed);
     };
     let walk = unpack(
         alloc,
@@ -55,8 +63,16 @@ fn unpacked_told(
         &found.packed,
         &mut search,
     )?;
-    text.push_str("is ")?;
-    text.push_str(vertices_told(alloc, walk.as_slice())?.as_str())?;
+    Ok(opened_told(alloc, packed.as_str(), walk.as_slice())?)
+}
+
+// What a walk costs, and the walk; `-` for none.
+fn found_told(alloc: Global, found: &Option<Found<DurLen>>) -> Result<String, AllocError> {
+    let Some(found) = found else {
+        return String::from_str(alloc, "- ");
+    };
+    let mut text = cost_told(alloc, Some(found.cost))?;
+    text.push_str(vertices_told(alloc, found.walk.as_slice())?.as_str())?;
     Ok(text)
 }
 
@@ -84,12 +100,7 @@ fn cheapest_told(
         &targets,
         &mut search,
     )?;
-    let Some(found) = found else {
-        return Ok(String::from_str(alloc, "- ")?);
-    };
-    let mut text = cost_told(alloc, Some(found.cost))?;
-    text.push_str(vertices_told(alloc, found.walk.as_slice())?.as_str())?;
-    Ok(text)
+    Ok(found_told(alloc, &found)?)
 }
 
 #[test]
@@ -113,6 +124,56 @@ fn the_nearer_of_two_targets_is_the_cheapest(rt: HostRuntime) -> Result<(), Fail
     Ok(())
 }
 
+// The walk that the overlay finds to each target.
+fn overlay_told(
+    rt: &impl Abort,
+    alloc: Global,
+    overlay: &Overlay,
+    from: &str,
+    to: &str,
+) -> Result<String, Fail>
+    requires small { AreSmall durlen_ops overlay.now.frame.graph overlay.now.weights }
+    requires exact { AreExact durlen_ops overlay.now.frame overlay.now.weights overlay.now.cliques (length overlay.now.frame.cells.levels) }
+{
+    let vertices = overlay.frame.graph().vertices();
+    let starts = starts(rt, alloc, vertices, from)?;
+    let targets = targets(rt, alloc, vertices, to)?;
+    let found = least_from(
+        alloc,
+        &overlay.frame,
+        &overlay.weights,
+        &overlay.cliques,
+        &starts,
+        &targets,
+    )?;
+    Ok(walks_told(alloc, &found)?)
+}
+
+// What a walk to each target costs, by the overlay.
+fn least_costs_told(
+    rt: &impl Abort,
+    alloc: Global,
+    overlay: &Overlay,
+    from: &str,
+    to: &str,
+) -> Result<String, Fail>
+    requires small { AreSmall durlen_ops overlay.now.frame.graph overlay.now.weights }
+    requires exact { AreExact durlen_ops overlay.now.frame overlay.now.weights overlay.now.cliques (length overlay.now.frame.cells.levels) }
+{
+    let vertices = overlay.frame.graph().vertices();
+    let starts = starts(rt, alloc, vertices, from)?;
+    let targets = targets(rt, alloc, vertices, to)?;
+    let costs = least_costs(
+        alloc,
+        &overlay.frame,
+        &overlay.weights,
+        &overlay.cliques,
+        &starts,
+        &targets,
+    )?;
+    Ok(costs_told(alloc, &costs)?)
+}
+
 // The overlay and plain search find the same walk from one vertex to another, at the same cost.
 fn compare(
     rt: &impl Abort,
@@ -125,33 +186,15 @@ fn compare(
     requires weighting { IsWeighting durlen_ops overlay.now.frame.graph overlay.now.weights }
     requires exact { AreExact durlen_ops overlay.now.frame overlay.now.weights overlay.now.cliques (length overlay.now.frame.cells.levels) }
 {
-    let graph = overlay.frame.graph();
     let from = format!(in alloc; "{from}:5/0")?;
     let to = format!(in alloc; "{to}:2/2")?;
-    let starts = starts(rt, alloc, graph.vertices(), from.as_str())?;
-    let targets = targets(rt, alloc, graph.vertices(), to.as_str())?;
-    let found = least_from(
-        alloc,
-        &overlay.frame,
-        &overlay.weights,
-        &overlay.cliques,
-        &starts,
-        &targets,
-    )?;
-    let plain = plain_search::least_from(alloc, graph, &overlay.weights, &starts, &targets)?;
-    let walks = walks_told(alloc, &plain)?;
-    assert_eq!(rt; walks_told(alloc, &found)?.as_str(), walks.as_str());
-    let costs = least_costs(
-        alloc,
-        &overlay.frame,
-        &overlay.weights,
-        &overlay.cliques,
-        &starts,
-        &targets,
-    )?;
-    let costs = costs_told(alloc, &costs)?;
+    let (from, to) = (from.as_str(), to.as_str());
+    let plain = least_told(rt, alloc, overlay.frame.graph(), &overlay.weights, from, to)?;
+    let found = overlay_told(rt, alloc, overlay, from, to)?;
+    assert_eq!(rt; found.as_str(), plain.as_str());
+    let costs = least_costs_told(rt, alloc, overlay, from, to)?;
     assert!(rt;
-        walks.as_str().starts_with(costs.as_str()),
+        plain.as_str().starts_with(costs.as_str()),
         "{from} to {to}"
     );
     Ok(())
@@ -171,12 +214,23 @@ fn compare_all(rt: &impl Abort, alloc: Global, overlay: &Overlay) -> Result<(), 
     Ok(())
 }
 
+// The same over a drawing that is cut into cells by these limits.
+fn compare_cut(
+    rt: &impl Abort,
+    alloc: Global,
+    drawing: &Drawing,
+    limits: &[u32],
+) -> Result<(), Fail>
+    requires ascending { IsStrictlyIncreasing limits.now }
+    requires some { All (λ limit. 1 ≤ limit) limits.now }
+{
+    let overlay = cut(rt, alloc, drawing, limits)?;
+    compare_all(rt, alloc, &overlay)
+}
+
 #[test]
 fn walks_are_those_of_plain_search(rt: HostRuntime) -> Result<(), Fail> {
-    let ring = cut(&rt, rt.alloc(), &RING_OF_EIGHT, &[2, 4])?;
-    compare_all(&rt, rt.alloc(), &ring)?;
-    let ring = cut(&rt, rt.alloc(), &RING_OF_TEN, &[3, 5])?;
-    compare_all(&rt, rt.alloc(), &ring)?;
-    let small = cut(&rt, rt.alloc(), &SMALL, &[2, 4])?;
-    compare_all(&rt, rt.alloc(), &small)
+    compare_cut(&rt, rt.alloc(), &RING_OF_EIGHT, &[2, 4])?;
+    compare_cut(&rt, rt.alloc(), &RING_OF_TEN, &[3, 5])?;
+    compare_cut(&rt, rt.alloc(), &SMALL, &[2, 4])
 }

@@ -1,15 +1,8 @@
--- The places are those that changed; small weights fit their graph.
-use Rattle.search_graph.specs.Durations.{durlen_ops}
-use Rattle.cell_recustomize.specs.ChangeLaws.{WereExact-changed}
+-- Weights are small for the frame's graph.
 use Rattle.worked_graphs.proofs.cliques.after_in_threads.Goals as goal
 
-pub recustomize_in_threads-requires-clause-old : goal.recustomize_in_threads-requires-clause-old
-recustomize_in_threads-requires-clause-old g c κs within =
-    rw (c.as_slice-vertices.ensures, c.as_slice-arcs.ensures)
-    (WereExact-changed durlen_ops c.args.frame.now c.in_ok-before.before c.in_ok-after.after c.in_ok-old.old c.in_ok-places.places.vertices c.in_ok-places.places.arcs c.in_ok-places.ensures.vertices c.in_ok-places.ensures.arcs c.in_ok-old.ensures)
+pub brought_up_in_threads-requires-clause-old : goal.brought_up_in_threads-requires-clause-old
+brought_up_in_threads-requires-clause-old g c κs within = rw c.graph-graph.ensures at c.in_ok-before.ensures.small
 
-pub changed-requires-clause-old : goal.changed-requires-clause-old
-changed-requires-clause-old g c = record { vertices = c.in_ok-before.ensures.small.vertices; arcs = c.in_ok-before.ensures.small.arcs }
-
-pub changed-requires-clause-new : goal.changed-requires-clause-new
-changed-requires-clause-new g c = record { vertices = c.in_ok-after.ensures.small.vertices; arcs = c.in_ok-after.ensures.small.arcs }
+pub brought_up_in_threads-requires-clause-new : goal.brought_up_in_threads-requires-clause-new
+brought_up_in_threads-requires-clause-new g c κs within = rw c.graph-graph.ensures at c.in_ok-after.ensures.small
