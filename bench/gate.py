@@ -1,11 +1,12 @@
 #!/usr/bin/env python3
 """What the gate costs: runs `rt ci` and prints the processor seconds of each crate's proof, tests and wrong bodies.
 
-    bench/gate.py [NAME..]     at the top of the repository; NAME as in crates.txt, or all crates
+    bench/gate.py [--bar] [--anew] [NAME..]     at the top of the repository; NAME as in crates.txt, or all crates
 
-What this machine has kept of earlier runs is not proved again, so only a first run shows the whole. Each process of the
-toolchain is looked at twice a second, so that of each at most the last half second is missed. The seed that wrong bodies
-are tried over, a second proof of the crate, counts with them. Ends with the status of `rt ci`."""
+What this machine has kept of earlier runs is not proved again, so only a first run, or one with --anew, shows the whole. Each
+process of the toolchain is looked at twice a second, so that of each at most the last half second is missed. Where a crate has
+two wrong bodies or more they are tried over a second proof of the crate, the seed. With --bar it fails where one check took more
+than its bar. Ends with the status of `rt ci`, or with 1 where a bar is passed."""
 import collections
 import os
 import subprocess
@@ -13,7 +14,10 @@ import sys
 import time
 
 TICK = os.sysconf("SC_CLK_TCK")
-KINDS = ("proof", "tests", "wrong bodies", "other")
+KINDS = ("proof", "tests", "seed", "wrong bodies", "other")
+# The most processor seconds that one check may take; the seed's has the look at it behind its wrong bodies too. A wrong body
+# with no seed is tried from nothing, as long as a proof.
+BARS = {"proof": 300, "tests": 150, "seed": 350, "wrong body": 60, "wrong body alone": 300}
 
 
 def stat_of(pid):
@@ -25,15 +29,19 @@ def stat_of(pid):
 
 
 def label_of(pid):
-    """The crate that a process is about, and which part of the gate it is."""
+    """The crate that a process is about, which part of the gate it is, and which bar it is held to."""
     with open(f"/proc/{pid}/cmdline") as it:
         words = it.read().split("\0")
     if "--crate-name" not in words:
-        return "", "other"
+        return "", "other", ""
     crate = words[words.index("--crate-name") + 1]
     if "rt-edit" in os.readlink(f"/proc/{pid}/cwd"):
-        return crate, "wrong bodies"
-    return crate, "tests" if "--test" in words else "proof"
+        kept = words[words.index("--incremental") + 1] if "--incremental" in words else ""
+        if kept.endswith("/seed"):
+            return crate, "seed", "seed"
+        return crate, "wrong bodies", "wrong body" if kept else "wrong body alone"
+    kind = "tests" if "--test" in words else "proof"
+    return crate, kind, kind
 
 
 def look(top, seen):
@@ -52,28 +60,49 @@ def look(top, seen):
             continue
         try:
             # (a process that was just forked has its words only once it runs)
-            label = seen.get((pid, begun), [("", "")])[0]
+            label = seen.get((pid, begun), [("", "", "")])[0]
             seen[pid, begun] = [label if label[0] else label_of(pid), spent]
         except OSError:
             continue
 
 
+def table(checks):
+    """The rows of what each crate took."""
+    spent, bodies = collections.defaultdict(lambda: dict.fromkeys(KINDS, 0)), collections.Counter()
+    for (crate, kind, bar), seconds in checks:
+        spent[crate][kind] += seconds
+        bodies[crate] += bar.startswith("wrong")
+    yield f"{'crate':18}" + "".join(f"{kind:>14}" for kind in KINDS) + f"{'of them tried':>15}"
+    for crate, parts in sorted(spent.items()):
+        yield f"{crate or '(none)':18}" + "".join(f"{parts[kind]:14.0f}" for kind in KINDS) + f"{bodies[crate]:15}"
+    sums = {kind: sum(parts[kind] for parts in spent.values()) for kind in KINDS}
+    yield f"{'all, in minutes':18}" + "".join(f"{sums[kind] / 60:14.1f}" for kind in KINDS) + f"{sum(bodies.values()):15}"
+
+
+def past_bars(checks):
+    """A line for each check that took more than its bar. A proof may run in several processes, a wrong body is one."""
+    sums = collections.Counter()
+    for number, ((crate, _, bar), seconds) in enumerate(checks):
+        sums[crate, bar, number if bar.startswith("wrong") else 0] += seconds
+    for (crate, bar, _), seconds in sorted(sums.items()):
+        if bar and seconds > BARS[bar]:
+            yield f"past the bar: {crate}, {bar}: {seconds:.0f} processor seconds, the bar is {BARS[bar]}"
+
+
 def main():
-    gate = subprocess.Popen(["rt", "ci", *sys.argv[1:]])
+    words = sys.argv[1:]
+    has_bar = "--bar" in words
+    gate = subprocess.Popen(["rt", "ci", *[it for it in words if it != "--bar"]])
     began, seen = time.time(), {}
     while gate.poll() is None:
         look(gate.pid, seen)
         time.sleep(0.5)
-    spent = collections.defaultdict(lambda: dict.fromkeys(KINDS, 0))
-    for (crate, kind), seconds in seen.values():
-        spent[crate][kind] += seconds
-    print(f"{'crate':18}" + "".join(f"{kind:>14}" for kind in KINDS))
-    for crate, parts in sorted(spent.items()):
-        print(f"{crate or '(none)':18}" + "".join(f"{parts[kind]:14.0f}" for kind in KINDS))
-    sums = {kind: sum(parts[kind] for parts in spent.values()) for kind in KINDS}
-    print(f"{'all, in minutes':18}" + "".join(f"{sums[kind] / 60:14.1f}" for kind in KINDS))
-    print(f"{sum(sums.values()) / 60:.0f} processor minutes, {(time.time() - began) / 60:.0f} by the clock")
-    return gate.returncode
+    checks = [(label, seconds) for label, seconds in seen.values()]
+    print(*table(checks), sep="\n")
+    print(f"{sum(it for _, it in checks) / 60:.0f} processor minutes, {(time.time() - began) / 60:.0f} by the clock")
+    past = list(past_bars(checks)) if has_bar else []
+    print(*past, sep="\n", end="\n" if past else "")
+    return gate.returncode or len(past) > 0
 
 
 if __name__ == "__main__":
