@@ -5,12 +5,14 @@
 
 What this machine has kept of earlier runs is not proved again, so only a first run, or one with --anew, shows the whole. Each
 process of the toolchain is looked at twice a second, so that of each at most the last half second is missed. Where a crate has
-two wrong bodies or more they are tried over a second proof of the crate, the seed. With --bar it fails where one check took more
-than its bar. Ends with the status of `rt ci`, or with 1 where a bar is passed."""
+two wrong bodies or more they are tried over a second proof of the crate, the seed. Lines of `rt ci` itself are printed with the
+minutes by the clock in front. With --bar it fails where one check took more than its bar. Ends with the status of `rt ci`, or
+with 1 where a bar is passed."""
 import collections
 import os
 import subprocess
 import sys
+import threading
 import time
 
 TICK = os.sysconf("SC_CLK_TCK")
@@ -89,14 +91,26 @@ def past_bars(checks):
             yield f"past the bar: {crate}, {bar}: {seconds:.0f} processor seconds, the bar is {BARS[bar]}"
 
 
+def pass_on(lines, began):
+    """Prints what `rt ci` says, and when."""
+    for line in lines:
+        spent = round(time.time() - began)
+        print(f"{spent // 60:3}:{spent % 60:02} {line}" if line.startswith("rt: ") else line, end="", flush=True)
+
+
 def main():
     words = sys.argv[1:]
     has_bar = "--bar" in words
-    gate = subprocess.Popen(["rt", "ci", *[it for it in words if it != "--bar"]])
+    gate = subprocess.Popen(
+        ["rt", "ci", *[it for it in words if it != "--bar"]], stdout=subprocess.PIPE, text=True, errors="replace", bufsize=1
+    )
     began, seen = time.time(), {}
+    passing = threading.Thread(target=pass_on, args=(gate.stdout, began))
+    passing.start()
     while gate.poll() is None:
         look(gate.pid, seen)
         time.sleep(0.5)
+    passing.join()
     checks = [(label, seconds) for label, seconds in seen.values()]
     print(*table(checks), sep="\n")
     print(f"{sum(it for _, it in checks) / 60:.0f} processor minutes, {(time.time() - began) / 60:.0f} by the clock")

@@ -1,14 +1,20 @@
 #!/bin/sh
-# How long a map made to be hard takes to be read and built: one way to and fro between two
-# nodes, with `only_` restrictions that forbid its own turns, or without them.
+# How long maps made to be hard take to be read and built, and to be started on.
 #
 #     bench/hostile.sh [SEGMENTS..]
+#     bench/hostile.sh --stars [STREETS..]
 #
+# The first: one way to and fro between two nodes, with `only_` restrictions that forbid its own
+# turns, or without them.
 # It prints processor seconds of `road_router check` at 10000, 40000 and 160000 segments, or at
 # those given, without restrictions and with 1, 50 and 200, each the least of five runs, and the
 # ratio of the last to the first. Without them the map has more turns than a network may have
 # from 5794 segments on, and is refused once these are found. With them the columns must not
 # rise from left to right, and must rise no faster than the segments from row to row.
+#
+# The second: so many streets that meet at one node (500, 1000, 2000 and 4000, or those given).
+# It prints processor seconds and the peak in megabytes of `check`, of `ask` over one route, whose
+# start customizes the cells, and of `ask` over a route and a line of TRAFFIC, each run once.
 #
 # The program is that of the environment variable ROAD_ROUTER, or else it is proved and built by
 # `rt run` in crates/road_router. It needs GNU time and python3.
@@ -38,6 +44,38 @@ for i in range(restrictions):
     print(f"r{i + 1} v1 dV Ttype=restriction,restriction=only_straight_on Mw1@from,n{via}@via,w{to}@to")
 END
 }
+
+# star STREETS: the map, on standard output
+star() {
+    python3 - "$1" <<'END'
+import math, sys
+streets = int(sys.argv[1])
+print("n1 v1 dV T x13.0 y53.0")
+for street in range(streets):
+    angle = 2 * math.pi * street / streets
+    print(f"n{street + 2} v1 dV T x{13.0 + 0.1 * math.cos(angle):.7f} y{53.0 + 0.06 * math.sin(angle):.7f}")
+for street in range(streets):
+    print(f"w{street + 1} v1 dV Thighway=residential Nn1,n{street + 2}")
+END
+}
+
+# spent COMMAND LINES: processor seconds and megabytes of a command over these lines of input
+spent() {
+    printf "$2" | /usr/bin/time -o "$scratch/used" -f '%U %S %M' "$program" "$1" "$scratch/map.opl" "$top/bench/car.toml" > "$scratch/out" 2>&1 || true
+    awk '/^[0-9.]+ [0-9.]+ [0-9]+$/ { printf "%.2f %d", $1 + $2, $3 / 1024 }' "$scratch/used"
+}
+
+if [ "${1-}" = --stars ]; then
+    shift
+    route='GET /route/v1/car/13.09,53.0;12.91,53.0?overview=false\n'
+    printf '%8s %8s %6s %8s %6s %8s %6s\n' streets check MB ask MB TRAFFIC MB
+    for streets in ${@:-500 1000 2000 4000}; do
+        star "$streets" > "$scratch/map.opl"
+        echo "$streets $(spent check '') $(spent ask "$route") $(spent ask "${route}TRAFFIC - -\\n")" |
+            awk '{ printf "%8d %8.2f %6d %8.2f %6d %8.2f %6d\n", $1, $2, $3, $4, $5, $6, $7 }'
+    done
+    exit
+fi
 
 # least FILE: the least processor seconds of five runs
 least() {
