@@ -10,18 +10,21 @@
 //! - doors listen at the addresses that `open` was handed, and at no other;
 //! - a door's connections are those that its listener's `accept` gives, and each takes and puts the bytes of
 //!   its own socket;
+//! - no call waits longer for a client than its door says, since the system keeps the limits of the socket;
 //! - a door tells that it was closed only where its closer was used, and then it gives no connection more;
 //! - the closer wakes each door that waits, since the system hands each connection to one `accept`.
 #![tactic(auto)]
 
 mod accepting;
 mod retrying;
+mod silence_limits;
 mod std_streams;
 mod system_files;
 mod tcp_conns;
 mod tcp_doors;
 mod tcp_opening;
 
+pub use silence_limits::SilenceLimits;
 pub use std_streams::{Reading, Writing};
 pub use system_files::SystemFiles;
 pub use tcp_conns::TcpConn;

@@ -1,4 +1,5 @@
-//! Reads and writes of std that are tried again where a signal interrupts them.
+//! Reads and writes of std that are tried again where a signal interrupts them, and there alone: one that has
+//! waited for as long as it may fails.
 
 ghost use Rattle.std.specs.Prelude.{◌≡◌, ◌≢◌, IfErr};
 ghost use Rattle.std.specs.Io.{ReadsAtMost, WritesAtMost};

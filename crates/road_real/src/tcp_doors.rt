@@ -10,13 +10,15 @@ use std::io;
 use std::net::{SocketAddr, TcpListener, TcpStream};
 use std::sync::Arc;
 use std::sync::atomic::{AtomicBool, Ordering};
+use std::time::Duration;
 
-/// A door over TCP: a listener, and a flag that it shares with what closes it. It gives up to
-/// 18446744073709551615 connections, one after another; then it fails.
+/// A door over TCP: a listener, a flag that it shares with what closes it, and how long the clients of its
+/// connections may be silent. It gives up to 18446744073709551615 connections, one after another; then it fails.
 #[derive(Drop)]
 pub struct TcpDoor {
     listener: TcpListener,
     close: Arc<AtomicBool>,
+    silence: Duration,
     given: u64,
     finished: u64,
     closed: bool,
@@ -28,13 +30,15 @@ pub struct TcpDoor {
 impl TcpDoor {
     ghost use Rattle.road_real.specs.TcpStates.{door_view};
 
-    /// A door at which this listener waits until the flag is raised.
-    pub fn of(listener: TcpListener, close: Arc<AtomicBool>) -> TcpDoor
+    /// A door at which this listener waits until the flag is raised. A client of its connections may be silent
+    /// for so long at a time.
+    pub fn of(listener: TcpListener, close: Arc<AtomicBool>, silence: Duration) -> TcpDoor
         ensures { IsNewDoor (door_view result) }
     {
         TcpDoor {
             listener,
             close,
+            silence,
             given: 0,
             finished: 0,
             closed: false,
@@ -46,6 +50,11 @@ impl TcpDoor {
     /// The address that the door listens at, with the port that the system chose where 0 was asked for.
     pub fn address(&self) -> io::Result<SocketAddr> {
         self.listener.local_addr()
+    }
+
+    /// How long a client of its connections may be silent at a time.
+    pub fn silence(&self) -> Duration {
+        self.silence
     }
 
     /// Whether the door has counted a fault.
@@ -83,7 +92,7 @@ impl Door for TcpDoor {
         match self.arrival() {
             Ok(Some(stream)) if self.given < u64::MAX => {
                 self.given += 1;
-                Ok(Some(TcpConn::of(stream)))
+                Ok(Some(TcpConn::of(stream, self.silence)))
             }
             Ok(None) => {
                 self.closed = true;

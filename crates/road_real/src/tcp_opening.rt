@@ -5,6 +5,7 @@ ghost use Rattle.road_io.specs.DoorOpening.{BackGives, IsNewDoor, door_set};
 ghost use Rattle.road_real.specs.TcpDoorsTold.{doors_told};
 ghost use Rattle.road_real.specs.TcpStates.{door_view};
 
+use crate::silence_limits::SilenceLimits;
 use crate::tcp_doors::TcpDoor;
 use road_io::{Closer, Doors, DoorsFault, Opened};
 use std::alloc::{AllocError, Global};
@@ -45,20 +46,67 @@ impl<'a, N: Net> Closer for TcpCloser<'a, N> {
 #[derive(Drop)]
 pub struct TcpDoors<'a, N> {
     rt: &'a N,
+    limits: SilenceLimits,
     out: u64,
     faults: u64,
 }
 
 impl<'a, N> TcpDoors<'a, N> {
-    /// Doors of which none is open. What closes them connects by this runtime.
+    /// Doors of which none is open, with the program's limits of silence. What closes them connects by this
+    /// runtime.
     pub fn of(rt: &'a N) -> TcpDoors<'a, N>
+        ensures { doors_told result.out result.faults ≡ doors_told 0 0 }
+    {
+        TcpDoors::with_limits(rt, SilenceLimits::of_program())
+    }
+
+    /// The same with these limits of silence.
+    pub fn with_limits(rt: &'a N, limits: SilenceLimits) -> TcpDoors<'a, N>
         ensures { doors_told result.out result.faults ≡ doors_told 0 0 }
     {
         TcpDoors {
             rt,
+            limits,
             out: 0,
             faults: 0,
         }
+    }
+}
+
+impl<'a, N: Net> TcpDoors<'a, N> {
+    // Opens doors at these addresses, and counts nothing.
+    fn opened<R: Net<Listener = TcpListener, Stream = TcpStream>>(
+        &self,
+        rt: &R,
+        alloc: Global,
+        query: &str,
+        control: &str,
+        workers: u32,
+    ) -> Result<Opened<TcpDoor, TcpCloser<'a, N>>, DoorsFault>
+        ensures queries { IfOk result (λ o. (length o.queries.items ≡ workers) × All IsNewDoor (map door_view o.queries.items)) }
+        ensures control { IfOk result (λ o. IsNewDoor (door_view o.control)) }
+    {
+        let listener = listener_at(rt, query)?;
+        let Ok(address) = listener.local_addr() else {
+            return Err(DoorsFault::Failed);
+        };
+        let control = TcpDoor::of(
+            listener_at(rt, control)?,
+            lowered_flag(alloc)?,
+            self.limits.control,
+        );
+        let close = lowered_flag(alloc)?;
+        let queries = doors_at(alloc, &listener, &close, self.limits.query, workers)?;
+        Ok(Opened {
+            queries,
+            control,
+            closer: TcpCloser {
+                rt: self.rt,
+                address,
+                doors: workers,
+                close,
+            },
+        })
     }
 }
 
@@ -79,7 +127,7 @@ impl<'a, N: Net> Doors for TcpDoors<'a, N> {
     ) -> Result<Opened<TcpDoor, TcpCloser<'a, N>>, DoorsFault> {
         let count = u64::from(workers) + 1;
         let opened = if self.out <= u64::MAX - count {
-            open_at(self.rt, rt, alloc, query, control, workers)
+            self.opened(rt, alloc, query, control, workers)
         } else {
             Err(DoorsFault::Failed)
         };
@@ -107,37 +155,6 @@ impl<'a, N: Net> Doors for TcpDoors<'a, N> {
     }
 }
 
-// Opens doors at these addresses, whose closer connects by `waker`.
-fn open_at<'a, N, R: Net<Listener = TcpListener, Stream = TcpStream>>(
-    waker: &'a N,
-    rt: &R,
-    alloc: Global,
-    query: &str,
-    control: &str,
-    workers: u32,
-) -> Result<Opened<TcpDoor, TcpCloser<'a, N>>, DoorsFault>
-    ensures queries { IfOk result (λ o. (length o.queries.items ≡ workers) × All IsNewDoor (map door_view o.queries.items)) }
-    ensures control { IfOk result (λ o. IsNewDoor (door_view o.control)) }
-{
-    let listener = listener_at(rt, query)?;
-    let Ok(address) = listener.local_addr() else {
-        return Err(DoorsFault::Failed);
-    };
-    let control = TcpDoor::of(listener_at(rt, control)?, lowered_flag(alloc)?);
-    let close = lowered_flag(alloc)?;
-    let queries = doors_at(alloc, &listener, &close, workers)?;
-    Ok(Opened {
-        queries,
-        control,
-        closer: TcpCloser {
-            rt: waker,
-            address,
-            doors: workers,
-            close,
-        },
-    })
-}
-
 // A listener at this address.
 fn listener_at<R: Net<Listener = TcpListener, Stream = TcpStream>>(
     rt: &R,
@@ -156,13 +173,14 @@ fn doors_at(
     alloc: Global,
     listener: &TcpListener,
     close: &Arc<AtomicBool>,
+    silence: Duration,
     count: u32,
 ) -> Result<Vec<TcpDoor>, DoorsFault>
     ensures { IfOk result (λ v. (length v.items ≡ count) × All IsNewDoor (map door_view v.items)) }
 {
     let mut doors = Vec::new(alloc);
     for _ in 0..count {
-        let door = door_at(listener, close)?;
+        let door = door_at(listener, close, silence)?;
         if doors.push(door).is_err() {
             return Err(DoorsFault::Memory);
         }
@@ -171,11 +189,15 @@ fn doors_at(
 }
 
 // A door that shares this listener and this flag.
-fn door_at(listener: &TcpListener, close: &Arc<AtomicBool>) -> Result<TcpDoor, DoorsFault>
+fn door_at(
+    listener: &TcpListener,
+    close: &Arc<AtomicBool>,
+    silence: Duration,
+) -> Result<TcpDoor, DoorsFault>
     ensures { IfOk result (λ door. IsNewDoor (door_view door)) }
 {
     match (listener.try_clone(), Arc::try_clone(close)) {
-        (Ok(listener), Ok(close)) => Ok(TcpDoor::of(listener, close)),
+        (Ok(listener), Ok(close)) => Ok(TcpDoor::of(listener, close, silence)),
         (Ok(_), Err(AllocError)) => Err(DoorsFault::Memory),
         (Err(_), _) => Err(DoorsFault::Failed),
     }

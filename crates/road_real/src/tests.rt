@@ -2,7 +2,7 @@
 
 ghost use Rattle.std.specs.Prelude.{◌≤◌, IfOk};
 
-use crate::{Reading, SystemFiles, TcpDoor, TcpDoors, Writing};
+use crate::{Reading, SilenceLimits, SystemFiles, TcpDoor, TcpDoors, Writing};
 use road_io::{
     Closer, Conn, Door, Doors, DoorsFault, Failed, FileFault, Files, Opened, Sink, Source,
     put_whole, take_into,
@@ -12,8 +12,11 @@ use std::io;
 use std::io::{ErrorKind, Read, Write};
 use std::net::{Net, Shutdown, SocketAddr, TcpListener, TcpStream};
 use std::rt::Clock;
+use std::sync::Arc;
+use std::sync::atomic::AtomicBool;
+use std::test::*;
 use std::thread::{Threads, join, sleep};
-use std::time::Duration;
+use std::time::{Duration, Instant};
 
 #[test]
 fn files_that_cannot_be_read_are_no_empty_ones(rt: HostRuntime) {
@@ -173,6 +176,139 @@ fn bytes_go_through_doors_and_come_back(rt: HostRuntime) {
             "the control door is not closed"
         )
     );
+}
+
+// A door at a free port of this machine, and its address. Its clients may be silent for so many milliseconds.
+fn door_of<R: Net<Listener = TcpListener, Stream = TcpStream>>(
+    rt: &R,
+    alloc: Global,
+    silence: u64,
+) -> Result<(TcpDoor, SocketAddr), Fail> {
+    let listener = TcpListener::bind(rt, "127.0.0.1:0")?;
+    let address = listener.local_addr()?;
+    let close = Arc::new(alloc, AtomicBool::new(false))?;
+    Ok((
+        TcpDoor::of(listener, close, Duration::from_millis(silence)),
+        address,
+    ))
+}
+
+// Puts more than the buffers of the system hold to the next connection of any door. Answers whether there was one.
+fn flood_one<D: Door>(door: &mut D) -> Result<bool, Failed>
+    requires { (D.view door.old).finished ≤ (D.view door.old).given }
+{
+    match door.next() {
+        Ok(Some(mut conn)) => {
+            let flooded = flood(&mut conn);
+            door.finish(conn);
+            flooded
+        }
+        Ok(None) => Ok(false),
+        Err(failed) => Err(failed),
+    }
+}
+
+// Puts more than the buffers of the system hold.
+fn flood<C: Conn>(conn: &mut C) -> Result<bool, Failed> {
+    for _ in 0..100_000 {
+        put_whole(conn, &[0; 4096])?;
+    }
+    Ok(true)
+}
+
+// Whether a connection is failed whose client sends nothing, and how long that takes.
+fn silent<R: Net<Listener = TcpListener, Stream = TcpStream> + Clock>(
+    rt: &R,
+    door: &mut TcpDoor,
+    address: SocketAddr,
+) -> io::Result<(bool, Duration)> {
+    let _client = TcpStream::connect(rt, address)?;
+    let begun = Instant::now(rt)?;
+    let failed = serve_one(door) == Err(Failed);
+    Ok((failed, begun.elapsed(rt)?))
+}
+
+// Whether a connection is failed whose client takes nothing, and how long that takes.
+fn deaf<R: Net<Listener = TcpListener, Stream = TcpStream> + Clock>(
+    rt: &R,
+    door: &mut TcpDoor,
+    address: SocketAddr,
+) -> io::Result<(bool, Duration)> {
+    let _client = TcpStream::connect(rt, address)?;
+    let begun = Instant::now(rt)?;
+    let failed = flood_one(door) == Err(Failed);
+    Ok((failed, begun.elapsed(rt)?))
+}
+
+// Whether the door serves a client that has sent all before it is let in.
+fn serves_next<R: Net<Listener = TcpListener, Stream = TcpStream>>(
+    rt: &R,
+    door: &mut TcpDoor,
+    address: SocketAddr,
+) -> io::Result<bool> {
+    let mut client = TcpStream::connect(rt, address)?;
+    client.write_all(b"next")?;
+    client.shutdown(Shutdown::Write)?;
+    Ok(serve_one(door) == Ok(Some(4)))
+}
+
+#[test]
+fn a_client_that_sends_nothing_is_let_go_after_its_time(rt: HostRuntime) -> Result<(), Fail> {
+    let (mut door, address) = door_of(&rt, rt.alloc(), 500)?;
+    let (failed, waited) = silent(&rt, &mut door, address)?;
+    assert!(rt; failed && waited >= Duration::from_millis(250));
+    assert!(rt; serves_next(&rt, &mut door, address)?);
+    Ok(())
+}
+
+#[test]
+fn a_client_that_takes_nothing_is_let_go_after_its_time(rt: HostRuntime) -> Result<(), Fail> {
+    let (mut door, address) = door_of(&rt, rt.alloc(), 500)?;
+    let (failed, waited) = deaf(&rt, &mut door, address)?;
+    assert!(rt; failed && waited >= Duration::from_millis(250));
+    assert!(rt; serves_next(&rt, &mut door, address)?);
+    Ok(())
+}
+
+// The system sets no limit of no time.
+#[test]
+fn a_client_whose_time_cannot_be_limited_is_not_waited_for(rt: HostRuntime) -> Result<(), Fail> {
+    let (mut door, address) = door_of(&rt, rt.alloc(), 0)?;
+    assert!(rt; silent(&rt, &mut door, address)?.0);
+    assert!(rt; deaf(&rt, &mut door, address)?.0);
+    Ok(())
+}
+
+// The limits of doors that are opened, closed and handed back.
+fn limits_of<N: Net, R: Net<Listener = TcpListener, Stream = TcpStream>>(
+    rt: &R,
+    alloc: Global,
+    doors: &mut TcpDoors<'_, N>,
+) -> Result<SilenceLimits, DoorsFault> {
+    let Opened {
+        queries,
+        control,
+        closer,
+    } = doors.open(rt, alloc, "127.0.0.1:0", "127.0.0.1:0", 1)?;
+    closer.close();
+    let limits = SilenceLimits {
+        query: queries
+            .first()
+            .map_or(Duration::ZERO, |door| door.silence()),
+        control: control.silence(),
+    };
+    doors.back(queries, control);
+    Ok(limits)
+}
+
+#[test]
+fn the_program_waits_a_minute_for_queries_and_five_to_publish(rt: HostRuntime) {
+    let limits = limits_of(&rt, rt.alloc(), &mut TcpDoors::of(&rt));
+    let expected = SilenceLimits {
+        query: Duration::from_secs(60),
+        control: Duration::from_secs(300),
+    };
+    assert_eq!(rt; limits, Ok(expected));
 }
 
 // Closes the doors of any closer, after a while.
