@@ -34,11 +34,11 @@ fn changes_told(
     graph: &Graph,
     old: &Drawing,
     new: &Drawing,
-) -> Result<String, Fail> {
+) -> Result<String, AllocError> {
     let old = weights(rt, alloc, graph, old)?;
     let new = weights(rt, alloc, graph, new)?;
     let places = changed(alloc, graph, &old, &new)?;
-    Ok(places_told(alloc, &places)?)
+    places_told(alloc, &places)
 }
 
 #[test]

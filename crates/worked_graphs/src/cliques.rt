@@ -80,15 +80,35 @@ fn of_streets_in_threads(
     customize_in_threads(rt, alloc, frame, &weights)
 }
 
+// Both, by one thread and by several.
+fn street_turns_back(rt: &impl Abort, alloc: Global, frame: &Frame) -> Result<(), AllocError> {
+    let cliques = of_streets(rt, alloc, frame)?;
+    turns_back(rt, alloc, frame, &cliques)
+}
+
+fn street_turns_back_in_threads(
+    rt: &(impl Abort + Threads + Sync),
+    alloc: Global,
+    frame: &Frame,
+) -> Result<(), AllocError> {
+    let cliques = of_streets_in_threads(rt, alloc, frame)?;
+    turns_back(rt, alloc, frame, &cliques)
+}
+
+fn streets_turn_back(
+    rt: &(impl Abort + Threads + Sync),
+    alloc: Global,
+    frame: &Frame,
+) -> Result<(), AllocError> {
+    street_turns_back(rt, alloc, frame)?;
+    street_turns_back_in_threads(rt, alloc, frame)
+}
+
 #[test]
 fn a_way_into_a_street_turns_back_at_its_end(rt: HostRuntime) -> Result<(), Fail> {
     let alloc = rt.alloc();
     let frame = frame(&rt, alloc, &STREETS, &[1, 2])?;
-    let cliques = of_streets(&rt, alloc, &frame)?;
-    turns_back(&rt, alloc, &frame, &cliques)?;
-    let in_threads = of_streets_in_threads(&rt, alloc, &frame)?;
-    turns_back(&rt, alloc, &frame, &in_threads)?;
-    Ok(())
+    Ok(streets_turn_back(&rt, alloc, &frame)?)
 }
 
 // The cliques for new weights, from those for old ones.
@@ -185,32 +205,60 @@ fn streets_told(
     Ok(text)
 }
 
+// Asserts what `streets_told` says of a frame.
+fn assert_told(
+    rt: &impl Abort,
+    alloc: Global,
+    frame: &Frame,
+    made: &Recustomized<DurLen>,
+    wanted: &str,
+) -> Result<(), AllocError>
+    requires { (w : _) × AreExact durlen_ops frame.now w made.now.cliques (length frame.now.cells.levels) }
+{
+    let told = streets_told(rt, alloc, frame, made)?;
+    assert_eq!(rt; told.as_str(), wanted);
+    Ok(())
+}
+
+fn assert_after(
+    rt: &impl Abort,
+    alloc: Global,
+    frame: &Frame,
+    drawing: &Drawing,
+    wanted: &str,
+) -> Result<(), AllocError> {
+    let made = after(rt, alloc, frame, drawing)?;
+    assert_told(rt, alloc, frame, &made, wanted)
+}
+
+fn assert_after_in_threads(
+    rt: &(impl Abort + Threads + Sync),
+    alloc: Global,
+    frame: &Frame,
+    drawing: &Drawing,
+    wanted: &str,
+) -> Result<(), AllocError> {
+    let made = after_in_threads(rt, alloc, frame, drawing)?;
+    assert_told(rt, alloc, frame, &made, wanted)
+}
+
 #[test]
 fn a_slower_way_touches_its_street(rt: HostRuntime) -> Result<(), Fail> {
     let alloc = rt.alloc();
     let frame = frame(&rt, alloc, &STREETS, &[2, 4])?;
-    let made = after(&rt, alloc, &frame, &SLOWER)?;
-    let told = streets_told(&rt, alloc, &frame, &made)?;
-    assert_eq!(rt; told.as_str(), "1: 399/1111 299/1111 ");
-    Ok(())
+    Ok(assert_after(&rt, alloc, &frame, &SLOWER, "1: 399/1111 299/1111 ")?)
 }
 
 #[test]
 fn a_dearer_turn_between_streets_touches_neither(rt: HostRuntime) -> Result<(), Fail> {
     let alloc = rt.alloc();
     let frame = frame(&rt, alloc, &STREETS, &[2, 4])?;
-    let made = after(&rt, alloc, &frame, &DEARER)?;
-    let told = streets_told(&rt, alloc, &frame, &made)?;
-    assert_eq!(rt; told.as_str(), "0: 299/1111 299/1111 ");
-    Ok(())
+    Ok(assert_after(&rt, alloc, &frame, &DEARER, "0: 299/1111 299/1111 ")?)
 }
 
 #[test]
 fn threads_find_what_one_thread_finds(rt: HostRuntime) -> Result<(), Fail> {
     let alloc = rt.alloc();
     let frame = frame(&rt, alloc, &STREETS, &[2, 4])?;
-    let made = after_in_threads(&rt, alloc, &frame, &SLOWER)?;
-    let told = streets_told(&rt, alloc, &frame, &made)?;
-    assert_eq!(rt; told.as_str(), "1: 399/1111 299/1111 ");
-    Ok(())
+    Ok(assert_after_in_threads(&rt, alloc, &frame, &SLOWER, "1: 399/1111 299/1111 ")?)
 }

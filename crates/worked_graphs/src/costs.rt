@@ -7,7 +7,6 @@ use cost_lists::CostList;
 use search_graph::DurLen;
 use std::alloc::{AllocError, Global};
 use std::process::Abort;
-use std::test::Fail;
 
 /// The last that are short, the first that aren't, and none.
 const COSTS: &str =
@@ -39,11 +38,22 @@ fn list_told(alloc: Global, list: &CostList<DurLen>) -> Result<String, AllocErro
     Ok(text)
 }
 
+// A list of these costs.
+fn list_of(rt: &impl Abort, alloc: Global, costs: &str) -> Result<CostList<DurLen>, AllocError> {
+    let mut list = CostList::new(alloc);
+    push_all(rt, &mut list, costs)?;
+    Ok(list)
+}
+
+// The costs that a list of these gives back.
+fn given_back(rt: &impl Abort, alloc: Global, costs: &str) -> Result<String, AllocError> {
+    let list = list_of(rt, alloc, costs)?;
+    list_told(alloc, &list)
+}
+
 #[test]
-fn a_list_gives_back_what_was_put_in(rt: HostRuntime) -> Result<(), Fail> {
-    let mut list = CostList::new(rt.alloc());
-    push_all(&rt, &mut list, COSTS)?;
-    let told = list_told(rt.alloc(), &list)?;
+fn a_list_gives_back_what_was_put_in(rt: HostRuntime) -> Result<(), AllocError> {
+    let told = given_back(&rt, rt.alloc(), COSTS)?;
     let want = format!(in rt.alloc(); "7: {COSTS} ")?;
     assert_eq!(rt; told.as_str(), want.as_str());
     Ok(())
@@ -68,31 +78,44 @@ fn part_told(
     Ok(text)
 }
 
-#[test]
-fn a_row_has_its_places(rt: HostRuntime) -> Result<(), Fail> {
-    let mut list = CostList::with_capacity(rt.alloc(), 7)?;
-    push_all(&rt, &mut list, COSTS)?;
+// Asserts what the places from 3 on are, in a list of seven.
+fn assert_parts(rt: &impl Abort, alloc: Global, list: &CostList<DurLen>) -> Result<(), AllocError> {
     assert!(rt; list.len() == 7);
     let want = "3: 2147483648/0 0/4294967296 18446744073709551615/18446744073709551615 ";
-    let told = part_told(rt.alloc(), &list, 3, 6)?;
+    let told = part_told(alloc, list, 3, 6)?;
     assert_eq!(rt; told.as_str(), want);
-    let none = part_told(rt.alloc(), &list, 3, 3)?;
+    let none = part_told(alloc, list, 3, 3)?;
     assert_eq!(rt; none.as_str(), "none");
     Ok(())
 }
 
 #[test]
-fn lists_are_put_together_and_changed(rt: HostRuntime) -> Result<(), Fail> {
-    let mut one = CostList::new(rt.alloc());
-    push_all(&rt, &mut one, "2147483648/1")?;
-    let mut other = CostList::new(rt.alloc());
-    push_all(&rt, &mut other, "- 1/4294967296")?;
-    one.append(&other)?;
-    let told = list_told(rt.alloc(), &one)?;
+fn a_row_has_its_places(rt: HostRuntime) -> Result<(), AllocError> {
+    let mut list = CostList::with_capacity(rt.alloc(), 7)?;
+    push_all(&rt, &mut list, COSTS)?;
+    assert_parts(&rt, rt.alloc(), &list)
+}
+
+// Asserts what a list is once another stands behind it, and then with another first cost.
+fn assert_put_together(
+    rt: &impl Abort,
+    alloc: Global,
+    one: &mut CostList<DurLen>,
+    other: &CostList<DurLen>,
+) -> Result<(), AllocError> {
+    one.append(other)?;
+    let told = list_told(alloc, one)?;
     assert_eq!(rt; told.as_str(), "3: 2147483648/1 - 1/4294967296 ");
     assert!(rt; one.len() == 3);
-    one.set(0, cost(&rt, "5/6"))?;
-    let told = list_told(rt.alloc(), &one)?;
+    one.set(0, cost(rt, "5/6"))?;
+    let told = list_told(alloc, one)?;
     assert_eq!(rt; told.as_str(), "3: 5/6 - 1/4294967296 ");
     Ok(())
+}
+
+#[test]
+fn lists_are_put_together_and_changed(rt: HostRuntime) -> Result<(), AllocError> {
+    let mut one = list_of(&rt, rt.alloc(), "2147483648/1")?;
+    let other = list_of(&rt, rt.alloc(), "- 1/4294967296")?;
+    assert_put_together(&rt, rt.alloc(), &mut one, &other)
 }

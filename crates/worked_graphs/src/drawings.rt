@@ -9,7 +9,7 @@ ghost use Rattle.cell_frame.specs.Cliqued.{AreExact};
 
 use cell_customize::customize;
 use cell_frame::{Cliques, Frame};
-use cell_partition::cells;
+use cell_partition::{Cells, PartitionError, cells};
 use cost_lists::{CostList, CostRow, FullCostList};
 use search_graph::{DurLen, Graph, GraphFault, Start, Target, Weights, small_weights};
 use std::alloc::{AllocError, Global};
@@ -186,30 +186,57 @@ pub fn graph(rt: &impl Abort, alloc: Global, drawing: &Drawing) -> Result<Graph,
 }
 
 // A number as a coordinate.
-fn place(rt: &impl Abort, number: u32) -> i32 {
-    assert!(rt; number <= 1_000_000);
-    number as i32
+fn coordinate(rt: &impl Abort, text: Option<&str>) -> i32 {
+    let Some(Ok(number)) = text.map(|text| text.parse::<i32>()) else {
+        panic!(rt; "a coordinate");
+    };
+    number
 }
 
-/// The frame of a drawing, in cells of at most so many vertices.
+// The place `longitude,latitude`.
+fn place(rt: &impl Abort, entry: &str) -> (i32, i32) {
+    let mut parts = entry.split(',');
+    (coordinate(rt, parts.next()), coordinate(rt, parts.next()))
+}
+
+fn places(rt: &impl Abort, alloc: Global, list: &str) -> Result<Vec<(i32, i32)>, AllocError> {
+    let mut places = Vec::new(alloc);
+    for entry in list.split(' ') {
+        places.push(place(rt, entry))?;
+    }
+    Ok(places)
+}
+
+/// The cells of a list of places, each as `longitude,latitude`, with at most so many in a cell of each level.
+pub fn cells_of(
+    rt: &impl Abort,
+    alloc: Global,
+    list: &str,
+    limits: &[u32],
+) -> Result<Cells, PartitionError>
+    requires ascending { IsStrictlyIncreasing limits.now }
+    requires some { All (λ limit. 1 ≤ limit) limits.now }
+{
+    let places = places(rt, alloc, list)?;
+    assert!(rt; places.len() <= 1000);
+    cells(alloc, &places, limits)
+}
+
+/// The frame of a drawing, in cells of at most so many vertices. It stands in a box: a proof lets go of a box in one step, and of a
+/// frame part by part, wherever a function ends.
 pub fn frame(
     rt: &impl Abort,
     alloc: Global,
     drawing: &Drawing,
     limits: &[u32],
-) -> Result<Frame, Fail>
+) -> Result<Box<Frame>, Fail>
     requires ascending { IsStrictlyIncreasing limits.now }
     requires some { All (λ limit. 1 ≤ limit) limits.now }
 {
     let graph = graph(rt, alloc, drawing)?;
-    let mut midpoints = Vec::new(alloc);
-    for (lon, lat) in pairs(rt, alloc, drawing.vertices, ',')? {
-        midpoints.push((place(rt, lon), place(rt, lat)))?;
-    }
-    assert!(rt; midpoints.len() <= 1000 && midpoints.len() as u32 == graph.vertices());
-    let cells = cells(alloc, &midpoints, limits)?;
-    let frame = Frame::of(alloc, &graph, cells)?;
-    Ok(frame)
+    let cells = cells_of(rt, alloc, drawing.vertices, limits)?;
+    assert!(rt; cells.vertices() == graph.vertices());
+    Ok(Box::new(alloc, Frame::of(alloc, &graph, cells)?)?)
 }
 
 // The vertex and the cost of an entry `vertex:cost`.
@@ -294,12 +321,12 @@ pub fn vertices_told(alloc: Global, vertices: &[u32]) -> Result<String, AllocErr
     Ok(text)
 }
 
-/// A graph cut into cells, and what walks cost inside these.
+/// A graph cut into cells, and what walks cost inside these. Each part stands in a box, as a frame does.
 #[derive(Drop)]
 pub struct Overlay {
-    pub frame: Frame,
-    pub weights: Weights<DurLen>,
-    pub cliques: Cliques<DurLen>,
+    pub frame: Box<Frame>,
+    pub weights: Box<Weights<DurLen>>,
+    pub cliques: Box<Cliques<DurLen>>,
 }
 
 /// The graph of a drawing, in cells of at most so many vertices.
@@ -311,13 +338,13 @@ pub fn cut(
 ) -> Result<Overlay, Fail>
     requires ascending { IsStrictlyIncreasing limits.now }
     requires some { All (λ limit. 1 ≤ limit) limits.now }
-    ensures small { IfOk result (λ c. AreSmall durlen_ops c.frame.graph c.weights) }
-    ensures weighting { IfOk result (λ c. IsWeighting durlen_ops c.frame.graph c.weights) }
-    ensures exact { IfOk result (λ c. AreExact durlen_ops c.frame c.weights c.cliques (length c.frame.cells.levels)) }
+    ensures small { IfOk result (λ c. AreSmall durlen_ops c.frame.value.graph c.weights.value) }
+    ensures weighting { IfOk result (λ c. IsWeighting durlen_ops c.frame.value.graph c.weights.value) }
+    ensures exact { IfOk result (λ c. AreExact durlen_ops c.frame.value c.weights.value c.cliques.value (length c.frame.value.cells.levels)) }
 {
     let frame = frame(rt, alloc, drawing, limits)?;
-    let weights = weights(rt, alloc, frame.graph(), drawing)?;
-    let cliques = customize(alloc, &frame, &weights)?;
+    let weights = Box::new(alloc, weights(rt, alloc, frame.graph(), drawing)?)?;
+    let cliques = Box::new(alloc, customize(alloc, &frame, &weights)?)?;
     Ok(Overlay {
         frame,
         weights,

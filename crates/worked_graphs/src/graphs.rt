@@ -175,11 +175,16 @@ fn calculate(rt: &impl Abort) {
     assert!(rt; cost(3, 2) < cost(3, 9));
 }
 
+// What the vertices and the arcs of the two cost.
+fn two_told(rt: &impl Abort, alloc: Global, graph: &Graph) -> Result<String, AllocError> {
+    let weights = weights(rt, alloc, graph, &TWO)?;
+    weights_told(alloc, graph, &weights)
+}
+
 #[test]
 fn weights_are_read_by_vertex_and_arc(rt: HostRuntime) -> Result<(), Fail> {
     let graph = graph(&rt, rt.alloc(), &TWO)?;
-    let weights = weights(&rt, rt.alloc(), &graph, &TWO)?;
-    let told = weights_told(rt.alloc(), &graph, &weights)?;
+    let told = two_told(&rt, rt.alloc(), &graph)?;
     assert_eq!(rt; told.as_str(), "7/2 - | 3/9 ");
     calculate(&rt);
     Ok(())

@@ -4,7 +4,7 @@ ghost use Rattle.search_graph.specs.Durations.{durlen_ops};
 ghost use Rattle.search_graph.specs.Weighted.{IsWeighting};
 
 use crate::drawings::{SMALL, cost_told, graph, starts, targets, vertices_told, weights};
-use plain_search::{Found, least_from};
+use plain_search::{Found, SearchFault, least_from};
 use search_graph::{DurLen, Graph, Weights};
 use std::alloc::{AllocError, Global};
 use std::process::Abort;
@@ -31,7 +31,7 @@ pub fn least_told(
     weights: &Weights<DurLen>,
     from: &str,
     to: &str,
-) -> Result<String, Fail>
+) -> Result<String, SearchFault>
     requires { IsWeighting durlen_ops graph.now weights.now }
 {
     let starts = starts(rt, alloc, graph.vertices(), from)?;

@@ -9,6 +9,7 @@ use crate::drawings::{
     Overlay, RING_OF_EIGHT, STREETS, cost_told, costs_told, cut, starts, targets,
 };
 use overlay_query::{Hop, PackedFound, cheapest, least, least_costs};
+use plain_search::SearchFault;
 use search_graph::DurLen;
 use std::alloc::{AllocError, Global};
 use std::process::Abort;
@@ -23,20 +24,22 @@ fn hop_told(alloc: Global, hop: &Hop) -> Result<String, AllocError> {
     }
 }
 
-/// The cost of a packed walk, its first vertex and its hops; `-` for none.
-pub fn packed_told(
-    alloc: Global,
-    found: &Option<PackedFound<DurLen>>,
-) -> Result<String, AllocError> {
-    let Some(found) = found else {
-        return String::from_str(alloc, "- ");
-    };
+/// The cost of a packed walk, its first vertex and its hops.
+pub fn walk_told(alloc: Global, found: &PackedFound<DurLen>) -> Result<String, AllocError> {
     let mut text = cost_told(alloc, Some(found.cost))?;
     text.push_str(format!(in alloc; "{} ", found.packed.first)?.as_str())?;
     for hop in found.packed.hops.as_slice() {
         text.push_str(hop_told(alloc, hop)?.as_str())?;
     }
     Ok(text)
+}
+
+// The same; `-` for none.
+fn packed_told(alloc: Global, found: &Option<PackedFound<DurLen>>) -> Result<String, AllocError> {
+    match found {
+        Some(found) => walk_told(alloc, found),
+        None => String::from_str(alloc, "- "),
+    }
 }
 
 // Packed walks, each with a bar behind it.
@@ -56,9 +59,9 @@ fn least_told(
     overlay: &Overlay,
     from: &str,
     to: &str,
-) -> Result<String, Fail>
-    requires small { AreSmall durlen_ops overlay.now.frame.graph overlay.now.weights }
-    requires exact { AreExact durlen_ops overlay.now.frame overlay.now.weights overlay.now.cliques (length overlay.now.frame.cells.levels) }
+) -> Result<String, SearchFault>
+    requires small { AreSmall durlen_ops overlay.now.frame.value.graph overlay.now.weights.value }
+    requires exact { AreExact durlen_ops overlay.now.frame.value overlay.now.weights.value overlay.now.cliques.value (length overlay.now.frame.value.cells.levels) }
 {
     let vertices = overlay.frame.graph().vertices();
     let starts = starts(rt, alloc, vertices, from)?;
@@ -74,31 +77,21 @@ fn least_told(
     Ok(all_told(alloc, found.as_slice())?)
 }
 
-// A packed walk, and what a walk to each target costs.
-fn of_costs_told(
-    alloc: Global,
-    packed: &str,
-    costs: &[Option<DurLen>],
-) -> Result<String, AllocError> {
-    let costs = costs_told(alloc, costs)?;
-    format!(in alloc; "{packed}of {costs}")
-}
-
-// The cheapest packed walk to one of the targets, and what a walk to each costs.
+// The cheapest packed walk to one of the targets.
 fn cheapest_told(
     rt: &impl Abort,
     alloc: Global,
     overlay: &Overlay,
     from: &str,
     to: &str,
-) -> Result<String, Fail>
-    requires small { AreSmall durlen_ops overlay.now.frame.graph overlay.now.weights }
-    requires exact { AreExact durlen_ops overlay.now.frame overlay.now.weights overlay.now.cliques (length overlay.now.frame.cells.levels) }
+) -> Result<String, SearchFault>
+    requires small { AreSmall durlen_ops overlay.now.frame.value.graph overlay.now.weights.value }
+    requires exact { AreExact durlen_ops overlay.now.frame.value overlay.now.weights.value overlay.now.cliques.value (length overlay.now.frame.value.cells.levels) }
 {
     let vertices = overlay.frame.graph().vertices();
     let starts = starts(rt, alloc, vertices, from)?;
     let targets = targets(rt, alloc, vertices, to)?;
-    let mut search = Search::new(alloc);
+    let mut search = Box::new(alloc, Search::new(alloc))?;
     let found = cheapest(
         alloc,
         &overlay.frame,
@@ -108,7 +101,23 @@ fn cheapest_told(
         &targets,
         &mut search,
     )?;
-    let packed = packed_told(alloc, &found)?;
+    Ok(packed_told(alloc, &found)?)
+}
+
+/// What a walk to each target costs.
+pub fn least_costs_told(
+    rt: &impl Abort,
+    alloc: Global,
+    overlay: &Overlay,
+    from: &str,
+    to: &str,
+) -> Result<String, SearchFault>
+    requires small { AreSmall durlen_ops overlay.now.frame.value.graph overlay.now.weights.value }
+    requires exact { AreExact durlen_ops overlay.now.frame.value overlay.now.weights.value overlay.now.cliques.value (length overlay.now.frame.value.cells.levels) }
+{
+    let vertices = overlay.frame.graph().vertices();
+    let starts = starts(rt, alloc, vertices, from)?;
+    let targets = targets(rt, alloc, vertices, to)?;
     let costs = least_costs(
         alloc,
         &overlay.frame,
@@ -117,7 +126,23 @@ fn cheapest_told(
         &starts,
         &targets,
     )?;
-    Ok(of_costs_told(alloc, packed.as_str(), &costs)?)
+    Ok(costs_told(alloc, &costs)?)
+}
+
+// The cheapest packed walk to one of the targets, and what a walk to each costs.
+fn cheapest_of_told(
+    rt: &impl Abort,
+    alloc: Global,
+    overlay: &Overlay,
+    from: &str,
+    to: &str,
+) -> Result<String, SearchFault>
+    requires small { AreSmall durlen_ops overlay.now.frame.value.graph overlay.now.weights.value }
+    requires exact { AreExact durlen_ops overlay.now.frame.value overlay.now.weights.value overlay.now.cliques.value (length overlay.now.frame.value.cells.levels) }
+{
+    let packed = cheapest_told(rt, alloc, overlay, from, to)?;
+    let costs = least_costs_told(rt, alloc, overlay, from, to)?;
+    Ok(format!(in alloc; "{packed}of {costs}")?)
 }
 
 #[test]
@@ -140,7 +165,7 @@ fn a_walk_has_a_shortcut_of_each_level(rt: HostRuntime) -> Result<(), Fail> {
 #[test]
 fn the_second_of_two_targets_is_the_cheapest(rt: HostRuntime) -> Result<(), Fail> {
     let streets = cut(&rt, rt.alloc(), &STREETS, &[2])?;
-    let told = cheapest_told(&rt, rt.alloc(), &streets, "3:49/555", "3:50/556 2:50/556")?;
+    let told = cheapest_of_told(&rt, rt.alloc(), &streets, "3:49/555", "3:50/556 2:50/556")?;
     let want = "497/3333 3 1 0[1.0] 2 of 796/4444 497/3333 ";
     assert_eq!(rt; told.as_str(), want);
     Ok(())
@@ -149,9 +174,9 @@ fn the_second_of_two_targets_is_the_cheapest(rt: HostRuntime) -> Result<(), Fail
 #[test]
 fn no_walk_leads_to_a_closed_vertex(rt: HostRuntime) -> Result<(), Fail> {
     let ring = cut(&rt, rt.alloc(), &RING_OF_EIGHT, &[2, 4])?;
-    let none = cheapest_told(&rt, rt.alloc(), &ring, "1:5/0", "6:2/2")?;
+    let none = cheapest_of_told(&rt, rt.alloc(), &ring, "1:5/0", "6:2/2")?;
     assert_eq!(rt; none.as_str(), "- of - ");
-    let one = cheapest_told(&rt, rt.alloc(), &ring, "1:5/0", "6:2/2 0:2/2 6:2/2")?;
+    let one = cheapest_of_told(&rt, rt.alloc(), &ring, "1:5/0", "6:2/2 0:2/2 6:2/2")?;
     assert_eq!(rt; one.as_str(), "91/13 1 2 3[1.1] 4 7 0 of - 91/13 - ");
     Ok(())
 }

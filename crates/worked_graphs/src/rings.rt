@@ -1,14 +1,19 @@
 //! Searches over a ring of six vertices, of which vertex 3 is closed: an arc leads one further, and a row of one place two
 //! further.
 
-ghost use Rattle.std.specs.Prelude.{◌≡◌, ◌≢◌, ℕ, ◌+◌, ◌%◌, ◌<◌, [], ◌∷◌, Some, IfOk};
-ghost use Rattle.std.specs.List.{slice_range};
+ghost use Rattle.std.specs.Prelude.{◌≡◌, IfOk};
+ghost use Rattle.search_graph.specs.Durations.{durlen_ops};
 ghost use Rattle.search_graph.specs.declared.costs.DurLen.{DurLen};
+ghost use Rattle.step_search.specs.Paths.{AreStarts};
+ghost use Rattle.step_search.specs.UnderWay.{IsUnderWay};
+ghost use Rattle.worked_graphs.specs.RingOfSix.{AreOfRing, ring_of_six};
 
+use crate::drawings::{cost_told, vertices_told};
 use cost_lists::{CostList, CostRow};
 use search_graph::{ArcRow, DurLen, Start};
 use std::alloc::{AllocError, Global};
-use step_search::{Hop, Search, Steps, least};
+use std::process::Abort;
+use step_search::{Hop, Reached, Search, Steps, least};
 
 // Where each vertex's row leads, and what its place costs where that is open.
 #[derive(Drop)]
@@ -17,9 +22,8 @@ struct Ring {
     costs: CostList<DurLen>,
 }
 
-fn ring_of_six(alloc: Global) -> Result<Ring, AllocError>
-    ensures heads { IfOk result (λ r. r.heads ≡ 2 ∷ 3 ∷ 4 ∷ 5 ∷ 0 ∷ 1 ∷ []) }
-    ensures costs { IfOk result (λ r. r.costs ≡ Some (record { duration = 5; length = 2 }) ∷ []) }
+fn new_ring(alloc: Global) -> Result<Ring, AllocError>
+    ensures { IfOk result (λ r. AreOfRing r.heads r.costs) }
 {
     let mut costs = CostList::new(alloc);
     costs.push(Some(cost(5, 2)))?;
@@ -36,17 +40,9 @@ fn cost(duration: u64, length: u64) -> DurLen
 }
 
 impl Steps<DurLen> for Ring {
-    ghost space = { λ s. record {
-      vertices = 6;
-      May = λ v. (v < 6) × (v ≢ 3);
-      Name = λ u i. i ≡ 0;
-      Arc = λ u i v c. (i ≡ 0) × (v ≡ (u + 1) % 6) × (v ≢ 3) × (c.duration ≡ 3) × (c.length ≡ 1);
-      heads = λ u. slice_range (2 ∷ 3 ∷ 4 ∷ 5 ∷ 0 ∷ 1 ∷ []) u (u + 1);
-      Costs = λ u j c. (j ≡ 0) × (u ≢ 1) × (c.duration ≡ 5) × (c.length ≡ 2);
-      row = λ u. (0, u);
-    } };
+    ghost space = { λ s. ring_of_six };
 
-    ghost ready = { λ s. (s.heads ≡ 2 ∷ 3 ∷ 4 ∷ 5 ∷ 0 ∷ 1 ∷ []) × (s.costs ≡ Some (record { duration = 5; length = 2 }) ∷ []) };
+    ghost ready = { λ s. AreOfRing s.heads s.costs };
 
     fn may_begin(&self, v: u32) -> bool {
         v != 3
@@ -85,77 +81,136 @@ impl Steps<DurLen> for Ring {
     }
 }
 
-#[test]
-fn the_cheapest_way_round_leaves_out_the_closed_vertex(rt: HostRuntime) -> Result<(), AllocError> {
+// What each path costs, and its vertices, with a bar behind it; `-` for none.
+fn paths_told(alloc: Global, found: &[Option<Reached<DurLen>>]) -> Result<String, AllocError> {
+    let mut text = String::new(alloc);
+    for path in found {
+        text.push_str(cost_told(alloc, path.as_ref().map(|path| path.cost))?.as_str())?;
+        if let Some(path) = path {
+            text.push_str(vertices_told(alloc, path.walk.as_slice())?.as_str())?;
+        }
+        text.push_str("| ")?;
+    }
+    Ok(text)
+}
+
+// The cheapest paths from vertex 0 to these targets.
+fn least_told(alloc: Global, ring: &Ring, targets: &[u32]) -> Result<String, AllocError>
+    requires { AreOfRing ring.now.heads ring.now.costs }
+{
     let starts = [Start {
         vertex: 0,
         cost: cost(1, 0),
     }];
-    let ring = ring_of_six(rt.alloc())?;
-    let found = least(rt.alloc(), &ring, &starts, &[0, 3])?;
-    assert!(rt; found[1].is_none());
-    match &found[0] {
-        Some(round) => {
-            assert_eq!(rt; round.cost, cost(16, 6));
-            assert_eq!(rt; round.walk.as_slice(), [0, 2, 4, 0].as_slice());
-        }
-        None => assert!(rt; false, "there is a way round"),
-    }
+    let found = least(alloc, ring, &starts, targets)?;
+    paths_told(alloc, &found)
+}
+
+#[test]
+fn the_cheapest_way_round_leaves_out_the_closed_vertex(rt: HostRuntime) -> Result<(), AllocError> {
+    let ring = new_ring(rt.alloc())?;
+    let told = least_told(rt.alloc(), &ring, &[0, 3])?;
+    assert_eq!(rt; told.as_str(), "16/6 0 2 4 0 | - | ");
+    Ok(())
+}
+
+// What a cheapest path from the starts costs, by a search that begins anew.
+fn cost_anew(
+    search: &mut Search<DurLen>,
+    ring: &Ring,
+    starts: &[Start<DurLen>],
+    until: u32,
+) -> Result<Option<DurLen>, AllocError>
+    requires ready { AreOfRing ring.now.heads ring.now.costs }
+    requires starts { AreStarts durlen_ops ring_of_six starts.now }
+{
+    search.restart(ring, starts)?;
+    search.run(ring, starts, until)?;
+    Ok(search.cost(ring, starts, until))
+}
+
+// Asserts that a search knows nothing of the one before it.
+fn assert_forgetful(
+    rt: &impl Abort,
+    search: &mut Search<DurLen>,
+    ring: &Ring,
+) -> Result<(), AllocError>
+    requires { AreOfRing ring.now.heads ring.now.costs }
+{
+    let first = [Start {
+        vertex: 0,
+        cost: cost(1, 0),
+    }];
+    assert_eq!(rt; cost_anew(search, ring, &first, 4)?, Some(cost(11, 4)));
+    let second = [Start {
+        vertex: 4,
+        cost: cost(0, 0),
+    }];
+    assert_eq!(rt; cost_anew(search, ring, &second, 1)?, Some(cost(8, 3)));
     Ok(())
 }
 
 #[test]
 fn a_search_that_begins_anew_forgets_where_it_began(rt: HostRuntime) -> Result<(), AllocError> {
-    let ring = ring_of_six(rt.alloc())?;
-    let first = [Start {
-        vertex: 0,
-        cost: cost(1, 0),
-    }];
-    let mut search = Search::begin(rt.alloc(), &ring, &first)?;
-    search.run(&ring, &first, 4)?;
-    assert_eq!(rt; search.cost(&ring, &first, 4), Some(cost(11, 4)));
-    let second = [Start {
-        vertex: 4,
-        cost: cost(0, 0),
-    }];
-    search.restart(&ring, &second)?;
-    search.run(&ring, &second, 1)?;
-    assert_eq!(rt; search.cost(&ring, &second, 1), Some(cost(8, 3)));
-    Ok(())
+    let ring = new_ring(rt.alloc())?;
+    let mut search = Search::new(rt.alloc());
+    assert_forgetful(&rt, &mut search, &ring)
 }
 
-#[test]
-fn the_nearer_of_two_targets_is_told_first(rt: HostRuntime) -> Result<(), AllocError> {
-    let ring = ring_of_six(rt.alloc())?;
+// Asserts which of some targets is told.
+fn assert_first(rt: &impl Abort, search: &mut Search<DurLen>, ring: &Ring) -> Result<(), AllocError>
+    requires { AreOfRing ring.now.heads ring.now.costs }
+{
     let starts = [Start {
         vertex: 0,
         cost: cost(1, 0),
     }];
-    let mut search = Search::new(rt.alloc());
-    search.restart(&ring, &starts)?;
-    let first = search.run_first(&ring, &starts, &[3, 4, 2])?;
+    search.restart(ring, &starts)?;
+    let first = search.run_first(ring, &starts, &[3, 4, 2])?;
     assert_eq!(rt; first, Some(2));
-    let none = search.run_first(&ring, &starts, &[3])?;
+    let none = search.run_first(ring, &starts, &[3])?;
     assert_eq!(rt; none, None);
     Ok(())
 }
 
 #[test]
+fn the_nearer_of_two_targets_is_told_first(rt: HostRuntime) -> Result<(), AllocError> {
+    let ring = new_ring(rt.alloc())?;
+    let mut search = Search::new(rt.alloc());
+    assert_first(&rt, &mut search, &ring)
+}
+
+// What a cheapest path to vertex 4 costs, by a search that ends as soon as it has a path that costs as little as is known.
+fn cost_by_known(
+    rt: &impl Abort,
+    search: &mut Search<DurLen>,
+    ring: &Ring,
+    starts: &[Start<DurLen>],
+) -> Result<Option<DurLen>, AllocError>
+    requires ready { AreOfRing ring.now.heads ring.now.costs }
+    requires starts { AreStarts durlen_ops ring_of_six starts.now }
+    requires under_way { IsUnderWay durlen_ops ring_of_six starts.now search.old }
+{
+    search.run(ring, starts, 4)?;
+    let Some(known) = search.cost(ring, starts, 4) else {
+        panic!(rt; "there is a way to 4");
+    };
+    search.restart(ring, starts)?;
+    search.run_to(ring, starts, 4, known)?;
+    Ok(search.cost(ring, starts, 4))
+}
+
+#[test]
 fn what_is_known_to_be_least_ends_the_search(rt: HostRuntime) -> Result<(), AllocError> {
-    let ring = ring_of_six(rt.alloc())?;
+    let ring = new_ring(rt.alloc())?;
     let starts = [Start {
         vertex: 0,
         cost: cost(1, 0),
     }];
     let mut search = Search::begin(rt.alloc(), &ring, &starts)?;
-    search.run(&ring, &starts, 4)?;
-    match search.cost(&ring, &starts, 4) {
-        Some(known) => {
-            search.restart(&ring, &starts)?;
-            search.run_to(&ring, &starts, 4, known)?;
-            assert_eq!(rt; search.cost(&ring, &starts, 4), Some(cost(11, 4)));
-        }
-        None => assert!(rt; false, "there is a way to 4"),
-    }
+    assert_eq!(rt;
+        cost_by_known(&rt, &mut search, &ring, &starts)?,
+        Some(cost(11, 4))
+    );
     Ok(())
 }

@@ -6,13 +6,13 @@ ghost use Rattle.search_graph.specs.Weighted.{AreSmall, IsWeighting};
 ghost use Rattle.cell_frame.specs.Cliqued.{AreExact};
 
 use crate::drawings::{Overlay, SMALL, cost_told, costs_told, cut, starts, targets};
-use plain_search::least_from;
+use plain_search::{Found, SearchFault, least_from};
 use search_graph::DurLen;
 use std::alloc::{AllocError, Global};
 use std::process::Abort;
 use std::test::Fail;
 use std::thread::Threads;
-use table_query::{Starts, Targets, table};
+use table_query::{Row, Starts, Targets, table};
 
 // The lists of starts, with a semicolon between each two.
 fn sources(
@@ -46,16 +46,26 @@ fn columns(
     Ok(columns)
 }
 
-// The rows of a table.
+// The rows of a table, with a bar behind each.
+fn rows_told(alloc: Global, rows: &[Row<DurLen>]) -> Result<String, AllocError> {
+    let mut text = String::new(alloc);
+    for row in rows {
+        text.push_str(costs_told(alloc, row.as_slice())?.as_str())?;
+        text.push_str("| ")?;
+    }
+    Ok(text)
+}
+
+// The table of these lists.
 fn table_told(
     rt: &(impl Abort + Threads + Sync),
     alloc: Global,
     overlay: &Overlay,
     from: &str,
     to: &str,
-) -> Result<String, Fail>
-    requires small { AreSmall durlen_ops overlay.now.frame.graph overlay.now.weights }
-    requires exact { AreExact durlen_ops overlay.now.frame overlay.now.weights overlay.now.cliques (length overlay.now.frame.cells.levels) }
+) -> Result<String, SearchFault>
+    requires small { AreSmall durlen_ops overlay.now.frame.value.graph overlay.now.weights.value }
+    requires exact { AreExact durlen_ops overlay.now.frame.value overlay.now.weights.value overlay.now.cliques.value (length overlay.now.frame.value.cells.levels) }
 {
     let vertices = overlay.frame.graph().vertices();
     let sources = sources(rt, alloc, vertices, from)?;
@@ -69,12 +79,7 @@ fn table_told(
         &sources,
         &columns,
     )?;
-    let mut text = String::new(alloc);
-    for row in rows.as_slice() {
-        text.push_str(costs_told(alloc, row.as_slice())?.as_str())?;
-        text.push_str("| ")?;
-    }
-    Ok(text)
+    Ok(rows_told(alloc, &rows)?)
 }
 
 #[test]
@@ -87,6 +92,33 @@ fn least_costs_in_a_small_graph(rt: HostRuntime) -> Result<(), Fail> {
     Ok(())
 }
 
+// What the walk to each target costs.
+fn found_told(alloc: Global, found: &[Option<Found<DurLen>>]) -> Result<String, AllocError> {
+    let mut text = String::new(alloc);
+    for found in found {
+        let cost = found.as_ref().map(|found| found.cost);
+        text.push_str(cost_told(alloc, cost)?.as_str())?;
+    }
+    Ok(text)
+}
+
+// The row that plain search finds from a start.
+fn plain_row_told(
+    rt: &impl Abort,
+    alloc: Global,
+    overlay: &Overlay,
+    from: &str,
+    to: &str,
+) -> Result<String, SearchFault>
+    requires { IsWeighting durlen_ops overlay.now.frame.value.graph overlay.now.weights.value }
+{
+    let graph = overlay.frame.graph();
+    let starts = starts(rt, alloc, graph.vertices(), from)?;
+    let targets = targets(rt, alloc, graph.vertices(), to)?;
+    let found = least_from(alloc, graph, &overlay.weights, &starts, &targets)?;
+    Ok(found_told(alloc, &found)?)
+}
+
 // The rows that plain search finds, from each of these starts.
 fn plain_told(
     rt: &impl Abort,
@@ -94,18 +126,12 @@ fn plain_told(
     overlay: &Overlay,
     from: &str,
     to: &str,
-) -> Result<String, Fail>
-    requires { IsWeighting durlen_ops overlay.now.frame.graph overlay.now.weights }
+) -> Result<String, SearchFault>
+    requires { IsWeighting durlen_ops overlay.now.frame.value.graph overlay.now.weights.value }
 {
-    let graph = overlay.frame.graph();
-    let targets = targets(rt, alloc, graph.vertices(), to)?;
     let mut text = String::new(alloc);
     for start in from.split(' ') {
-        let starts = starts(rt, alloc, graph.vertices(), start)?;
-        for found in least_from(alloc, graph, &overlay.weights, &starts, &targets)? {
-            let cost = found.map(|found| found.cost);
-            text.push_str(cost_told(alloc, cost)?.as_str())?;
-        }
+        text.push_str(plain_row_told(rt, alloc, overlay, start, to)?.as_str())?;
         text.push_str("| ")?;
     }
     Ok(text)

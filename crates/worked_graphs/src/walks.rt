@@ -5,16 +5,17 @@ ghost use Rattle.std.specs.List.Sorted.{IsStrictlyIncreasing};
 ghost use Rattle.search_graph.specs.Durations.{durlen_ops};
 ghost use Rattle.search_graph.specs.Weighted.{AreSmall, IsWeighting};
 ghost use Rattle.cell_frame.specs.Cliqued.{AreExact};
+ghost use Rattle.path_unpack.specs.Unpacked.{IsPackedWalk};
 
 use crate::drawings::{
-    Drawing, Overlay, RING_OF_EIGHT, RING_OF_TEN, SMALL, cost_told, costs_told, cut, starts,
-    targets, vertices_told,
+    Drawing, Overlay, RING_OF_EIGHT, RING_OF_TEN, SMALL, cost_told, cut, starts, targets,
+    vertices_told,
 };
 use crate::plain::{least_told, walks_told};
-use crate::queries::packed_told;
-use overlay_query::{cheapest, least_costs};
+use crate::queries::{least_costs_told, walk_told};
+use overlay_query::{PackedFound, cheapest};
 use path_unpack::{cheapest_from, least_from, unpack};
-use plain_search::Found;
+use plain_search::{Found, SearchFault};
 use search_graph::DurLen;
 use std::alloc::{AllocError, Global};
 use std::process::Abort;
@@ -22,9 +23,27 @@ use std::test::Fail;
 use step_search::Search;
 
 // A packed walk, and the walk that it is opened to.
-fn opened_told(alloc: Global, packed: &str, walk: &[u32]) -> Result<String, AllocError> {
-    let walk = vertices_told(alloc, walk)?;
-    format!(in alloc; "{packed}is {walk}")
+fn opened_told(
+    alloc: Global,
+    overlay: &Overlay,
+    found: &PackedFound<DurLen>,
+    search: &mut Search<DurLen>,
+) -> Result<String, SearchFault>
+    requires small { AreSmall durlen_ops overlay.now.frame.value.graph overlay.now.weights.value }
+    requires exact { AreExact durlen_ops overlay.now.frame.value overlay.now.weights.value overlay.now.cliques.value (length overlay.now.frame.value.cells.levels) }
+    requires packed { IsPackedWalk durlen_ops overlay.now.frame.value overlay.now.weights.value found.now.packed.first found.now.packed.hops }
+{
+    let walk = unpack(
+        alloc,
+        &overlay.frame,
+        &overlay.weights,
+        &overlay.cliques,
+        &found.packed,
+        search,
+    )?;
+    let opened = vertices_told(alloc, &walk)?;
+    let packed = walk_told(alloc, found)?;
+    Ok(format!(in alloc; "{packed}is {opened}")?)
 }
 
 // The packed walk to one target, and the walk that it is opened to, apart from the query.
@@ -34,14 +53,14 @@ fn unpacked_told(
     overlay: &Overlay,
     from: &str,
     to: &str,
-) -> Result<String, Fail>
-    requires small { AreSmall durlen_ops overlay.now.frame.graph overlay.now.weights }
-    requires exact { AreExact durlen_ops overlay.now.frame overlay.now.weights overlay.now.cliques (length overlay.now.frame.cells.levels) }
+) -> Result<String, SearchFault>
+    requires small { AreSmall durlen_ops overlay.now.frame.value.graph overlay.now.weights.value }
+    requires exact { AreExact durlen_ops overlay.now.frame.value overlay.now.weights.value overlay.now.cliques.value (length overlay.now.frame.value.cells.levels) }
 {
     let vertices = overlay.frame.graph().vertices();
     let starts = starts(rt, alloc, vertices, from)?;
     let targets = targets(rt, alloc, vertices, to)?;
-    let mut search = Search::new(alloc);
+    let mut search = Box::new(alloc, Search::new(alloc))?;
     let found = cheapest(
         alloc,
         &overlay.frame,
@@ -51,19 +70,10 @@ fn unpacked_told(
         &targets,
         &mut search,
     )?;
-    let packed = packed_told(alloc, &found)?;
-    let Some(found) = found else {
-        return Ok(packed);
-    };
-    let walk = unpack(
-        alloc,
-        &overlay.frame,
-        &overlay.weights,
-        &overlay.cliques,
-        &found.packed,
-        &mut search,
-    )?;
-    Ok(opened_told(alloc, packed.as_str(), walk.as_slice())?)
+    match &found {
+        Some(found) => opened_told(alloc, overlay, found, &mut search),
+        None => Ok(String::from_str(alloc, "- ")?),
+    }
 }
 
 // What a walk costs, and the walk; `-` for none.
@@ -83,14 +93,14 @@ fn cheapest_told(
     overlay: &Overlay,
     from: &str,
     to: &str,
-) -> Result<String, Fail>
-    requires small { AreSmall durlen_ops overlay.now.frame.graph overlay.now.weights }
-    requires exact { AreExact durlen_ops overlay.now.frame overlay.now.weights overlay.now.cliques (length overlay.now.frame.cells.levels) }
+) -> Result<String, SearchFault>
+    requires small { AreSmall durlen_ops overlay.now.frame.value.graph overlay.now.weights.value }
+    requires exact { AreExact durlen_ops overlay.now.frame.value overlay.now.weights.value overlay.now.cliques.value (length overlay.now.frame.value.cells.levels) }
 {
     let vertices = overlay.frame.graph().vertices();
     let starts = starts(rt, alloc, vertices, from)?;
     let targets = targets(rt, alloc, vertices, to)?;
-    let mut search = Search::new(alloc);
+    let mut search = Box::new(alloc, Search::new(alloc))?;
     let found = cheapest_from(
         alloc,
         &overlay.frame,
@@ -131,9 +141,9 @@ fn overlay_told(
     overlay: &Overlay,
     from: &str,
     to: &str,
-) -> Result<String, Fail>
-    requires small { AreSmall durlen_ops overlay.now.frame.graph overlay.now.weights }
-    requires exact { AreExact durlen_ops overlay.now.frame overlay.now.weights overlay.now.cliques (length overlay.now.frame.cells.levels) }
+) -> Result<String, SearchFault>
+    requires small { AreSmall durlen_ops overlay.now.frame.value.graph overlay.now.weights.value }
+    requires exact { AreExact durlen_ops overlay.now.frame.value overlay.now.weights.value overlay.now.cliques.value (length overlay.now.frame.value.cells.levels) }
 {
     let vertices = overlay.frame.graph().vertices();
     let starts = starts(rt, alloc, vertices, from)?;
@@ -149,46 +159,18 @@ fn overlay_told(
     Ok(walks_told(alloc, &found)?)
 }
 
-// What a walk to each target costs, by the overlay.
-fn least_costs_told(
+// The overlay and plain search find the same walk, at the same cost.
+fn compare(
     rt: &impl Abort,
     alloc: Global,
     overlay: &Overlay,
     from: &str,
     to: &str,
-) -> Result<String, Fail>
-    requires small { AreSmall durlen_ops overlay.now.frame.graph overlay.now.weights }
-    requires exact { AreExact durlen_ops overlay.now.frame overlay.now.weights overlay.now.cliques (length overlay.now.frame.cells.levels) }
+) -> Result<(), SearchFault>
+    requires small { AreSmall durlen_ops overlay.now.frame.value.graph overlay.now.weights.value }
+    requires weighting { IsWeighting durlen_ops overlay.now.frame.value.graph overlay.now.weights.value }
+    requires exact { AreExact durlen_ops overlay.now.frame.value overlay.now.weights.value overlay.now.cliques.value (length overlay.now.frame.value.cells.levels) }
 {
-    let vertices = overlay.frame.graph().vertices();
-    let starts = starts(rt, alloc, vertices, from)?;
-    let targets = targets(rt, alloc, vertices, to)?;
-    let costs = least_costs(
-        alloc,
-        &overlay.frame,
-        &overlay.weights,
-        &overlay.cliques,
-        &starts,
-        &targets,
-    )?;
-    Ok(costs_told(alloc, &costs)?)
-}
-
-// The overlay and plain search find the same walk from one vertex to another, at the same cost.
-fn compare(
-    rt: &impl Abort,
-    alloc: Global,
-    overlay: &Overlay,
-    from: u32,
-    to: u32,
-) -> Result<(), Fail>
-    requires small { AreSmall durlen_ops overlay.now.frame.graph overlay.now.weights }
-    requires weighting { IsWeighting durlen_ops overlay.now.frame.graph overlay.now.weights }
-    requires exact { AreExact durlen_ops overlay.now.frame overlay.now.weights overlay.now.cliques (length overlay.now.frame.cells.levels) }
-{
-    let from = format!(in alloc; "{from}:5/0")?;
-    let to = format!(in alloc; "{to}:2/2")?;
-    let (from, to) = (from.as_str(), to.as_str());
     let plain = least_told(rt, alloc, overlay.frame.graph(), &overlay.weights, from, to)?;
     let found = overlay_told(rt, alloc, overlay, from, to)?;
     assert_eq!(rt; found.as_str(), plain.as_str());
@@ -200,15 +182,32 @@ fn compare(
     Ok(())
 }
 
+// The same from one vertex to another.
+fn compare_vertices(
+    rt: &impl Abort,
+    alloc: Global,
+    overlay: &Overlay,
+    from: u32,
+    to: u32,
+) -> Result<(), SearchFault>
+    requires small { AreSmall durlen_ops overlay.now.frame.value.graph overlay.now.weights.value }
+    requires weighting { IsWeighting durlen_ops overlay.now.frame.value.graph overlay.now.weights.value }
+    requires exact { AreExact durlen_ops overlay.now.frame.value overlay.now.weights.value overlay.now.cliques.value (length overlay.now.frame.value.cells.levels) }
+{
+    let from = format!(in alloc; "{from}:5/0")?;
+    let to = format!(in alloc; "{to}:2/2")?;
+    compare(rt, alloc, overlay, from.as_str(), to.as_str())
+}
+
 // The same from each vertex to each.
-fn compare_all(rt: &impl Abort, alloc: Global, overlay: &Overlay) -> Result<(), Fail>
-    requires small { AreSmall durlen_ops overlay.now.frame.graph overlay.now.weights }
-    requires weighting { IsWeighting durlen_ops overlay.now.frame.graph overlay.now.weights }
-    requires exact { AreExact durlen_ops overlay.now.frame overlay.now.weights overlay.now.cliques (length overlay.now.frame.cells.levels) }
+fn compare_all(rt: &impl Abort, alloc: Global, overlay: &Overlay) -> Result<(), SearchFault>
+    requires small { AreSmall durlen_ops overlay.now.frame.value.graph overlay.now.weights.value }
+    requires weighting { IsWeighting durlen_ops overlay.now.frame.value.graph overlay.now.weights.value }
+    requires exact { AreExact durlen_ops overlay.now.frame.value overlay.now.weights.value overlay.now.cliques.value (length overlay.now.frame.value.cells.levels) }
 {
     for from in 0..overlay.frame.graph().vertices() {
         for to in 0..overlay.frame.graph().vertices() {
-            compare(rt, alloc, overlay, from, to)?;
+            compare_vertices(rt, alloc, overlay, from, to)?;
         }
     }
     Ok(())
@@ -225,7 +224,7 @@ fn compare_cut(
     requires some { All (λ limit. 1 ≤ limit) limits.now }
 {
     let overlay = cut(rt, alloc, drawing, limits)?;
-    compare_all(rt, alloc, &overlay)
+    Ok(compare_all(rt, alloc, &overlay)?)
 }
 
 #[test]

@@ -3,6 +3,3 @@ use Rattle.worked_graphs.proofs.rings.what_is_known_to_be_least_ends_the_search.
 
 pub begin-requires-clause-space : goal.begin-requires-clause-space
 begin-requires-clause-space g c = ring_space
-
-pub restart-requires-clause-space : goal.restart-requires-clause-space
-restart-requires-clause-space g c = ring_space

@@ -1,5 +1,5 @@
 use Rattle.worked_graphs.proofs.RingOfSix.{ring_space}
-use Rattle.worked_graphs.proofs.rings.the_nearer_of_two_targets_is_told_first.Goals as goal
+use Rattle.worked_graphs.proofs.rings.assert_first.Goals as goal
 
 pub restart-requires-clause-space : goal.restart-requires-clause-space
 restart-requires-clause-space g c = ring_space
