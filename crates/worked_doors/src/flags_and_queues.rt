@@ -102,14 +102,10 @@ fn flag_conn(
 ) -> Result<FlagConn<MemConn>, AllocError>
     ensures { IfOk result (λ c. IsFreshConn (conn_state c.conn)) }
 {
+    let wait = Arc::try_clone(wait)?;
+    let set = Arc::try_clone(set)?;
     let conn = connection(alloc, b"abc", ROOM)?;
-    Ok(FlagConn::of(
-        conn,
-        Arc::try_clone(wait)?,
-        TURNS,
-        Arc::try_clone(set)?,
-        after,
-    ))
+    Ok(FlagConn::of(conn, wait, TURNS, set, after))
 }
 
 #[test]

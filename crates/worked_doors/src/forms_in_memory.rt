@@ -84,16 +84,15 @@ fn a_full_sink_fails_after_its_room(rt: HostRuntime) -> Result<(), AllocError> {
     Ok(())
 }
 
+fn file(alloc: Global, name: &str, bytes: &[u8]) -> Result<(Text, Vec<u8>), AllocError> {
+    let bytes = Vec::from_slice(alloc, bytes)?;
+    Ok((Text::copy_of(alloc, name)?, bytes))
+}
+
 fn two_files(alloc: Global) -> Result<Vec<(Text, Vec<u8>)>, AllocError> {
     let mut files = Vec::new(alloc);
-    files.push((
-        Text::copy_of(alloc, "town.opl")?,
-        Vec::from_slice(alloc, b"n1 x0 y0\n")?,
-    ))?;
-    files.push((
-        Text::copy_of(alloc, "town.opl")?,
-        Vec::from_slice(alloc, b"n2")?,
-    ))?;
+    files.push(file(alloc, "town.opl", b"n1 x0 y0\n")?)?;
+    files.push(file(alloc, "town.opl", b"n2")?)?;
     Ok(files)
 }
 
