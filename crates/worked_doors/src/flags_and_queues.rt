@@ -3,12 +3,15 @@
 
 ghost use Rattle.std.specs.Prelude.{◌≤◌, IfOk};
 ghost use Rattle.road_io.specs.DoorOpening.{IsNewDoor};
+ghost use Rattle.road_io.specs.MemoryStates.{conn_state};
+ghost use Rattle.road_io.specs.Views.{IsFreshConn};
 
-use crate::flag_doors::{connection, flag};
-use road_doors::{FlagConn, FlagGate, MemDoors, QueueDoor, SteadyConn};
+use flag_doors::{connection, flag};
+use road_doors::{Flag, FlagConn, FlagGate, MemDoors, QueueDoor, SteadyConn};
 use road_io::{Closer, Door, Doors, DoorsFault, Gate, MemConn, Opened, Sink, Source};
 use std::alloc::{AllocError, Global};
 use std::net::{Net, TcpListener, TcpStream};
+use std::process::Abort;
 use std::sync::Arc;
 
 const TURNS: u64 = 1000;
@@ -37,6 +40,18 @@ fn echo_one<D: Door>(door: &mut D) -> Option<u8>
     }
 }
 
+// Asserts that two connections come through a door in order, and that it ends by a fault.
+fn assert_in_order(rt: &impl Abort, door: &mut QueueDoor<MemConn>)
+    requires { door.old.finished ≤ door.old.given }
+{
+    assert_eq!(rt; echo_one(door), Some(b'a'));
+    assert_eq!(rt; echo_one(door), Some(b'b'));
+    assert!(rt; !door.has_fault());
+    assert_eq!(rt; echo_one(door), None);
+    assert!(rt; door.has_fault());
+    assert_eq!(rt; echo_one(door), None);
+}
+
 #[test]
 fn connections_come_in_order_until_the_door_ends(rt: HostRuntime) -> Result<(), AllocError> {
     let alloc = rt.alloc();
@@ -44,16 +59,53 @@ fn connections_come_in_order_until_the_door_ends(rt: HostRuntime) -> Result<(), 
     connections.push(connection(alloc, b"a", ROOM)?)?;
     connections.push(connection(alloc, b"b", ROOM)?)?;
     let mut door = QueueDoor::of(alloc, connections, vec![in alloc; 3_u64]?)?;
-    assert_eq!(rt; echo_one(&mut door), Some(b'a'));
-    assert_eq!(rt; echo_one(&mut door), Some(b'b'));
-    assert!(rt; !door.has_fault());
-    assert_eq!(rt; echo_one(&mut door), None);
-    assert!(rt; door.has_fault());
-    assert_eq!(rt; echo_one(&mut door), None);
+    assert_in_order(&rt, &mut door);
     assert!(rt;
         matches!(door.finished(), [first, second] if first.output() == b"a".as_slice() && second.output() == b"b".as_slice())
     );
     Ok(())
+}
+
+// Asserts that the second byte that is put sets this flag.
+fn assert_sets(rt: &impl Abort, conn: &mut FlagConn<MemConn>, set: &Flag) {
+    assert_eq!(rt; conn.put(b"x"), Ok(1));
+    assert!(rt; !set.is_set());
+    assert_eq!(rt; conn.put(b"y"), Ok(1));
+    assert!(rt; set.is_set());
+}
+
+// Asserts that a connection whose flag is set gives its input in time.
+fn assert_gives(rt: &impl Abort, conn: &mut FlagConn<MemConn>) {
+    let mut piece = [0_u8; 4];
+    assert_eq!(rt; conn.take(&mut piece), Ok(3));
+    assert!(rt; !conn.is_late());
+}
+
+// Asserts that a connection whose flag is never set comes late.
+fn assert_late(rt: &impl Abort, alloc: Global, late: FlagConn<MemConn>) -> Result<(), AllocError>
+    requires { IsFreshConn (conn_state late.conn) }
+{
+    let mut waiting = Vec::new(alloc);
+    waiting.push(late)?;
+    let mut door = QueueDoor::of(alloc, waiting, Vec::new(alloc))?;
+    assert_eq!(rt; echo_one(&mut door), Some(b'a'));
+    assert!(rt; matches!(door.finished(), [late] if late.is_late()));
+    Ok(())
+}
+
+// A connection that waits for one flag, and sets another behind so many bytes of output.
+fn flag_conn(
+    alloc: Global,
+    wait: &Arc<Flag>,
+    set: &Arc<Flag>,
+    after: u64,
+) -> Result<FlagConn<MemConn>, AllocError>
+    ensures { IfOk result (λ c. IsFreshConn (conn_state c.conn)) }
+{
+    let wait = Arc::try_clone(wait)?;
+    let set = Arc::try_clone(set)?;
+    let conn = connection(alloc, b"abc", ROOM)?;
+    Ok(FlagConn::of(conn, wait, TURNS, set, after))
 }
 
 #[test]
@@ -61,29 +113,21 @@ fn a_put_sets_one_flag_and_a_take_waits_for_another(rt: HostRuntime) -> Result<(
     let alloc = rt.alloc();
     let wait = flag(alloc)?;
     let set = flag(alloc)?;
-    let mut conn = FlagConn::of(
-        connection(alloc, b"abc", ROOM)?,
-        Arc::try_clone(&wait)?,
-        TURNS,
-        Arc::try_clone(&set)?,
-        2,
-    );
-    assert_eq!(rt; conn.put(b"x"), Ok(1));
-    assert!(rt; !set.is_set());
-    assert_eq!(rt; conn.put(b"y"), Ok(1));
-    assert!(rt; set.is_set());
+    let mut conn = flag_conn(alloc, &wait, &set, 2)?;
+    assert_sets(&rt, &mut conn, &set);
     wait.set();
-    let mut piece = [0_u8; 4];
-    assert_eq!(rt; conn.take(&mut piece), Ok(3));
-    assert!(rt; !conn.is_late());
+    assert_gives(&rt, &mut conn);
     let never = flag(alloc)?;
-    let late = FlagConn::of(connection(alloc, b"abc", ROOM)?, never, TURNS, set, 9);
-    let mut waiting = Vec::new(alloc);
-    waiting.push(late)?;
-    let mut door = QueueDoor::of(alloc, waiting, Vec::new(alloc))?;
-    assert_eq!(rt; echo_one(&mut door), Some(b'a'));
-    assert!(rt; matches!(door.finished(), [late] if late.is_late()));
-    Ok(())
+    assert_late(&rt, alloc, flag_conn(alloc, &never, &set, 9)?)
+}
+
+// Asserts that a gate holds seat 1 under number 2 alone, and not for ever.
+fn assert_held(rt: &impl Abort, gate: &FlagGate, arrived: &Flag) {
+    gate.pass(0, 2);
+    gate.pass(1, 1);
+    assert!(rt; !gate.is_late() && !arrived.is_set());
+    gate.pass(1, 2);
+    assert!(rt; gate.is_late() && arrived.is_set());
 }
 
 #[test]
@@ -98,11 +142,7 @@ fn a_gate_holds_one_seat_under_one_number(rt: HostRuntime) -> Result<(), AllocEr
         Arc::try_clone(&open)?,
         TURNS,
     );
-    gate.pass(0, 2);
-    gate.pass(1, 1);
-    assert!(rt; !gate.is_late() && !arrived.is_set());
-    gate.pass(1, 2);
-    assert!(rt; gate.is_late() && arrived.is_set());
+    assert_held(&rt, &gate, &arrived);
     let gate = FlagGate::of(1, 2, arrived, Arc::try_clone(&open)?, TURNS);
     open.set();
     gate.pass(1, 2);
@@ -150,18 +190,24 @@ fn open_once<N: Doors, R: Net<Listener = TcpListener, Stream = TcpStream>>(
     Ok((count, byte))
 }
 
+// Asserts that an opening fails, the next gives the doors, and one behind it doors that nothing comes through.
+fn assert_opened<N: Doors, R: Abort + Net<Listener = TcpListener, Stream = TcpStream>>(
+    rt: &R,
+    alloc: Global,
+    doors: &mut N,
+) {
+    assert_eq!(rt; open_once(rt, alloc, doors, 2), Err(DoorsFault::Failed));
+    assert_eq!(rt; open_once(rt, alloc, doors, 2), Ok((2, Some(b'c'))));
+    assert_eq!(rt; open_once(rt, alloc, doors, 1), Ok((1, None)));
+}
+
 #[test]
 fn doors_are_opened_and_come_back(rt: HostRuntime) -> Result<(), AllocError> {
     let alloc = rt.alloc();
     let mut queries = Vec::new(alloc);
     queries.push(door(alloc, b"a")?)?;
     let mut doors = MemDoors::of(alloc, queries, door(alloc, b"c")?, vec![in alloc; 1_u64]?);
-    assert_eq!(rt;
-        open_once(&rt, alloc, &mut doors, 2),
-        Err(DoorsFault::Failed)
-    );
-    assert_eq!(rt; open_once(&rt, alloc, &mut doors, 2), Ok((2, Some(b'c'))));
-    assert_eq!(rt; open_once(&rt, alloc, &mut doors, 1), Ok((1, None)));
+    assert_opened(&rt, alloc, &mut doors);
     assert!(rt;
         matches!(doors.returned(), [set, again] if set.control().finished().len() == 1 && again.queries().len() == 1)
     );

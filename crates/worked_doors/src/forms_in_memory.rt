@@ -1,7 +1,8 @@
 //! What no clause says: that the calls succeed with ample memory, and how the forms in memory cut and
 //! fail.
 
-ghost use Rattle.std.specs.Prelude.{All, IfOk};
+ghost use Rattle.std.specs.Prelude.{◌≤◌, All, IfOk};
+ghost use Rattle.road_io.specs.MemoryDoor.{door_view};
 ghost use Rattle.road_io.specs.MemoryStates.{IsUnused};
 
 use road_base::Text;
@@ -11,6 +12,7 @@ use road_io::{
     SteadySink, SteadySource, put_all, put_whole, take_into,
 };
 use std::alloc::{AllocError, Global};
+use std::process::Abort;
 
 fn source(
     alloc: Global,
@@ -37,59 +39,86 @@ fn echo_once<C: Conn>(conn: &mut C, room: usize) -> Result<usize, Failed> {
     Ok(count)
 }
 
+// How many bytes so many calls echo each, or that one fails.
+fn counts(alloc: Global, conn: &mut MemConn, calls: u32) -> Result<String, AllocError> {
+    let mut text = String::new(alloc);
+    for _ in 0..calls {
+        match echo_once(conn, 8) {
+            Ok(count) => text.push_str(format!(in alloc; "{count} ")?.as_str())?,
+            Err(Failed) => text.push_str("failed ")?,
+        }
+    }
+    Ok(text)
+}
+
 #[test]
 fn a_connection_cuts_its_input_and_tells_its_output(rt: HostRuntime) -> Result<(), AllocError> {
     let alloc = rt.alloc();
     let input = source(alloc, b"walnutkiln", &[1, 0, 4], &[4])?;
     let mut conn = MemConn::of(input, sink(alloc, 100, &[])?);
-    let counts = [Ok(1), Ok(1), Ok(4), Err(Failed), Ok(1), Ok(1), Ok(2), Ok(0)];
-    for (call, expected) in counts.iter().enumerate() {
-        assert_eq!(rt; echo_once(&mut conn, 8), *expected, "call {call}");
-    }
+    let counts = counts(alloc, &mut conn, 8)?;
+    assert_eq!(rt; counts.as_str(), "1 1 4 failed 1 1 2 0 ");
     assert_eq!(rt; conn.output(), b"walnutkiln".as_slice());
     Ok(())
 }
 
-#[test]
-fn a_full_sink_fails_after_its_room(rt: HostRuntime) -> Result<(), AllocError> {
-    let mut full = sink(rt.alloc(), 10, &[])?;
-    assert_eq!(rt; put_all(&mut full, b"HTTP/1.1 200 OK"), Err(Failed));
+// Asserts that a sink with room for ten bytes takes no more.
+fn assert_full(rt: &impl Abort, full: &mut MemSink) {
+    assert_eq!(rt; put_all(full, b"HTTP/1.1 200 OK"), Err(Failed));
     assert_eq!(rt; full.as_bytes(), b"HTTP/1.1 2".as_slice());
     assert_eq!(rt; full.put(b""), Ok(0));
-    let mut failing = sink(rt.alloc(), 10, &[2])?;
-    assert_eq!(rt; put_all(&mut failing, b"one"), Ok(()));
-    assert_eq!(rt; put_all(&mut failing, b"two"), Err(Failed));
-    assert_eq!(rt; put_all(&mut failing, b"six"), Ok(()));
+}
+
+// Asserts that a sink whose second call fails goes on behind it.
+fn assert_failing(rt: &impl Abort, failing: &mut MemSink) {
+    assert_eq!(rt; put_all(failing, b"one"), Ok(()));
+    assert_eq!(rt; put_all(failing, b"two"), Err(Failed));
+    assert_eq!(rt; put_all(failing, b"six"), Ok(()));
     assert_eq!(rt; failing.as_bytes(), b"onesix".as_slice());
+}
+
+#[test]
+fn a_full_sink_fails_after_its_room(rt: HostRuntime) -> Result<(), AllocError> {
+    assert_full(&rt, &mut sink(rt.alloc(), 10, &[])?);
+    assert_failing(&rt, &mut sink(rt.alloc(), 10, &[2])?);
     Ok(())
+}
+
+fn file(alloc: Global, name: &str, bytes: &[u8]) -> Result<(Text, Vec<u8>), AllocError> {
+    let bytes = Vec::from_slice(alloc, bytes)?;
+    Ok((Text::copy_of(alloc, name)?, bytes))
 }
 
 fn two_files(alloc: Global) -> Result<Vec<(Text, Vec<u8>)>, AllocError> {
     let mut files = Vec::new(alloc);
-    files.push((
-        Text::copy_of(alloc, "town.opl")?,
-        Vec::from_slice(alloc, b"n1 x0 y0\n")?,
-    ))?;
-    files.push((
-        Text::copy_of(alloc, "town.opl")?,
-        Vec::from_slice(alloc, b"n2")?,
-    ))?;
+    files.push(file(alloc, "town.opl", b"n1 x0 y0\n")?)?;
+    files.push(file(alloc, "town.opl", b"n2")?)?;
     Ok(files)
+}
+
+// Asserts what is read of two files with one name, where the second read fails.
+fn assert_read(rt: &impl Abort, alloc: Global, files: &mut MemFiles) {
+    let first = files.read(alloc, "town.opl").unwrap_or(Vec::new(alloc));
+    assert_eq!(rt; first.as_slice(), b"n1 x0 y0\n".as_slice());
+    assert!(rt; matches!(&files.read(alloc, "town.opl"), Err(FileFault::Failed)));
+    assert!(rt; matches!(&files.read(alloc, "Town.opl"), Err(FileFault::Failed)));
+    assert!(rt; files.read(alloc, "town.opl").is_ok());
+}
+
+// Asserts what that left.
+fn assert_reads_told(rt: &impl Abort, files: &MemFiles) {
+    assert_eq!(rt; files.reads().len(), 4);
+    assert!(rt;
+        matches!(files.failed_names(), [town, other] if town.as_str() == "town.opl" && other.as_str() == "Town.opl")
+    );
 }
 
 #[test]
 fn files_are_read_by_name(rt: HostRuntime) -> Result<(), AllocError> {
     let alloc = rt.alloc();
     let mut files = MemFiles::of(alloc, two_files(alloc)?, vec![in alloc; 2_u64]?);
-    let first = files.read(alloc, "town.opl").unwrap_or(Vec::new(alloc));
-    assert_eq!(rt; first.as_slice(), b"n1 x0 y0\n".as_slice());
-    assert!(rt; matches!(&files.read(alloc, "town.opl"), Err(FileFault::Failed)));
-    assert!(rt; matches!(&files.read(alloc, "Town.opl"), Err(FileFault::Failed)));
-    assert!(rt; files.read(alloc, "town.opl").is_ok());
-    assert_eq!(rt; files.reads().len(), 4);
-    assert!(rt;
-        matches!(files.failed_names(), [town, other] if town.as_str() == "town.opl" && other.as_str() == "Town.opl")
-    );
+    assert_read(&rt, alloc, &mut files);
+    assert_reads_told(&rt, &files);
     let mut steady = SteadyFiles::of(two_files(alloc)?);
     assert!(rt; matches!(&steady.read(alloc, "town.opl"), Ok(v) if v.len() == 9));
     assert!(rt; matches!(&steady.read(alloc, "nowhere"), Ok(v) if v.is_empty()));
@@ -147,10 +176,10 @@ fn one_connection(alloc: Global) -> Result<Vec<MemConn>, AllocError>
     Ok(connections)
 }
 
-#[test]
-fn a_door_ends_once_its_connections_are_used_up(rt: HostRuntime) -> Result<(), AllocError> {
-    let alloc = rt.alloc();
-    let mut door = MemDoor::of(alloc, one_connection(alloc)?, Vec::new(alloc))?;
+// Asserts that one connection comes through a door, and none after it.
+fn assert_used_up(rt: &impl Abort, door: &mut MemDoor)
+    requires { (door_view door.old).finished ≤ (door_view door.old).given }
+{
     let first = door.next();
     assert!(rt; matches!(&first, Ok(Some(_))));
     if let Ok(Some(mut conn)) = first {
@@ -159,10 +188,22 @@ fn a_door_ends_once_its_connections_are_used_up(rt: HostRuntime) -> Result<(), A
     }
     assert!(rt; matches!(&door.next(), Ok(None)));
     assert!(rt; !door.has_fault());
-    MemCloser.close();
-    let mut failing = MemDoor::of(alloc, Vec::new(alloc), vec![in alloc; 1_u64]?)?;
+}
+
+// Asserts that a door fails once, and then has ended.
+fn assert_fails_once(rt: &impl Abort, failing: &mut MemDoor) {
     assert!(rt; failing.next().is_err());
     assert!(rt; failing.has_fault());
     assert!(rt; matches!(&failing.next(), Ok(None)));
+}
+
+#[test]
+fn a_door_ends_once_its_connections_are_used_up(rt: HostRuntime) -> Result<(), AllocError> {
+    let alloc = rt.alloc();
+    let mut door = MemDoor::of(alloc, one_connection(alloc)?, Vec::new(alloc))?;
+    assert_used_up(&rt, &mut door);
+    MemCloser.close();
+    let mut failing = MemDoor::of(alloc, Vec::new(alloc), vec![in alloc; 1_u64]?)?;
+    assert_fails_once(&rt, &mut failing);
     Ok(())
 }

@@ -4,9 +4,9 @@
 
 ghost use Rattle.std.specs.Prelude.{◌≡◌, ◌<◌};
 
-use crate::flag_doors::{Flags, Told, gate_of, new_flags, push_conn, push_door, put_back};
 use crate::publishing::{Figure, new_figure};
 use door_service::{Controlling, Querying, Then, serve};
+use flag_doors::{Flags, Told, gate_of, new_flags, push_conn, push_door, put_back};
 use metric_publish::history::{Naming, Opened as History};
 use metric_publish::meaning::{Publishing, Reading};
 use metric_publish::opening::open;
@@ -15,6 +15,7 @@ use road_io::{Conn, Door, Doors, Gate, MemConn};
 use std::alloc::{AllocError, Global};
 use std::marker::Brand;
 use std::net::{Net, TcpListener, TcpStream};
+use std::process::Abort;
 use std::sync::Wait;
 use std::test::*;
 use std::thread::Threads;
@@ -89,7 +90,7 @@ impl Controlling<Figure> for Storing {
 
 // Two query doors, and a control door that two figures and a stop come through once the first query has
 // arrived at its gate. The second query comes once both are published.
-fn doors_of(alloc: Global, flags: &Flags) -> Result<MemDoors<FlagConn<MemConn>>, AllocError> {
+fn doors_of(alloc: Global, flags: &Flags) -> Result<Box<MemDoors<FlagConn<MemConn>>>, AllocError> {
     let mut queries = Vec::new(alloc);
     push_door(alloc, &mut queries, b"a", ROOM, &flags.begun, &flags.other)?;
     push_door(
@@ -120,7 +121,8 @@ fn doors_of(alloc: Global, flags: &Flags) -> Result<MemDoors<FlagConn<MemConn>>,
     push_conn(alloc, &mut control, &[0], ROOM, &flags.begun, &flags.other)?;
     push_conn(alloc, &mut control, &[9], ROOM, &flags.begun, &flags.other)?;
     let control = QueueDoor::of(alloc, control, Vec::new(alloc))?;
-    Ok(MemDoors::of(alloc, queries, control, Vec::new(alloc)))
+    let doors = MemDoors::of(alloc, queries, control, Vec::new(alloc));
+    Ok(Box::new(alloc, doors)?)
 }
 
 // Opens doors and a board, serves, and puts the doors back.
@@ -190,16 +192,20 @@ fn all_replies(alloc: Global, doors: &MemDoors<FlagConn<MemConn>>) -> Result<Str
     Ok(text)
 }
 
-// The first seat is held under number 0 until the second was answered under number 2.
-#[test]
-fn workers_run_beside_each_other_and_beside_the_desk(rt: HostRuntime) -> Result<(), Fail> {
-    let alloc = rt.alloc();
-    let flags = new_flags(alloc)?;
-    let mut doors = doors_of(alloc, &flags)?;
-    let numbers = Numbers {
-        gate: gate_of(flags),
-    };
-    let told = serve_once::<_, Brand, _>(&rt, alloc, &numbers, &mut doors, 2, History::new())?;
+// Serves these doors with two workers, and asserts what that leaves.
+fn assert_told<
+    J: Naming + Send + Sync,
+    R: Threads + Wait + Abort + Net<Listener = TcpListener, Stream = TcpStream> + Sync,
+>(
+    rt: &R,
+    alloc: Global,
+    numbers: &Numbers,
+    doors: &mut MemDoors<FlagConn<MemConn>>,
+    history: History<Figure>,
+) -> Result<(), Fail>
+    requires { history.seen.book ≡ J.book }
+{
+    let told = serve_once::<_, J, R>(rt, alloc, numbers, doors, 2, history)?;
     assert_eq!(rt;
         told,
         Told {
@@ -209,10 +215,21 @@ fn workers_run_beside_each_other_and_beside_the_desk(rt: HostRuntime) -> Result<
             spent: true
         }
     );
+    let replies = all_replies(alloc, doors)?;
+    assert_eq!(rt; replies.as_str(), "control 1 2 | 0 | 2 ");
+    Ok(())
+}
+
+// The first seat is held under number 0 until the second was answered under number 2.
+#[test]
+fn workers_run_beside_each_other_and_beside_the_desk(rt: HostRuntime) -> Result<(), Fail> {
+    let alloc = rt.alloc();
+    let flags = new_flags(alloc)?;
+    let mut doors = doors_of(alloc, &flags)?;
+    let numbers = Numbers {
+        gate: gate_of(flags),
+    };
+    assert_told::<Brand, HostRuntime>(&rt, alloc, &numbers, &mut doors, History::new())?;
     assert!(rt; !numbers.gate.is_late());
-    assert_eq!(rt;
-        all_replies(alloc, &doors)?.as_str(),
-        "control 1 2 | 0 | 2 "
-    );
     Ok(())
 }

@@ -4,12 +4,12 @@
 ghost use Rattle.std.specs.Prelude.{◌≡◌};
 ghost use Rattle.snap_index.specs.Ends.{all_ends};
 
-use crate::flag_doors::{Flags, Told, gate_of, new_flags, push_conn, push_door, put_back};
-use crate::towns::{first_metric, roads};
+use crate::towns::{first_metric, grid, roads};
 use customized::{Metric, Roads};
+use flag_doors::{Flags, Told, gate_of, new_flags, push_conn, push_door, put_back};
 use metric_publish::history::{Naming, Opened as History};
 use metric_publish::opening::open;
-use road_doors::{FlagConn, MemDoors, QueueDoor};
+use road_doors::{FlagConn, FlagGate, MemDoors, QueueDoor};
 use road_io::{Door, Doors, Gate, MemConn};
 use route_doors::serve;
 use snap_index::Grid;
@@ -47,7 +47,7 @@ const PUBLISH_AND_STOP: &[u8] =
 
 // Two query doors, and a control door whose connections come once the first query has arrived at its gate: a metric,
 // then a metric and a stop, then one that is never asked for. The second query comes once both are published.
-fn doors_of(alloc: Global, flags: &Flags) -> Result<MemDoors<FlagConn<MemConn>>, AllocError> {
+fn doors_of(alloc: Global, flags: &Flags) -> Result<Box<MemDoors<FlagConn<MemConn>>>, AllocError> {
     let mut queries = Vec::new(alloc);
     push_door(
         alloc,
@@ -91,7 +91,8 @@ fn doors_of(alloc: Global, flags: &Flags) -> Result<MemDoors<FlagConn<MemConn>>,
         &flags.other,
     )?;
     let control = QueueDoor::of(alloc, control, Vec::new(alloc))?;
-    Ok(MemDoors::of(alloc, queries, control, Vec::new(alloc)))
+    let doors = MemDoors::of(alloc, queries, control, Vec::new(alloc));
+    Ok(Box::new(alloc, doors)?)
 }
 
 // Serves these roads through doors that it opens and puts back.
@@ -150,24 +151,22 @@ fn assert_reply(rt: &impl Abort, door: &QueueDoor<FlagConn<MemConn>>, reply: &[u
     assert_eq!(rt; output, Some(reply));
 }
 
-// The first seat is held under number 0 until the second was answered under number 2.
-#[test]
-fn workers_answer_beside_each_other_and_beside_the_desk(rt: HostRuntime) -> Result<(), Fail> {
-    let alloc = rt.alloc();
-    let flags = new_flags(alloc)?;
-    let mut doors = doors_of(alloc, &flags)?;
-    let gate = gate_of(flags);
+// Serves the town through these doors, and asserts what that leaves.
+fn assert_told<
+    J: Naming + Send + Sync,
+    R: Threads + Wait + Abort + Net<Listener = TcpListener, Stream = TcpStream> + Sync,
+>(
+    rt: &R,
+    alloc: Global,
+    gate: &FlagGate,
+    doors: &mut MemDoors<FlagConn<MemConn>>,
+    history: History<Metric>,
+) -> Result<(), Fail>
+    requires { history.seen.book ≡ J.book }
+{
     let roads = roads(alloc)?;
-    let grid = Grid::of(alloc, roads.network())?;
-    let told = serve_roads::<_, _, Brand, _>(
-        &rt,
-        alloc,
-        &roads,
-        &grid,
-        &gate,
-        &mut doors,
-        History::new(),
-    )?;
+    let grid = grid(alloc, &roads)?;
+    let told = serve_roads::<_, _, J, R>(rt, alloc, &roads, &grid, gate, doors, history)?;
     assert_eq!(rt;
         told,
         Told {
@@ -177,15 +176,31 @@ fn workers_answer_beside_each_other_and_beside_the_desk(rt: HostRuntime) -> Resu
             spent: true
         }
     );
-    assert!(rt; !gate.is_late());
+    Ok(())
+}
+
+// Asserts that all came in time through the doors that came back, and the replies of the query doors.
+fn assert_replies(rt: &impl Abort, doors: &MemDoors<FlagConn<MemConn>>) -> Result<(), Fail> {
     let [set] = doors.returned() else {
         return Err(Fail::from("one set of doors"));
     };
-    assert_in_time(&rt, set.control());
+    assert_in_time(rt, set.control());
     let [one, two] = set.queries() else {
         return Err(Fail::from("two query doors"));
     };
-    assert_reply(&rt, one, NEAREST_REPLY);
-    assert_reply(&rt, two, SINCE_REPLIES);
+    assert_reply(rt, one, NEAREST_REPLY);
+    assert_reply(rt, two, SINCE_REPLIES);
     Ok(())
+}
+
+// The first seat is held under number 0 until the second was answered under number 2.
+#[test]
+fn workers_answer_beside_each_other_and_beside_the_desk(rt: HostRuntime) -> Result<(), Fail> {
+    let alloc = rt.alloc();
+    let flags = new_flags(alloc)?;
+    let mut doors = doors_of(alloc, &flags)?;
+    let gate = gate_of(flags);
+    assert_told::<Brand, HostRuntime>(&rt, alloc, &gate, &mut doors, History::new())?;
+    assert!(rt; !gate.is_late());
+    assert_replies(&rt, &doors)
 }

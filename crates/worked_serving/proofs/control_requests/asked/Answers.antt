@@ -1,4 +1,4 @@
-use Rattle.worked_doors.proofs.control_requests.asked.Goals as goal
+use Rattle.worked_serving.proofs.control_requests.asked.Goals as goal
 
 -- the head that was found
 pub of-requires : goal.of-requires

@@ -3,12 +3,11 @@
 ghost use Rattle.std.specs.Prelude.{◌≤◌};
 
 use crate::connections::{ROOM, in_pieces};
-use crate::towns::{board, roads};
+use crate::towns::{board, grid, roads};
 use customized::Roads;
 use http_head::HEAD_BAD;
 use road_io::{MemConn, OpenGate};
 use route_server::{Ended, serve_connection};
-use snap_index::Grid;
 use std::alloc::{AllocError, Global};
 use std::process::Abort;
 use std::thread::Threads;
@@ -36,9 +35,20 @@ fn ended_on(
     roads: &Roads,
     conn: &mut MemConn,
 ) -> Result<Ended, AllocError> {
-    let grid = Grid::of(alloc, roads.network())?;
+    let grid = grid(alloc, roads)?;
     let mut board = board(rt, alloc, roads, 0)?;
-    Ok(serve_connection(rt, alloc, 0, &mut board, &OpenGate, &grid, conn))
+    Ok(serve_connection(rt, alloc, 0, &mut *board, &OpenGate, &grid, conn))
+}
+
+// How a connection ends that is served over the town, and its output.
+fn ended(
+    rt: &(impl Threads + Sync),
+    alloc: Global,
+    conn: &mut MemConn,
+) -> Result<(Ended, Vec<u8>), AllocError> {
+    let roads = roads(alloc)?;
+    let ended = ended_on(rt, alloc, &roads, conn)?;
+    Ok((ended, Vec::from_slice(alloc, conn.output())?))
 }
 
 /// How a connection with this input ends, and its output.
@@ -49,10 +59,8 @@ fn served(
     piece: usize,
     room: usize,
 ) -> Result<(Ended, Vec<u8>), AllocError> {
-    let roads = roads(alloc)?;
     let mut conn = in_pieces(alloc, input, piece, room)?;
-    let ended = ended_on(rt, alloc, &roads, &mut conn)?;
-    Ok((ended, Vec::from_slice(alloc, conn.output())?))
+    ended(rt, alloc, &mut conn)
 }
 
 // Asserts how a connection ends, and its output.

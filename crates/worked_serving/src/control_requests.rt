@@ -3,7 +3,7 @@
 
 ghost use Rattle.std.specs.Prelude.{◌≤◌, length};
 
-use crate::towns::{board, roads};
+use crate::towns::{board, last_number, roads};
 use control_port::{BodyRoom, ControlHead, Controlled, ReplyRoom, control};
 use customized::Roads;
 use http_head::head;
@@ -94,8 +94,8 @@ fn controlled(
         speeds,
         length: body.len(),
     };
-    let answer = control(rt, alloc, &mut desk, roads, request, body)?;
-    Ok((answer, desk.enter()?.number()))
+    let answer = control(rt, alloc, &mut *desk, roads, request, body)?;
+    Ok((answer, last_number(&desk)?))
 }
 
 // A metric under its number, with how many rows matched nothing, or the first faulty row of a file.
@@ -155,19 +155,27 @@ fn files_are_published_or_change_nothing(rt: HostRuntime) -> Result<(), AllocErr
     Ok(())
 }
 
-#[test]
-fn behind_the_last_number_none_is_left(rt: HostRuntime) -> Result<(), AllocError> {
-    let alloc = rt.alloc();
-    let roads = roads(alloc)?;
-    let mut desk = board(&rt, alloc, &roads, 4294967295)?;
+// Asserts that an empty metric behind the last number is refused for that.
+fn assert_spent(
+    rt: &(impl Threads + Abort + Sync),
+    alloc: Global,
+    roads: &Roads,
+) -> Result<(), AllocError> {
+    let mut desk = board(rt, alloc, roads, 4294967295)?;
     let request = ControlHead::Metric {
         speeds: 0,
         length: 0,
     };
-    let answer = control(&rt, alloc, &mut desk, &roads, request, b"")?;
+    let answer = control(rt, alloc, &mut *desk, roads, request, b"")?;
     assert_eq!(rt; answer, Controlled::Spent(4294967295));
-    assert_eq!(rt; desk.enter()?.number(), 4294967295);
+    assert_eq!(rt; last_number(&desk)?, 4294967295);
     Ok(())
+}
+
+#[test]
+fn behind_the_last_number_none_is_left(rt: HostRuntime) -> Result<(), AllocError> {
+    let roads = roads(rt.alloc())?;
+    assert_spent(&rt, rt.alloc(), &roads)
 }
 
 fn refused(file: TrafficFile, row: u64, kind: RowKind) -> Controlled {

@@ -1,7 +1,7 @@
 //! Control connections in memory over a town. Expected texts are this project's rules.
 
 use crate::connections::{ROOM, in_pieces};
-use crate::towns::{board, roads};
+use crate::towns::{board, last_number, roads};
 use customized::Roads;
 use http_head::HEAD_BAD;
 use road_io::MemConn;
@@ -38,8 +38,19 @@ fn ended_on(
     conn: &mut MemConn,
 ) -> Result<(ControlEnded, u32), AllocError> {
     let mut desk = board(rt, alloc, roads, 0)?;
-    let ended = serve_control(rt, alloc, &mut desk, roads, conn);
-    Ok((ended, desk.enter()?.number()))
+    let ended = serve_control(rt, alloc, &mut *desk, roads, conn);
+    Ok((ended, last_number(&desk)?))
+}
+
+// How a control connection ends that is served over the town, its output, and the number that was published last.
+fn ended(
+    rt: &(impl Threads + Sync),
+    alloc: Global,
+    conn: &mut MemConn,
+) -> Result<(ControlEnded, Vec<u8>, u32), AllocError> {
+    let roads = roads(alloc)?;
+    let (ended, number) = ended_on(rt, alloc, &roads, conn)?;
+    Ok((ended, Vec::from_slice(alloc, conn.output())?, number))
 }
 
 /// How a control connection with this input ends, its output, and the number that was published last.
@@ -50,10 +61,8 @@ fn controlled(
     piece: usize,
     room: usize,
 ) -> Result<(ControlEnded, Vec<u8>, u32), AllocError> {
-    let roads = roads(alloc)?;
     let mut conn = in_pieces(alloc, input, piece, room)?;
-    let (ended, number) = ended_on(rt, alloc, &roads, &mut conn)?;
-    Ok((ended, Vec::from_slice(alloc, conn.output())?, number))
+    ended(rt, alloc, &mut conn)
 }
 
 #[test]

@@ -1,0 +1,5 @@
+use Rattle.worked_serving.proofs.serving_roads.workers_answer_beside_each_other_and_beside_the_desk.Given as goal
+
+-- the list that was just opened
+abbrev pub ghosts-assert_told : goal.ghosts-assert_told
+ghosts-assert_told g a = record { book = a.history.seen.book }

@@ -1,0 +1,16 @@
+//! Tests of what serves a town over connections and doors in memory, of what no clause says: what is answered, also in
+//! pieces and where the output is full, and that workers answer beside each other and beside the desk.
+#![tactic(auto)]
+
+#[cfg(test)]
+mod connections;
+#[cfg(test)]
+mod control_connections;
+#[cfg(test)]
+mod control_requests;
+#[cfg(test)]
+mod route_connections;
+#[cfg(test)]
+mod serving_roads;
+#[cfg(test)]
+mod towns;
