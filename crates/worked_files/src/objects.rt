@@ -1,12 +1,19 @@
 //! Points, tags, objects and statuses. What no clause says: that the calls succeed, and that the clauses say what was
 //! meant.
 
-use crate::polylines::number;
 use road_base::{
     Ids, Kind, Member, Members, Node, Object, Point, Relation, Status, Tags, Text, Way,
 };
 use std::alloc::{AllocError, Global};
 use std::process::Abort;
+
+// The whole number that a text is.
+fn number(rt: &impl Abort, text: Option<&str>) -> i64 {
+    let Some(Ok(number)) = text.map(|text| text.parse::<i64>()) else {
+        panic!(rt; "a number");
+    };
+    number
+}
 
 // Longitudes and latitudes in microdegrees, each two with whether there is such a point. A table is one text, since a
 // proof takes time for each value of a list.
