@@ -11,6 +11,8 @@ mod objects;
 #[cfg(test)]
 mod restrictions;
 #[cfg(test)]
+mod rows;
+#[cfg(test)]
 mod settings;
 #[cfg(test)]
 mod towns;

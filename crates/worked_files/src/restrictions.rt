@@ -1,14 +1,17 @@
 //! What no clause says: that the calls succeed, and that the definitions say what was meant.
 
+use crate::rows::{count, row};
 use opl_read::read;
 use std::alloc::{AllocError, Global};
 use std::process::Abort;
 use turn_rules::{Rules, rules};
 
 // The rules for a car of a map in OPL.
-fn rules_of(rt: &impl Abort, alloc: Global, map: &str) -> Result<Rules, AllocError> {
-    let objects = read(alloc, map.as_bytes()).ok().expect(rt, "a good text");
-    rules(alloc, &objects, "motorcar")
+fn rules_of(rt: &impl Abort, alloc: Global, map: &[u8]) -> Result<Rules, AllocError> {
+    match read(alloc, map) {
+        Ok(objects) => rules(alloc, &objects, "motorcar"),
+        Err(_fault) => panic!(rt; "a good text"),
+    }
 }
 
 // How many restrictions are kept and ignored, and whether the first forbids the turns from way 1 to ways
@@ -24,29 +27,30 @@ fn told(alloc: Global, rules: &Rules) -> Result<String, AllocError> {
     format!(in alloc; "{count} {ignored} {to_four} {to_three}")
 }
 
-// Asserts that the rules of each map of a table tell what its row says: the map, which is one restriction, and what is told,
-// with a bar between the two. A table is one text, since a proof takes time for each value of a list.
-fn assert_told(rt: &impl Abort, alloc: Global, table: &str) -> Result<(), AllocError> {
-    for row in table.split('\n') {
-        let mut parts = row.split('|');
-        let (Some(map), Some(want)) = (parts.next(), parts.next()) else {
-            panic!(rt; "a row of two");
-        };
-        let rules = rules_of(rt, alloc, map)?;
-        assert_eq!(rt; told(alloc, &rules)?.as_str(), want, "{map}");
+// What the rules of a map tell.
+fn map_told(rt: &impl Abort, alloc: Global, map: &[u8]) -> Result<String, AllocError> {
+    let rules = rules_of(rt, alloc, map)?;
+    told(alloc, &rules)
+}
+
+// Asserts that the rules of each map of a table tell what its row says: the map, which is one restriction, and what is told.
+fn assert_told(rt: &impl Abort, alloc: Global, table: &[u8]) -> Result<(), AllocError> {
+    for number in 0..count(table) {
+        let (map, want) = row(rt, table, number);
+        assert_eq!(rt; map_told(rt, alloc, map)?.as_bytes(), want, "row {number}");
     }
     Ok(())
 }
 
-const SENSES: &str =
-    "r1 Ttype=restriction,restriction=no_left_turn,except=bus Mw4@to,w1@from,n7@location_hint,n5@via|1 0 true false
-r1 Ttype=restriction,restriction=no_right_turn,except=bus Mw4@to,w1@from,n7@location_hint,n5@via|1 0 true false
-r1 Ttype=restriction,restriction=no_straight_on,except=bus Mw4@to,w1@from,n7@location_hint,n5@via|1 0 true false
-r1 Ttype=restriction,restriction=no_u_turn,except=bus Mw4@to,w1@from,n7@location_hint,n5@via|1 0 true false
-r1 Ttype=restriction,restriction=no_entry,except=bus Mw4@to,w1@from,n7@location_hint,n5@via|1 0 true false
-r1 Ttype=restriction,restriction=no_exit,except=bus Mw4@to,w1@from,n7@location_hint,n5@via|1 0 true false
-r1 Ttype=restriction,restriction=only_left_turn,except=bus Mw4@to,w1@from,n7@location_hint,n5@via|1 0 false true
-r1 Ttype=restriction,restriction=only_right_turn,except=bus Mw4@to,w1@from,n7@location_hint,n5@via|1 0 false true
+const SENSES: &[u8] =
+    b"r1 Ttype=restriction,restriction=no_left_turn,except=bus Mw4@to,w1@from,n7@location_hint,n5@via|1 0 true false$\
+r1 Ttype=restriction,restriction=no_right_turn,except=bus Mw4@to,w1@from,n7@location_hint,n5@via|1 0 true false$\
+r1 Ttype=restriction,restriction=no_straight_on,except=bus Mw4@to,w1@from,n7@location_hint,n5@via|1 0 true false$\
+r1 Ttype=restriction,restriction=no_u_turn,except=bus Mw4@to,w1@from,n7@location_hint,n5@via|1 0 true false$\
+r1 Ttype=restriction,restriction=no_entry,except=bus Mw4@to,w1@from,n7@location_hint,n5@via|1 0 true false$\
+r1 Ttype=restriction,restriction=no_exit,except=bus Mw4@to,w1@from,n7@location_hint,n5@via|1 0 true false$\
+r1 Ttype=restriction,restriction=only_left_turn,except=bus Mw4@to,w1@from,n7@location_hint,n5@via|1 0 false true$\
+r1 Ttype=restriction,restriction=only_right_turn,except=bus Mw4@to,w1@from,n7@location_hint,n5@via|1 0 false true$\
 r1 Ttype=restriction,restriction=only_straight_on,except=bus Mw4@to,w1@from,n7@location_hint,n5@via|1 0 false true";
 
 #[test]
@@ -55,10 +59,10 @@ fn each_value_forbids_the_turns_of_its_sense(rt: HostRuntime) -> Result<(), Allo
 }
 
 // Restrictions without a way to, which are faulty.
-const EXCEPTED: &str =
-    "r1 Ttype=restriction,restriction=no_left_turn,except=motorcar Mw1@from,n5@via|0 0 false false
-r1 Ttype=restriction,restriction=no_left_turn,except=bus;%20%%9%motorcar%20%;taxi Mw1@from,n5@via|0 0 false false
-r1 Ttype=restriction,restriction=no_left_turn,except=bus Mw1@from,n5@via|0 1 false false
+const EXCEPTED: &[u8] =
+    b"r1 Ttype=restriction,restriction=no_left_turn,except=motorcar Mw1@from,n5@via|0 0 false false$\
+r1 Ttype=restriction,restriction=no_left_turn,except=bus;%20%%9%motorcar%20%;taxi Mw1@from,n5@via|0 0 false false$\
+r1 Ttype=restriction,restriction=no_left_turn,except=bus Mw1@from,n5@via|0 1 false false$\
 r1 Ttype=restriction,restriction=no_left_turn,except=motor%20%car;bus%2c%motorcar Mw1@from,n5@via|0 1 false false";
 
 #[test]
@@ -66,14 +70,14 @@ fn an_excepted_vehicle_has_no_restriction(rt: HostRuntime) -> Result<(), AllocEr
     assert_told(&rt, rt.alloc(), EXCEPTED)
 }
 
-const MEMBERS: &str =
-    "r1 Ttype=restriction,restriction=no_turn,except=bus Mw1@from,n5@via,w4@to,n7@location_hint|0 1 false false
-r1 Ttype=restriction,restriction=no_left_turn,except=bus Mw1@from,w2@from,n5@via,w4@to|0 1 false false
-r1 Ttype=restriction,restriction=no_left_turn,except=bus Mw1@from,n5@via,n5@via,w4@to|0 1 false false
-r1 Ttype=restriction,restriction=no_left_turn,except=bus Mw1@from,w5@via,w4@to,n7@location_hint|0 1 false false
-r1 Ttype=restriction,restriction=no_left_turn,except=bus Mw1@from,n5@via,n7@location_hint,n7@location_hint|0 1 false false
-r1 Ttype=restriction,restriction=no_exit,except=bus Mw1@from,w2@from,n5@via,w4@to|0 1 false false
-r1 Ttype=restriction,restriction=no_entry,except=bus Mw1@from,w2@from,n5@via,w4@to|1 0 true false
+const MEMBERS: &[u8] =
+    b"r1 Ttype=restriction,restriction=no_turn,except=bus Mw1@from,n5@via,w4@to,n7@location_hint|0 1 false false$\
+r1 Ttype=restriction,restriction=no_left_turn,except=bus Mw1@from,w2@from,n5@via,w4@to|0 1 false false$\
+r1 Ttype=restriction,restriction=no_left_turn,except=bus Mw1@from,n5@via,n5@via,w4@to|0 1 false false$\
+r1 Ttype=restriction,restriction=no_left_turn,except=bus Mw1@from,w5@via,w4@to,n7@location_hint|0 1 false false$\
+r1 Ttype=restriction,restriction=no_left_turn,except=bus Mw1@from,n5@via,n7@location_hint,n7@location_hint|0 1 false false$\
+r1 Ttype=restriction,restriction=no_exit,except=bus Mw1@from,w2@from,n5@via,w4@to|0 1 false false$\
+r1 Ttype=restriction,restriction=no_entry,except=bus Mw1@from,w2@from,n5@via,w4@to|1 0 true false$\
 r1 Ttype=restriction,restriction=no_exit,except=bus Mw1@from,n5@via,w3@to,w4@to|1 0 true true";
 
 #[test]
@@ -81,16 +85,26 @@ fn members_are_counted_by_their_roles(rt: HostRuntime) -> Result<(), AllocError>
     assert_told(&rt, rt.alloc(), MEMBERS)
 }
 
-const TURN_BACK: &str = "r1 Ttype=restriction,restriction=no_u_turn,except= Mw1@from,n5@via,w1@to";
+const TURN_BACK: &[u8] =
+    b"r1 Ttype=restriction,restriction=no_u_turn,except= Mw1@from,n5@via,w1@to";
+
+// What the rules tell of a turn back: how many there are, the node and the number of ways of the first, and whether it forbids
+// to turn back, and to go on by the same way.
+fn turn_back_told(alloc: Global, kept: &Rules) -> Result<String, AllocError> {
+    if kept.count() != 1 {
+        return format!(in alloc; "{}", kept.count());
+    }
+    let back = kept.forbids(0, 1, 1, true);
+    let on = kept.forbids(0, 1, 1, false);
+    format!(in alloc; "1 {} {} {back} {on}", kept.via(0), kept.ways(0).len())
+}
 
 #[test]
 fn a_turn_back_is_forbidden_on_its_own_way(rt: HostRuntime) -> Result<(), AllocError> {
     let kept = rules_of(&rt, rt.alloc(), TURN_BACK)?;
-    if kept.count() == 1 && kept.via(0) == 5 && kept.ways(0).len() == 2 {
-        let answers = (kept.forbids(0, 1, 1, true), kept.forbids(0, 1, 1, false));
-        assert_eq!(rt; answers, (true, false));
-    } else {
-        assert!(rt; false);
-    }
+    assert_eq!(rt;
+        turn_back_told(rt.alloc(), &kept)?.as_str(),
+        "1 5 2 true false"
+    );
     Ok(())
 }
