@@ -1,21 +1,21 @@
 //! Worked JSON texts; expected values are from RFC 8259 and this project's rules.
 
-ghost use Rattle.std.specs.Prelude.{◌≡◌, ◌∷◌, [], OnOk, codes};
+ghost use Rattle.std.specs.Prelude.{◌≡◌, ◌∷◌, [], IfOk, OnOk, codes};
 ghost use Rattle.json_text.specs.Values.{text, tenths, location};
-ghost use Rattle.json_text.specs.Drafts.{TakesValue, empty_draft, with_value};
-ghost use Rattle.json_text.specs.Wholes.{object_of};
+ghost use Rattle.json_text.specs.Drafts.{TakesValue, IsFinished, with_value};
+ghost use Rattle.json_text.specs.Wholes.{array_of, object_of};
+ghost use Rattle.worked_texts.specs.Replies.{two_nodes, place, row};
 
-use crate::polylines::number;
+use crate::polylines::{given, number};
 use json_text::Json;
 use road_base::Point;
 use std::alloc::{AllocError, Global};
 
 fn degrees_of(alloc: Global, lon: i64, lat: i64) -> Result<Json, AllocError> {
     let mut json = Json::new(alloc);
-    let Some(point) = Point::of(lon, lat) else {
-        return Ok(json);
-    };
-    json.degrees(point)?;
+    if let Some(point) = Point::of(lon, lat) {
+        json.degrees(point)?;
+    }
     Ok(json)
 }
 
@@ -35,11 +35,8 @@ fn points_have_six_decimals_and_a_sign(rt: HostRuntime) -> Result<(), AllocError
         let mut parts = row.split(' ');
         let lon = number(&rt, parts.next());
         let lat = number(&rt, parts.next());
-        let Some(want) = parts.next() else {
-            panic!(rt; "a row of three");
-        };
-        let json = degrees_of(rt.alloc(), lon, lat)?;
-        assert_eq!(rt; json.bytes(), want.as_bytes());
+        let want = given(&rt, parts.next());
+        assert_eq!(rt; degrees_of(rt.alloc(), lon, lat)?.as_str(), want);
     }
     Ok(())
 }
@@ -53,17 +50,21 @@ const TENTHS: &str = "0 0.0
 1000005 100000.5
 340282366920938463463374607431768211455 34028236692093846346337460743176821145.5";
 
+fn tenths_of(alloc: Global, n: u128) -> Result<Json, AllocError> {
+    let mut json = Json::new(alloc);
+    json.tenths(n)?;
+    Ok(json)
+}
+
 #[test]
 fn tenths_have_one_decimal(rt: HostRuntime) -> Result<(), AllocError> {
     for row in TENTHS.split('\n') {
         let mut parts = row.split(' ');
-        let (Some(Ok(n)), Some(want)) = (parts.next().map(|n| n.parse::<u128>()), parts.next())
-        else {
-            panic!(rt; "a row of two");
+        let Ok(n) = given(&rt, parts.next()).parse::<u128>() else {
+            panic!(rt; "a number");
         };
-        let mut json = Json::new(rt.alloc());
-        json.tenths(n)?;
-        assert_eq!(rt; json.bytes(), want.as_bytes());
+        let want = given(&rt, parts.next());
+        assert_eq!(rt; tenths_of(rt.alloc(), n)?.as_str(), want);
     }
     Ok(())
 }
@@ -82,26 +83,36 @@ a\"b\\c/d|\"a\\\"b\\\\c/d\"$\
 \u{0}\u{1f}\u{7f}|\"\\u0000\\u001f\u{7f}\"$\
 Stra\u{df}e \u{1f6a6}|\"Stra\u{df}e \u{1f6a6}\"";
 
+fn whole_of(alloc: Global, n: i64) -> Result<Json, AllocError> {
+    let mut json = Json::new(alloc);
+    json.whole(n)?;
+    Ok(json)
+}
+
 #[test]
-fn whole_numbers_and_texts_stand_as_json_has_them(rt: HostRuntime) -> Result<(), AllocError> {
+fn whole_numbers_stand_as_json_has_them(rt: HostRuntime) -> Result<(), AllocError> {
     for row in WHOLES.split('\n') {
         let mut parts = row.split(' ');
         let n = number(&rt, parts.next());
-        let Some(want) = parts.next() else {
-            panic!(rt; "a row of two");
-        };
-        let mut json = Json::new(rt.alloc());
-        json.whole(n)?;
-        assert_eq!(rt; json.bytes(), want.as_bytes());
+        let want = given(&rt, parts.next());
+        assert_eq!(rt; whole_of(rt.alloc(), n)?.as_str(), want);
     }
+    Ok(())
+}
+
+fn text_of(alloc: Global, value: &str) -> Result<Json, AllocError> {
+    let mut json = Json::new(alloc);
+    json.text(value)?;
+    Ok(json)
+}
+
+#[test]
+fn texts_stand_as_json_has_them(rt: HostRuntime) -> Result<(), AllocError> {
     for row in TEXTS.split('$') {
         let mut parts = row.split('|');
-        let (Some(text), Some(want)) = (parts.next(), parts.next()) else {
-            panic!(rt; "a row of two");
-        };
-        let mut json = Json::new(rt.alloc());
-        json.text(text)?;
-        assert_eq!(rt; json.bytes(), want.as_bytes());
+        let value = given(&rt, parts.next());
+        let want = given(&rt, parts.next());
+        assert_eq!(rt; text_of(rt.alloc(), value)?.as_str(), want);
     }
     Ok(())
 }
@@ -122,64 +133,156 @@ fn waypoint(json: &mut Json, distance: u128, name: &str, p: Point) -> Result<(),
     Ok(())
 }
 
-#[test]
-fn text_is_handed_out(rt: HostRuntime) -> Result<(), AllocError> {
-    let mut json = Json::new(rt.alloc());
-    let mut list = Json::new(rt.alloc());
+// The text of a waypoint.
+fn waypoint_of(alloc: Global, point: Point) -> Result<Json, AllocError>
+    ensures { IfOk result IsFinished }
+{
+    let mut json = Json::new(alloc);
+    waypoint(&mut json, 15, "Stra\u{df}e", point)?;
+    Ok(json)
+}
+
+// A list of a text that was written before and the greatest count.
+fn list_of(alloc: Global, part: &Json) -> Result<Json, AllocError>
+    requires { IsFinished part.now }
+{
+    let mut list = Json::new(alloc);
+    push_list(&mut list, part)?;
+    Ok(list)
+}
+
+fn push_list(list: &mut Json, part: &Json) -> Result<(), AllocError>
+    requires first { TakesValue list.old }
+    requires whole { IsFinished part.now }
+{
     list.begin_list()?;
-    if let Some(point) = Point::of(-1, 2) {
-        waypoint(&mut json, 15, "Stra\u{df}e", point)?;
-        list.part(&json)?;
-    }
+    list.part(part)?;
     list.count(u128::MAX)?;
     list.end_list()?;
-    let want =
-        "[{\"distance\":1.5,\"name\":\"Stra\u{df}e\",\"location\":[-0.000001,0.000002]},340282366920938463463374607431768211455]";
-    assert_eq!(rt; list.as_str(), want);
-    assert_eq!(rt; list.into_text().as_str(), want);
+    Ok(())
+}
+
+fn list_of_a_waypoint(alloc: Global, point: Point) -> Result<Json, AllocError> {
+    let part = waypoint_of(alloc, point)?;
+    list_of(alloc, &part)
+}
+
+const LIST: &str =
+    "[{\"distance\":1.5,\"name\":\"Stra\u{df}e\",\"location\":[-0.000001,0.000002]},340282366920938463463374607431768211455]";
+
+#[test]
+fn text_is_handed_out(rt: HostRuntime) -> Result<(), AllocError> {
+    let Some(point) = Point::of(-1, 2) else {
+        panic!(rt; "a point on the Earth");
+    };
+    let list = list_of_a_waypoint(rt.alloc(), point)?;
+    assert_eq!(rt; list.as_str(), LIST);
+    assert_eq!(rt; list.into_text().as_str(), LIST);
+    Ok(())
+}
+
+fn push_two_nodes(json: &mut Json) -> Result<(), AllocError>
+    requires { TakesValue json.old }
+    ensures { OnOk result (json.new ≡ with_value two_nodes json.old) }
+{
+    json.begin_list()?;
+    json.whole(1)?;
+    json.whole(2)?;
+    json.end_list()?;
+    Ok(())
+}
+
+fn push_place(json: &mut Json) -> Result<(), AllocError>
+    requires { TakesValue json.old }
+    ensures { OnOk result (json.new ≡ with_value place json.old) }
+{
+    json.begin_object()?;
+    json.key("nodes")?;
+    push_two_nodes(json)?;
+    json.key("distance")?;
+    json.tenths(0)?;
+    json.end_object()?;
+    Ok(())
+}
+
+fn push_nothing(json: &mut Json) -> Result<(), AllocError>
+    requires { TakesValue json.old }
+    ensures { OnOk result (json.new ≡ with_value (object_of []) json.old) }
+{
+    json.begin_object()?;
+    json.end_object()?;
+    Ok(())
+}
+
+fn push_places(json: &mut Json) -> Result<(), AllocError>
+    requires { TakesValue json.old }
+    ensures { OnOk result (json.new ≡ with_value (array_of (place ∷ object_of [] ∷ [])) json.old) }
+{
+    json.begin_list()?;
+    push_place(json)?;
+    push_nothing(json)?;
+    json.end_list()?;
+    Ok(())
+}
+
+fn push_row(json: &mut Json) -> Result<(), AllocError>
+    requires { TakesValue json.old }
+    ensures { OnOk result (json.new ≡ with_value row json.old) }
+{
+    json.begin_list()?;
+    json.tenths(0)?;
+    json.null()?;
+    json.end_list()?;
+    Ok(())
+}
+
+fn push_no_row(json: &mut Json) -> Result<(), AllocError>
+    requires { TakesValue json.old }
+    ensures { OnOk result (json.new ≡ with_value (array_of []) json.old) }
+{
+    json.begin_list()?;
+    json.end_list()?;
+    Ok(())
+}
+
+fn push_rows(json: &mut Json) -> Result<(), AllocError>
+    requires { TakesValue json.old }
+    ensures { OnOk result (json.new ≡ with_value (array_of (row ∷ array_of [] ∷ [])) json.old) }
+{
+    json.begin_list()?;
+    push_row(json)?;
+    push_no_row(json)?;
+    json.end_list()?;
     Ok(())
 }
 
 /// The reply to a nearest request, and a table's row with a cell without a walk.
-fn reply(json: &mut Json) -> Result<(), AllocError>
-    requires { json.old ≡ empty_draft }
+fn push_reply(json: &mut Json) -> Result<(), AllocError>
+    requires { TakesValue json.old }
 {
     json.begin_object()?;
     json.key("code")?;
     json.text("Ok")?;
     json.key("waypoints")?;
-    json.begin_list()?;
-    json.begin_object()?;
-    json.key("nodes")?;
-    json.begin_list()?;
-    json.whole(1)?;
-    json.whole(2)?;
-    json.end_list()?;
-    json.key("distance")?;
-    json.tenths(0)?;
-    json.end_object()?;
-    json.begin_object()?;
-    json.end_object()?;
-    json.end_list()?;
+    push_places(json)?;
     json.key("durations")?;
-    json.begin_list()?;
-    json.begin_list()?;
-    json.tenths(0)?;
-    json.null()?;
-    json.end_list()?;
-    json.begin_list()?;
-    json.end_list()?;
-    json.end_list()?;
+    push_rows(json)?;
     json.end_object()?;
     Ok(())
 }
 
+fn reply(alloc: Global) -> Result<Json, AllocError> {
+    let mut json = Json::new(alloc);
+    push_reply(&mut json)?;
+    Ok(json)
+}
+
+const REPLY: &str =
+    "{\"code\":\"Ok\",\"waypoints\":[{\"nodes\":[1,2],\"distance\":0.0},{}],\"durations\":[[0.0,null],[]]}";
+
 #[test]
 fn commas_stand_between_values_and_nowhere_else(rt: HostRuntime) -> Result<(), AllocError> {
-    let mut json = Json::new(rt.alloc());
-    reply(&mut json)?;
-    let want =
-        "{\"code\":\"Ok\",\"waypoints\":[{\"nodes\":[1,2],\"distance\":0.0},{}],\"durations\":[[0.0,null],[]]}";
-    assert_eq!(rt; json.bytes(), want.as_bytes());
+    let json = reply(rt.alloc())?;
+    assert_eq!(rt; json.bytes(), REPLY.as_bytes());
     Ok(())
 }

@@ -1,7 +1,8 @@
 //! What no clause says: that the calls succeed, and that the clauses say what was meant.
 
-use crate::polylines::points_of;
+use crate::polylines::{given, points_of};
 use line_simplify::{simplify, tolerance_of};
+use road_base::Point;
 use std::alloc::{AllocError, Global};
 use std::process::Abort;
 
@@ -20,36 +21,50 @@ const LINES: &str = "0,0 1,1000 0,2000|0|0,0 1,1000 0,2000
 0,0 1000,200 2000,-200 3000,0|100|0,0 1000,200 2000,-200 3000,0
 0,0 1000,200 2000,-200 3000,0|201|0,0 3000,0";
 
-// Asserts that of a line, with this tolerance, that one is kept.
-fn assert_kept(
+// Points as a text: `lon,lat` each, with a blank between each two.
+fn line_told(alloc: Global, points: &[Point]) -> Result<String, AllocError> {
+    let mut told = String::new(alloc);
+    for point in points {
+        if !told.is_empty() {
+            told.push_str(" ")?;
+        }
+        told.push_str(format!(in alloc; "{},{}", point.lon, point.lat)?.as_str())?;
+    }
+    Ok(told)
+}
+
+// What is kept of points with this tolerance.
+fn kept_told(alloc: Global, points: &[Point], tolerance: u32) -> Result<String, AllocError> {
+    let kept = simplify(alloc, points, tolerance)?;
+    line_told(alloc, &kept)
+}
+
+// What is kept of a line with this tolerance.
+fn kept_of(
     rt: &impl Abort,
     alloc: Global,
     line: &str,
     tolerance: &str,
-    want: &str,
-) -> Result<(), AllocError> {
+) -> Result<String, AllocError> {
     let Ok(tolerance) = tolerance.parse::<u32>() else {
         panic!(rt; "a tolerance");
     };
     let points = points_of(rt, alloc, line)?;
-    let kept = simplify(alloc, &points, tolerance)?;
-    assert_eq!(rt;
-        kept,
-        points_of(rt, alloc, want)?,
-        "{line} with {tolerance}"
-    );
-    Ok(())
+    kept_told(alloc, &points, tolerance)
 }
 
 #[test]
 fn points_near_the_line_are_dropped(rt: HostRuntime) -> Result<(), AllocError> {
     for row in LINES.split('\n') {
         let mut parts = row.split('|');
-        let (Some(line), Some(tolerance), Some(want)) = (parts.next(), parts.next(), parts.next())
-        else {
-            panic!(rt; "a row of three");
-        };
-        assert_kept(&rt, rt.alloc(), line, tolerance, want)?;
+        let line = given(&rt, parts.next());
+        let tolerance = given(&rt, parts.next());
+        let want = given(&rt, parts.next());
+        assert_eq!(rt;
+            kept_of(&rt, rt.alloc(), line, tolerance)?.as_str(),
+            want,
+            "{row}"
+        );
     }
     Ok(())
 }
@@ -62,17 +77,23 @@ const TOLERANCES: &str = "|0
 0,1023 0,0 1024,0|2
 -180000000,0 180000000,0|703125";
 
+// The tolerance of a line.
+fn tolerance_told(rt: &impl Abort, alloc: Global, line: &str) -> Result<String, AllocError> {
+    let points = points_of(rt, alloc, line)?;
+    format!(in alloc; "{}", tolerance_of(&points))
+}
+
 #[test]
 fn a_tolerance_is_a_512th_of_the_extent(rt: HostRuntime) -> Result<(), AllocError> {
-    let alloc = rt.alloc();
     for row in TOLERANCES.split('\n') {
         let mut parts = row.split('|');
-        let (Some(line), Some(want)) = (parts.next(), parts.next()) else {
-            panic!(rt; "a row of two");
-        };
-        let points = points_of(&rt, alloc, line)?;
-        let told = format!(in alloc; "{}", tolerance_of(&points))?;
-        assert_eq!(rt; told.as_str(), want, "{line}");
+        let line = given(&rt, parts.next());
+        let want = given(&rt, parts.next());
+        assert_eq!(rt;
+            tolerance_told(&rt, rt.alloc(), line)?.as_str(),
+            want,
+            "{line}"
+        );
     }
     Ok(())
 }

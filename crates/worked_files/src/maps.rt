@@ -1,5 +1,6 @@
 //! Worked texts; expected values are from the OPL manual and this project's rules.
 
+use crate::rows::{count, row};
 use opl_read::{ReadFault, read};
 use road_base::{Node, Object, Relation, Tags, Way};
 use std::alloc::{AllocError, Global};
@@ -24,13 +25,29 @@ fn objects_told(
     text: &[u8],
     keys: &str,
 ) -> Result<String, AllocError> {
-    let objects = read(alloc, text).ok().expect(rt, "a good text");
+    match read(alloc, text) {
+        Ok(objects) => lines_of(alloc, &objects, keys),
+        Err(_fault) => panic!(rt; "a good text"),
+    }
+}
+
+fn lines_of(alloc: Global, objects: &[Object], keys: &str) -> Result<String, AllocError> {
     let mut told = String::new(alloc);
-    for object in &objects {
-        push_object(alloc, &mut told, object, keys)?;
+    push_objects(alloc, &mut told, objects, keys)?;
+    Ok(told)
+}
+
+fn push_objects(
+    alloc: Global,
+    told: &mut String,
+    objects: &[Object],
+    keys: &str,
+) -> Result<(), AllocError> {
+    for object in objects {
+        push_object(alloc, told, object, keys)?;
         told.push_str("\n")?;
     }
-    Ok(told)
+    Ok(())
 }
 
 fn push_object(
@@ -127,9 +144,7 @@ fn a_relation_has_members_in_roles(rt: HostRuntime) -> Result<(), AllocError> {
     Ok(())
 }
 
-// Texts, each with what reading it tells: how many objects there are, or the line and the fault of the first faulty one. A
-// bar stands behind a text, and a dollar sign behind what is told. The table is one text, since a proof takes time for each
-// value of a list.
+// Texts, each with what reading it tells: how many objects there are, or the line and the fault of the first faulty one.
 const TEXTS: &[u8] = b"|0$\
 x1|1 BadKind$\
 \x20#x|1 BadKind$\
@@ -188,7 +203,7 @@ r1 M|1$\
 r1 dD Mn1|1 BadField$\
 r1\nr1|2 Duplicate$\
 r1 dD\nr1\nn1\nw1\nr1\n|5 Duplicate$\
-r1\nr1 T%|2 BadField$";
+r1\nr1 T%|2 BadField";
 
 // What reading a text tells, as the table has it.
 fn told(alloc: Global, text: &[u8]) -> Result<String, AllocError> {
@@ -201,15 +216,9 @@ fn told(alloc: Global, text: &[u8]) -> Result<String, AllocError> {
 
 #[test]
 fn the_first_fault_of_a_text_is_told(rt: HostRuntime) -> Result<(), AllocError> {
-    for row in TEXTS.split(|byte| *byte == b'$') {
-        let mut parts = row.split(|byte| *byte == b'|');
-        match (parts.next(), parts.next()) {
-            (Some(text), Some(wanted)) => {
-                let outcome = told(rt.alloc(), text)?;
-                assert_eq!(rt; outcome.as_bytes(), wanted);
-            }
-            _ => assert!(rt; row.is_empty()),
-        }
+    for number in 0..count(TEXTS) {
+        let (text, want) = row(&rt, TEXTS, number);
+        assert_eq!(rt; told(rt.alloc(), text)?.as_bytes(), want, "row {number}");
     }
     Ok(())
 }

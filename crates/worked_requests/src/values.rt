@@ -10,21 +10,42 @@ use option_values::{
 use std::alloc::{AllocError, Global};
 
 #[test]
-fn each_value_is_read(rt: HostRuntime) {
-    assert_eq!(rt; truth_of("true"), Some(true));
-    assert_eq!(rt; snapping_of("default"), Some(Snapping::Default));
-    assert_eq!(rt; since_of("4294967295"), Some(4_294_967_295));
-    assert_eq!(rt; number_of("099"), Some(99));
-    assert_eq!(rt; alternatives_of("2"), Some(Alternatives::UpTo(2)));
-    assert_eq!(rt; geometries_of("polyline6"), Some(Geometries::Polyline6));
-    assert_eq!(rt; overview_of("false"), Some(Overview::Off));
-    assert_eq!(rt;
-        continue_straight_of("default"),
-        Some(ContinueStraight::Default)
+fn each_name_is_read(rt: HostRuntime) {
+    assert!(rt; matches!(truth_of("true"), Some(true)));
+    assert!(rt; matches!(snapping_of("default"), Some(Snapping::Default)));
+    assert!(rt; matches!(geometries_of("polyline6"), Some(Geometries::Polyline6)));
+    assert!(rt; matches!(overview_of("false"), Some(Overview::Off)));
+    assert!(rt;
+        matches!(
+            continue_straight_of("default"),
+            Some(ContinueStraight::Default)
+        )
     );
-    assert_eq!(rt; route_annotations_of("true"), Some(every_annotation(true)));
+}
+
+#[test]
+fn each_number_is_read(rt: HostRuntime) {
+    assert!(rt; matches!(since_of("4294967295"), Some(4_294_967_295)));
+    assert!(rt; matches!(number_of("099"), Some(99)));
+    assert!(rt; matches!(alternatives_of("2"), Some(Alternatives::UpTo(2))));
+}
+
+#[test]
+fn annotations_are_read(rt: HostRuntime) {
+    let Some(annotations) = route_annotations_of("true") else {
+        panic!(rt; "annotations");
+    };
+    assert!(rt; annotations == every_annotation(true));
     assert!(rt; table_annotations_of("distance,duration").is_some());
-    assert_eq!(rt; cut("a=b=c", '='), Some(("a", "b=c")));
+}
+
+#[test]
+fn a_text_is_cut_at_its_first_separator(rt: HostRuntime) {
+    let Some((name, value)) = cut("a=b=c", '=') else {
+        panic!(rt; "two parts");
+    };
+    assert_eq!(rt; name, "a");
+    assert_eq!(rt; value, "b=c");
 }
 
 // The radiuses of so many coordinates.

@@ -1,6 +1,6 @@
 //! What no clause says: that words are read with ample memory, and what some words make.
 
-use command_words::{WordsFault, read_words};
+use command_words::read_words;
 use std::alloc::{AllocError, Global};
 use std::process::Abort;
 
@@ -13,10 +13,15 @@ fn words_of(alloc: Global, line: &str) -> Result<Vec<String>, AllocError> {
     Ok(words)
 }
 
+// What words make.
+fn made_of(alloc: Global, words: &[String]) -> Result<String, AllocError> {
+    format!(in alloc; "{:?}", read_words(alloc, words))
+}
+
 // What the words of a line make.
 fn told(alloc: Global, line: &str) -> Result<String, AllocError> {
     let words = words_of(alloc, line)?;
-    format!(in alloc; "{:?}", read_words(alloc, words.as_slice()))
+    made_of(alloc, words.as_slice())
 }
 
 // Asserts that the words of each line of a table make what its row says: the line, and what is told of it, with a bar
@@ -102,9 +107,8 @@ ask -h map settings";
 
 #[test]
 fn words_that_make_none(rt: HostRuntime) -> Result<(), AllocError> {
-    let alloc = rt.alloc();
-    assert!(rt; read_words(alloc, &[]) == Err(WordsFault::Unknown));
-    assert_none(&rt, alloc, NO_COMMAND)
+    assert_eq!(rt; made_of(rt.alloc(), &[])?.as_str(), "Err(Unknown)");
+    assert_none(&rt, rt.alloc(), NO_COMMAND)
 }
 
 const NO_SERVER: &str = "serve map settings

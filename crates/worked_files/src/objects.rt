@@ -1,12 +1,22 @@
 //! Points, tags, objects and statuses. What no clause says: that the calls succeed, and that the clauses say what was
 //! meant.
 
-use crate::polylines::number;
 use road_base::{
     Ids, Kind, Member, Members, Node, Object, Point, Relation, Status, Tags, Text, Way,
 };
 use std::alloc::{AllocError, Global};
 use std::process::Abort;
+
+// The whole number that a text is.
+fn number(rt: &impl Abort, text: Option<&str>) -> i64 {
+    let Some(text) = text else {
+        panic!(rt; "a text");
+    };
+    let Ok(number) = text.parse::<i64>() else {
+        panic!(rt; "a number");
+    };
+    number
+}
 
 // Longitudes and latitudes in microdegrees, each two with whether there is such a point. A table is one text, since a
 // proof takes time for each value of a list.
@@ -18,34 +28,47 @@ const PLACES: &str = "0 0 true
 0 90000001 false
 0 -90000001 false";
 
+// A longitude and a latitude, and whether there is such a point.
+fn place_told(rt: &impl Abort, alloc: Global, place: &str) -> Result<String, AllocError> {
+    let mut parts = place.split(' ');
+    let lon = number(rt, parts.next());
+    let lat = number(rt, parts.next());
+    let there = Point::of(lon, lat).is_some();
+    format!(in alloc; "{lon} {lat} {there}")
+}
+
 #[test]
 fn points_reach_as_far_as_the_earth(rt: HostRuntime) -> Result<(), AllocError> {
     for row in PLACES.split('\n') {
-        let mut parts = row.split(' ');
-        let lon = number(&rt, parts.next());
-        let lat = number(&rt, parts.next());
-        let there = Point::of(lon, lat).is_some();
-        let told = format!(in rt.alloc(); "{lon} {lat} {there}")?;
-        assert_eq!(rt; told.as_str(), row);
+        assert_eq!(rt; place_told(&rt, rt.alloc(), row)?.as_str(), row);
     }
-    let point = Point::of(-1_000_001, 52_516_275).expect(&rt, "in range");
+    let Some(point) = Point::of(-1_000_001, 52_516_275) else {
+        panic!(rt; "in range");
+    };
     assert_eq!(rt; point.lon, -1_000_001);
     assert_eq!(rt; point.lat, 52_516_275);
     Ok(())
 }
 
-#[test]
-fn the_first_of_two_equal_keys_counts(rt: HostRuntime) -> Result<(), AllocError> {
-    let tags = Tags::with_capacity(rt.alloc(), 48)?
+fn street(alloc: Global) -> Result<Tags, AllocError> {
+    Tags::with_capacity(alloc, 48)?
         .with("name", "Main Street")?
         .with("highway", "residential")?
         .with("name", "B 96")?
-        .with("empty", "")?;
+        .with("empty", "")
+}
+
+fn assert_street(rt: &impl Abort, tags: &Tags) {
     assert_eq!(rt; tags.get("name"), Some("Main Street"));
     assert_eq!(rt; tags.get("highway"), Some("residential"));
     assert_eq!(rt; tags.get("Name"), None);
     assert_eq!(rt; tags.get(""), None);
     assert_eq!(rt; tags.get("empty"), Some(""));
+}
+
+#[test]
+fn the_first_of_two_equal_keys_counts(rt: HostRuntime) -> Result<(), AllocError> {
+    assert_street(&rt, &street(rt.alloc())?);
     Ok(())
 }
 
@@ -114,14 +137,9 @@ fn an_object_holds_what_it_was_made_of(rt: HostRuntime) -> Result<(), AllocError
 
 #[test]
 fn each_status_has_its_number(rt: HostRuntime) {
-    let all = [
-        Status::Ok,
-        Status::Outside,
-        Status::Words,
-        Status::Refused,
-        Status::Memory,
-    ];
-    for (number, status) in all.iter().enumerate() {
-        assert_eq!(rt; usize::from(status.exit_code()), number);
-    }
+    assert_eq!(rt; Status::Ok.exit_code(), 0);
+    assert_eq!(rt; Status::Outside.exit_code(), 1);
+    assert_eq!(rt; Status::Words.exit_code(), 2);
+    assert_eq!(rt; Status::Refused.exit_code(), 3);
+    assert_eq!(rt; Status::Memory.exit_code(), 4);
 }

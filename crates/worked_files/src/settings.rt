@@ -1,5 +1,6 @@
 //! Worked settings and ways; expected values are from this project's rules.
 
+use crate::rows::{count, row};
 use road_base::{Modifier, Tags};
 use std::alloc::{AllocError, Global};
 use std::process::Abort;
@@ -20,8 +21,7 @@ fn told(alloc: Global, settings: &[u8]) -> Result<String, AllocError> {
     }
 }
 
-// Settings, each with what reading them tells. A bar stands behind settings, and a dollar sign behind what is told. A table is
-// one text, since a proof takes time for each value of a list.
+// Settings, each with what reading them tells.
 const SETTINGS: &[u8] = b"|Missing name$\
 name = \"car\"\nvehicle = \"motorcar\"\n|Missing speeds$\
 \xff|NotToml$\
@@ -37,25 +37,24 @@ name = \"a\"\nvehicle = \"a\"\n[speeds]\nresidential = 0\n|BadValue speeds.resid
 name = \"a\"\nvehicle = \"a\"\naccess_keys = 1\n[speeds]\nprimary = true\n|BadValue speeds.primary$\
 name = \"a\"\nvehicle = \"a\"\n[speeds]\nresidential = 0\nprimary = 1001\n|BadValue speeds.primary$\
 name = \"a\"\nvehicle = \"a\"\n[speeds]\nresidential = 1\nprimary = 1000\n|Ok$\
-name = \"a\"\nvehicle = \"a\"\nu_turn_penalty = 1000001\n[speeds]\n|BadValue u_turn_penalty$";
+name = \"a\"\nvehicle = \"a\"\nu_turn_penalty = 1000001\n[speeds]\n|BadValue u_turn_penalty";
 
 #[test]
 fn the_first_fault_of_settings_is_told(rt: HostRuntime) -> Result<(), AllocError> {
     assert_eq!(rt; told(rt.alloc(), CAR.as_bytes())?.as_str(), "Ok");
-    for row in SETTINGS.split(|byte| *byte == b'$') {
-        let mut parts = row.split(|byte| *byte == b'|');
-        match (parts.next(), parts.next()) {
-            (Some(settings), Some(wanted)) => {
-                assert_eq!(rt; told(rt.alloc(), settings)?.as_bytes(), wanted);
-            }
-            _ => assert!(rt; row.is_empty()),
-        }
+    for number in 0..count(SETTINGS) {
+        let (settings, want) = row(&rt, SETTINGS, number);
+        assert_eq!(rt;
+            told(rt.alloc(), settings)?.as_bytes(),
+            want,
+            "row {number}"
+        );
     }
     Ok(())
 }
 
-// Lines of settings that may be left out, in the same form.
-const OPTIONAL_SETTINGS: &str = "|Ok$\
+// Lines of settings that may be left out, each with what reading them among the others tells.
+const OPTIONAL_SETTINGS: &[u8] = b"|Ok$\
 access_keys = [\"motorcar\"]\ndenied = []|Ok$\
 access_keys = \"access\"|BadValue access_keys$\
 denied = 1\naccess_keys = [1]|BadValue access_keys$\
@@ -75,31 +74,41 @@ signal_penalty = 1000000\ndriving_side = \"right\"|Ok$\
 driving_side = \"left\"|Ok$\
 driving_side = \"Left\"|BadValue driving_side$\
 driving_side = true|BadValue driving_side$\
-version = 1|Ok$";
+version = 1|Ok";
+
+// Settings with these lines.
+fn settings_with(alloc: Global, lines: &[u8]) -> Result<Vec<u8>, AllocError> {
+    let mut settings = Vec::from_slice(alloc, b"name = \"a\"\nvehicle = \"a\"\n")?;
+    settings.extend_from_slice(lines)?;
+    settings.extend_from_slice(b"\n[speeds]\n")?;
+    Ok(settings)
+}
+
+// What reading settings with these lines tells.
+fn told_with(alloc: Global, lines: &[u8]) -> Result<String, AllocError> {
+    let settings = settings_with(alloc, lines)?;
+    told(alloc, &settings)
+}
 
 #[test]
 fn the_first_fault_of_optional_settings_is_told(rt: HostRuntime) -> Result<(), AllocError> {
-    for row in OPTIONAL_SETTINGS.split('$') {
-        let mut parts = row.split('|');
-        match (parts.next(), parts.next()) {
-            (Some(setting), Some(wanted)) => {
-                let settings = format!(in rt.alloc();
-                    "name = \"a\"\nvehicle = \"a\"\n{setting}\n[speeds]\n"
-                )?;
-                assert_eq!(rt; told(rt.alloc(), settings.as_bytes())?.as_str(), wanted);
-            }
-            _ => assert!(rt; row.is_empty()),
-        }
+    for number in 0..count(OPTIONAL_SETTINGS) {
+        let (lines, want) = row(&rt, OPTIONAL_SETTINGS, number);
+        assert_eq!(rt;
+            told_with(rt.alloc(), lines)?.as_bytes(),
+            want,
+            "row {number}"
+        );
     }
     Ok(())
 }
 
 // A copy of the car's profile.
 fn car(rt: &impl Abort, alloc: Global) -> Result<Profile, AllocError> {
-    let read = Profile::read(alloc, CAR.as_bytes())
-        .ok()
-        .expect(rt, "good settings");
-    read.try_clone(alloc)
+    match Profile::read(alloc, CAR.as_bytes()) {
+        Ok(read) => read.try_clone(alloc),
+        Err(_fault) => panic!(rt; "good settings"),
+    }
 }
 
 fn assert_answers(rt: &impl Abort, profile: &Profile) {
@@ -217,8 +226,8 @@ fn assert_used(rt: &impl Abort, alloc: Global, profile: &Profile) -> Result<(), 
 
 #[test]
 fn ways_are_used_by_their_tags(rt: HostRuntime) -> Result<(), AllocError> {
-    let profile = Profile::read(rt.alloc(), CAR.as_bytes())
-        .ok()
-        .expect(&rt, "good settings");
-    assert_used(&rt, rt.alloc(), &profile)
+    match Profile::read(rt.alloc(), CAR.as_bytes()) {
+        Ok(profile) => assert_used(&rt, rt.alloc(), &profile),
+        Err(_fault) => panic!(rt; "good settings"),
+    }
 }

@@ -1,6 +1,8 @@
 //! Rows by hand, from what the formats of OSRM's traffic files and this project's rules say.
 
+use crate::rows::{count, row};
 use std::alloc::{AllocError, Global};
+use std::process::Abort;
 use std::test::Fail;
 use traffic_files::{SpeedRow, TrafficFault, TurnRow, read_speeds, read_turns};
 
@@ -67,8 +69,7 @@ fn told(alloc: Global, fault: TrafficFault) -> Result<String, AllocError> {
     }
 }
 
-// Files of speeds, each with what its first faulty row tells. A bar stands behind a file, and a dollar sign between each two
-// rows of the table. A table is one text, since a proof takes time for each value of a list.
+// Files of speeds, each with what its first faulty row tells.
 const FAULTY_SPEEDS: &[u8] = b"1,2,20\n2,3,30\n3,2,abc|Speeds 3 BadNumber$\
 1,2|Speeds 1 BadCount$\
 1,2,20\n1,2,20,1,1|Speeds 2 BadCount$\
@@ -85,18 +86,20 @@ a,2,20|Speeds 1 BadId$\
 1,2,1000.001|Speeds 1 OutOfRange$\
 1,2,1000000000000000000000|Speeds 1 OutOfRange";
 
+// The fault of a file of speeds.
+fn speed_fault(rt: &impl Abort, alloc: Global, text: &[u8]) -> TrafficFault {
+    match read_speeds(alloc, text) {
+        Err(fault) => fault,
+        Ok(_rows) => panic!(rt; "a faulty row"),
+    }
+}
+
 #[test]
 fn the_first_faulty_speed_is_told(rt: HostRuntime) -> Result<(), AllocError> {
-    let alloc = rt.alloc();
-    for row in FAULTY_SPEEDS.split(|byte| *byte == b'$') {
-        let mut parts = row.split(|byte| *byte == b'|');
-        match (parts.next(), parts.next()) {
-            (Some(text), Some(wanted)) => {
-                let fault = read_speeds(alloc, text).err().expect(&rt, "a faulty row");
-                assert_eq!(rt; told(alloc, fault)?.as_bytes(), wanted);
-            }
-            _ => panic!(rt; "a row of two"),
-        }
+    for number in 0..count(FAULTY_SPEEDS) {
+        let (text, want) = row(&rt, FAULTY_SPEEDS, number);
+        let found = told(rt.alloc(), speed_fault(&rt, rt.alloc(), text))?;
+        assert_eq!(rt; found.as_bytes(), want, "row {number}");
     }
     Ok(())
 }
@@ -109,18 +112,20 @@ const FAULTY_TURNS: &[u8] = b"1,2,3|Turns 1 BadCount$\
 1,2,3,4,x|Turns 1 BadNumber$\
 1,2,3,100000.1|Turns 1 OutOfRange";
 
+// The fault of a file of turns.
+fn turn_fault(rt: &impl Abort, alloc: Global, text: &[u8]) -> TrafficFault {
+    match read_turns(alloc, text) {
+        Err(fault) => fault,
+        Ok(_rows) => panic!(rt; "a faulty row"),
+    }
+}
+
 #[test]
 fn the_first_faulty_turn_is_told(rt: HostRuntime) -> Result<(), AllocError> {
-    let alloc = rt.alloc();
-    for row in FAULTY_TURNS.split(|byte| *byte == b'$') {
-        let mut parts = row.split(|byte| *byte == b'|');
-        match (parts.next(), parts.next()) {
-            (Some(text), Some(wanted)) => {
-                let fault = read_turns(alloc, text).err().expect(&rt, "a faulty row");
-                assert_eq!(rt; told(alloc, fault)?.as_bytes(), wanted);
-            }
-            _ => panic!(rt; "a row of two"),
-        }
+    for number in 0..count(FAULTY_TURNS) {
+        let (text, want) = row(&rt, FAULTY_TURNS, number);
+        let found = told(rt.alloc(), turn_fault(&rt, rt.alloc(), text))?;
+        assert_eq!(rt; found.as_bytes(), want, "row {number}");
     }
     Ok(())
 }

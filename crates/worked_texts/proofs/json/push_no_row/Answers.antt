@@ -1,0 +1,8 @@
+use Rattle.std.proofs.Common.{[]}
+use Rattle.json_text.specs.WholeLaws.{array_written}
+use Rattle.worked_texts.proofs.json.push_no_row.Goals as goal
+
+pub returns : goal.returns
+returns c =
+    rw (c.in_ok-end_list.ensures.ok, c.in_ok-begin_list.ensures.ok)
+    (array_written [] c.args.json.now)
