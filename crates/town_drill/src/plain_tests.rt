@@ -124,6 +124,27 @@ fn plain_trip(
     }
 }
 
+// The line of the trips under the metric of this number.
+fn trips_line(
+    rt: &impl Abort,
+    alloc: Global,
+    under: &Under<'_>,
+    grid: &Grid,
+    number: u32,
+) -> Result<String, AllocError>
+    requires grid { grid.now ≡ all_ends under.now.road.network.segments }
+    requires number { number < 4 }
+{
+    let mut trips = Vec::new(alloc);
+    for trip in 0..16 {
+        let from = node_point(TOWN, start_of(TOWN, number, trip));
+        let to = node_point(TOWN, stop_of(TOWN, number, trip));
+        trips.push(plain_trip(rt, alloc, under, grid, from, to)?)?;
+    }
+    assert!(rt; trips.len() == 16);
+    line(alloc, number, &trips)
+}
+
 // The line on the metric of this number.
 fn plain_line(
     rt: &(impl Threads + Abort + Sync),
@@ -136,29 +157,43 @@ fn plain_line(
     requires number { number < 4 }
 {
     let metric = metric_of(rt, alloc, roads, TOWN, number)?;
-    let under = metric.under();
-    let mut trips = Vec::new(alloc);
-    for trip in 0..16 {
-        let from = node_point(TOWN, start_of(TOWN, number, trip));
-        let to = node_point(TOWN, stop_of(TOWN, number, trip));
-        trips.push(plain_trip(rt, alloc, &under, grid, from, to)?)?;
-    }
-    assert!(rt; trips.len() == 16);
-    line(alloc, number, &trips)
+    trips_line(rt, alloc, &metric.under(), grid, number)
 }
 
-// The lines on all metrics.
+// The lines on all metrics of roads.
+fn lines_under(
+    rt: &(impl Threads + Abort + Sync),
+    alloc: Global,
+    roads: &Roads,
+    grid: &Grid,
+) -> Result<String, AllocError>
+    requires { grid.now ≡ all_ends roads.now.network.segments }
+{
+    let mut text = String::new(alloc);
+    for number in 0..4 {
+        text.push_str(&plain_line(rt, alloc, roads, grid, number)?)?;
+    }
+    Ok(text)
+}
+
+// The same, with their grid made.
+fn lines_on(
+    rt: &(impl Threads + Abort + Sync),
+    alloc: Global,
+    roads: &Roads,
+) -> Result<String, AllocError> {
+    let grid = Grid::of(alloc, roads.network())?;
+    lines_under(rt, alloc, roads, &grid)
+}
+
+// The lines on all metrics. Each function here that owns a network, roads or a metric has one exit behind it, since a proof
+// takes time for each.
 fn plain_lines(rt: &(impl Threads + Abort + Sync), alloc: Global) -> Result<String, AllocError> {
     let Ok(network) = load_town(alloc, TOWN) else {
         return Err(AllocError);
     };
     let roads = Roads::of(alloc, network, &SERVER_LIMITS)?;
-    let grid = Grid::of(alloc, roads.network())?;
-    let mut text = String::new(alloc);
-    for number in 0..4 {
-        text.push_str(&plain_line(rt, alloc, &roads, &grid, number)?)?;
-    }
-    Ok(text)
+    lines_on(rt, alloc, &roads)
 }
 
 #[test]

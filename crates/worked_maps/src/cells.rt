@@ -7,12 +7,10 @@ ghost use Rattle.cell_frame.specs.Borders.{IsCell, at_cell};
 
 use crate::metrics::cost_told;
 use crate::networks::CAR;
-use crate::towns::{bend, objects_of, profile_of};
+use crate::towns::{bend, network_of};
 use cell_frame::Cell;
 use customized::{Metric, Roads};
-use edge_graph::Network;
 use metric_make::base;
-use road_base::Object;
 use search_graph::DurLen;
 use std::alloc::{AllocError, Global};
 use std::process::Abort;
@@ -71,8 +69,8 @@ fn level_told(alloc: Global, metric: &Metric, level: u32) -> Result<String, Allo
     Ok(text)
 }
 
-/// All levels, the lowest first.
-pub fn told(alloc: Global, metric: &Metric) -> Result<String, AllocError> {
+// All levels, the lowest first.
+fn told(alloc: Global, metric: &Metric) -> Result<String, AllocError> {
     let mut text = String::new(alloc);
     for below in 0..metric.frame().levels() {
         text.push_str(level_told(alloc, metric, below + 1)?.as_str())?;
@@ -81,52 +79,71 @@ pub fn told(alloc: Global, metric: &Metric) -> Result<String, AllocError> {
     Ok(text)
 }
 
+// The metric of roads by the settings alone, in a box.
+fn boxed_metric(
+    rt: &(impl Threads + Sync),
+    alloc: Global,
+    roads: &Roads,
+) -> Result<Box<Metric>, AllocError> {
+    let base = base(alloc, roads.network())?;
+    let metric = Metric::make(rt, alloc, roads, base)?;
+    Ok(Box::new(alloc, metric)?)
+}
+
 /// The metric of a map by the settings alone, cut into cells by these limits.
 pub fn customized(
     rt: &(impl Threads + Sync),
     alloc: Global,
-    objects: &[Object],
+    map: &str,
     limits: &[u32],
-) -> Result<Metric, AllocError>
+) -> Result<Box<Metric>, AllocError>
     requires ascending { IsStrictlyIncreasing limits.now }
     requires some { All (λ limit. 1 ≤ limit) limits.now }
 {
-    let Ok(network) = Network::build(alloc, objects, &profile_of(alloc, CAR)?) else {
+    let Ok(network) = network_of(alloc, map, CAR) else {
         return Err(AllocError);
     };
-    let roads = Roads::of(alloc, network, limits)?;
-    let base = base(alloc, roads.network())?;
-    Metric::make(rt, alloc, &roads, base)
+    let roads = Roads::of(alloc, Box::into_inner(network), limits)?;
+    boxed_metric(rt, alloc, &roads)
 }
 
-// What the metric of two streets that meet at a bend is, cut into cells by these limits.
-fn bend_told(
-    rt: &(impl Threads + Sync),
+/// Asserts what all levels of a metric are.
+pub fn assert_told(
+    rt: &impl Abort,
     alloc: Global,
+    metric: &Metric,
+    want: &str,
+) -> Result<(), AllocError> {
+    let got = told(alloc, metric)?;
+    assert_eq!(rt; got.as_str(), want);
+    Ok(())
+}
+
+// Asserts what the metric of a map is, cut into cells by these limits.
+fn assert_cut(
+    rt: &(impl Threads + Abort + Sync),
+    alloc: Global,
+    map: &str,
     limits: &[u32],
-) -> Result<String, AllocError>
+    want: &str,
+) -> Result<(), AllocError>
     requires ascending { IsStrictlyIncreasing limits.now }
     requires some { All (λ limit. 1 ≤ limit) limits.now }
 {
-    let metric = customized(rt, alloc, &bend(alloc, "")?, limits)?;
-    told(alloc, &metric)
+    let metric = customized(rt, alloc, map, limits)?;
+    assert_told(rt, alloc, &metric, want)
 }
 
-// A way into a street and out again turns back at its end. Above both streets nothing is entered or left.
+// Two streets that meet at a bend. A way into a street and out again turns back at its end. Above both streets
+// nothing is entered or left.
 #[test]
 fn a_way_into_a_street_turns_back_at_its_end(rt: HostRuntime) -> Result<(), AllocError> {
     let alloc = rt.alloc();
-    let one = bend_told(&rt, alloc, &[2])?;
-    assert_eq!(rt;
-        one.as_str(),
-        "0 0 1 1 | 1 to 0 299/1111 | 2 to 3 299/1111 ; "
-    );
-    let two = bend_told(&rt, alloc, &[2, 4])?;
-    assert_eq!(rt;
-        two.as_str(),
-        "0 0 1 1 | 1 to 0 299/1111 | 2 to 3 299/1111 ; 0 0 0 0 | to ; "
-    );
-    Ok(())
+    let map = bend(alloc, "")?;
+    let one = "0 0 1 1 | 1 to 0 299/1111 | 2 to 3 299/1111 ; ";
+    assert_cut(&rt, alloc, map.as_str(), &[2], one)?;
+    let two = "0 0 1 1 | 1 to 0 299/1111 | 2 to 3 299/1111 ; 0 0 0 0 | to ; ";
+    assert_cut(&rt, alloc, map.as_str(), &[2, 4], two)
 }
 
 // A street round a block, one way. Segment 3 lies in the west, segment 1 in the east.
@@ -139,13 +156,9 @@ w20 Thighway=residential,oneway=yes Nn1,n2,n3,n4,n1";
 // Each cell is entered and left by one vertex, and to stay there costs nothing.
 #[test]
 fn a_street_round_a_block_is_cut_by_its_segments(rt: HostRuntime) -> Result<(), AllocError> {
-    let alloc = rt.alloc();
-    let ring = customized(&rt, alloc, &objects_of(alloc, RING)?, &[1, 2])?;
-    assert_eq!(rt;
-        told(alloc, &ring)?.as_str(),
-        "2 3 6 7 4 5 0 1 | 6 to 6 0/0 | to | 0 to 0 0/0 | to | 4 to 4 0/0 | to | 2 to 2 0/0 | to ; 1 1 3 3 2 2 0 0 | 6 to 6 0/0 | 0 to 0 0/0 | 4 to 4 0/0 | 2 to 2 0/0 ; "
-    );
-    Ok(())
+    let want =
+        "2 3 6 7 4 5 0 1 | 6 to 6 0/0 | to | 0 to 0 0/0 | to | 4 to 4 0/0 | to | 2 to 2 0/0 | to ; 1 1 3 3 2 2 0 0 | 6 to 6 0/0 | 0 to 0 0/0 | 4 to 4 0/0 | 2 to 2 0/0 ; ";
+    assert_cut(&rt, rt.alloc(), RING, &[1, 2], want)
 }
 
 // Asserts which parts the metric of the bend gives.
@@ -164,7 +177,8 @@ fn assert_parts(rt: &impl Abort, metric: &Metric) {
 #[test]
 fn an_answer_is_given_the_metrics_own_parts(rt: HostRuntime) -> Result<(), AllocError> {
     let alloc = rt.alloc();
-    let metric = customized(&rt, alloc, &bend(alloc, "")?, &[2])?;
+    let map = bend(alloc, "")?;
+    let metric = customized(&rt, alloc, map.as_str(), &[2])?;
     assert_parts(&rt, &metric);
     Ok(())
 }

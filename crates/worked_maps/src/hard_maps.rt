@@ -2,9 +2,9 @@
 //! meets. Expected values are from this project's rules, worked out by hand.
 
 use crate::networks::CAR;
-use crate::towns::{objects_of, profile_of, to_and_fro};
-use edge_graph::Network;
+use crate::towns::{network_of, to_and_fro};
 use std::alloc::{AllocError, Global};
+use std::process::Abort;
 
 // Way 1 has 200 segments to and fro between nodes 1 and 2; way 2 leads from node 1 to a dead end, way 3 from node 2.
 fn streets(alloc: Global) -> Result<String, AllocError> {
@@ -31,13 +31,18 @@ fn restrict(
     Ok(())
 }
 
-// How many turns the network of a map has.
-fn turn_count(alloc: Global, text: &String) -> Result<u32, AllocError> {
-    let objects = objects_of(alloc, text.as_str())?;
-    match Network::build(alloc, &objects, &profile_of(alloc, CAR)?) {
-        Ok(network) => Ok(network.turns()),
-        Err(_) => Err(AllocError),
-    }
+// Asserts how many turns the network of a map has.
+fn assert_turn_count(
+    rt: &impl Abort,
+    alloc: Global,
+    map: &str,
+    want: u32,
+) -> Result<(), AllocError> {
+    let Ok(network) = network_of(alloc, map, CAR) else {
+        return Err(AllocError);
+    };
+    assert_eq!(rt; network.turns(), want);
+    Ok(())
 }
 
 // From way 1 each of 200 vertices at each node may go on to any other but its own way back, from ways 2
@@ -47,15 +52,14 @@ fn turn_count(alloc: Global, text: &String) -> Result<u32, AllocError> {
 #[test]
 fn restrictions_of_a_way_to_and_fro(rt: HostRuntime) -> Result<(), AllocError> {
     let alloc = rt.alloc();
-    let mut text = streets(alloc)?;
-    assert_eq!(rt; turn_count(alloc, &text)?, 80_402);
-    restrict(alloc, &mut text, 1, "no_left_turn", "n1@via,w1@to")?;
-    assert_eq!(rt; turn_count(alloc, &text)?, 40_602);
-    restrict(alloc, &mut text, 2, "only_straight_on", "n2@via,w3@to")?;
-    assert_eq!(rt; turn_count(alloc, &text)?, 802);
-    restrict(alloc, &mut text, 3, "only_straight_on", "n1@via,w2@to")?;
-    assert_eq!(rt; turn_count(alloc, &text)?, 802);
-    restrict(alloc, &mut text, 4, "only_straight_on", "n1@via,w1@to")?;
-    assert_eq!(rt; turn_count(alloc, &text)?, 602);
-    Ok(())
+    let mut map = streets(alloc)?;
+    assert_turn_count(&rt, alloc, map.as_str(), 80_402)?;
+    restrict(alloc, &mut map, 1, "no_left_turn", "n1@via,w1@to")?;
+    assert_turn_count(&rt, alloc, map.as_str(), 40_602)?;
+    restrict(alloc, &mut map, 2, "only_straight_on", "n2@via,w3@to")?;
+    assert_turn_count(&rt, alloc, map.as_str(), 802)?;
+    restrict(alloc, &mut map, 3, "only_straight_on", "n1@via,w2@to")?;
+    assert_turn_count(&rt, alloc, map.as_str(), 802)?;
+    restrict(alloc, &mut map, 4, "only_straight_on", "n1@via,w1@to")?;
+    assert_turn_count(&rt, alloc, map.as_str(), 602)
 }

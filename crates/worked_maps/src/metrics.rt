@@ -2,12 +2,12 @@
 
 ghost use Rattle.std.specs.Prelude.{◌≡◌, ◌*◌, length};
 
-use crate::towns::{bend, crossing, objects_of, profile_of};
+use crate::towns::{bend, crossing, network_of};
 use edge_graph::Network;
 use metric_make::{BaseMetric, base};
-use road_base::Object;
 use search_graph::DurLen;
 use std::alloc::{AllocError, Global};
+use std::process::Abort;
 
 const CAR: &str =
     "name = \"car\"\nvehicle = \"motorcar\"\nu_turn_penalty = 200\n[speeds]\nresidential = 40\n";
@@ -49,23 +49,47 @@ fn told(alloc: Global, network: &Network, metric: &BaseMetric) -> Result<String,
     Ok(text)
 }
 
-// What the vertices and turns of a map cost by these settings.
-fn costs_of(alloc: Global, objects: &[Object], settings: &str) -> Result<String, AllocError> {
-    let Ok(network) = Network::build(alloc, objects, &profile_of(alloc, settings)?) else {
+// What the vertices and turns of a network cost by its settings.
+fn network_told(alloc: Global, network: &Network) -> Result<String, AllocError> {
+    let metric = base(alloc, network)?;
+    told(alloc, network, &metric)
+}
+
+// Asserts what the vertices and turns of a map cost by these settings: its ways, and then its turns.
+fn assert_costs(
+    rt: &impl Abort,
+    alloc: Global,
+    map: &str,
+    settings: &str,
+    want: &str,
+) -> Result<(), AllocError> {
+    let Ok(network) = network_of(alloc, map, settings) else {
         return Err(AllocError);
     };
-    let metric = base(alloc, &network)?;
-    told(alloc, &network, &metric)
+    let got = network_told(alloc, &network)?;
+    assert_eq!(rt; got.as_str(), want);
+    Ok(())
 }
 
 // 1111 decimetres at 40 km/h are 99.99 deciseconds. The turns are 0-2, 2-3 and 3-2; the latter two turn
 // back at the ends.
 #[test]
 fn vertices_and_turns_have_their_costs(rt: HostRuntime) -> Result<(), AllocError> {
-    let alloc = rt.alloc();
-    let got = costs_of(alloc, &objects_of(alloc, STREETS)?, CAR)?;
-    assert_eq!(rt; got.as_str(), "99/1111 - 1/1 1/1 | 0/0 200/0 200/0 ");
-    Ok(())
+    let want = "99/1111 - 1/1 1/1 | 0/0 200/0 200/0 ";
+    assert_costs(&rt, rt.alloc(), STREETS, CAR, want)
+}
+
+// Asserts what the turns of the crossing cost, where its middle has these tags. Each way costs the same.
+fn assert_at_crossing(
+    rt: &impl Abort,
+    alloc: Global,
+    at_middle: &str,
+    turns: &str,
+) -> Result<(), AllocError> {
+    let map = crossing(alloc, at_middle, "")?;
+    let ways = "99/1111 99/1111 99/1111 99/1111 99/1111 99/1111 99/1111 99/1111 | ";
+    let want = format!(in alloc; "{ways}{turns}")?;
+    assert_costs(rt, alloc, map.as_str(), WITH_PENALTIES, want.as_str())
 }
 
 // At the crossing the turns from the south go right, straight on and left; then back at the end of way 1,
@@ -74,28 +98,12 @@ fn vertices_and_turns_have_their_costs(rt: HostRuntime) -> Result<(), AllocError
 #[test]
 fn bends_and_signals_have_their_penalties(rt: HostRuntime) -> Result<(), AllocError> {
     let alloc = rt.alloc();
-    let ways = "99/1111 99/1111 99/1111 99/1111 99/1111 99/1111 99/1111 99/1111 | ";
-    let plain = costs_of(alloc, &crossing(alloc, "", "")?, WITH_PENALTIES)?;
-    let turns = "7/0 0/0 50/0 200/0 200/0 50/0 7/0 0/0 200/0 0/0 50/0 7/0 7/0 0/0 50/0 230/0 ";
-    assert_eq!(rt;
-        plain.as_str(),
-        format!(in alloc; "{ways}{turns}")?.as_str()
-    );
-    let signalled = costs_of(
-        alloc,
-        &crossing(alloc, "highway=traffic_signals", "")?,
-        WITH_PENALTIES,
-    )?;
-    let turns =
+    let plain = "7/0 0/0 50/0 200/0 200/0 50/0 7/0 0/0 200/0 0/0 50/0 7/0 7/0 0/0 50/0 230/0 ";
+    assert_at_crossing(&rt, alloc, "", plain)?;
+    let signalled =
         "37/0 30/0 80/0 200/0 200/0 80/0 37/0 30/0 200/0 30/0 80/0 37/0 37/0 30/0 80/0 230/0 ";
-    assert_eq!(rt;
-        signalled.as_str(),
-        format!(in alloc; "{ways}{turns}")?.as_str()
-    );
-    let bent = costs_of(alloc, &bend(alloc, "")?, WITH_PENALTIES)?;
-    assert_eq!(rt;
-        bent.as_str(),
-        "99/1111 99/1111 99/1111 99/1111 | 0/0 200/0 200/0 0/0 "
-    );
-    Ok(())
+    assert_at_crossing(&rt, alloc, "highway=traffic_signals", signalled)?;
+    let bent = "99/1111 99/1111 99/1111 99/1111 | 0/0 200/0 200/0 0/0 ";
+    let map = bend(alloc, "")?;
+    assert_costs(&rt, alloc, map.as_str(), WITH_PENALTIES, bent)
 }

@@ -2,9 +2,8 @@
 
 ghost use Rattle.std.specs.Prelude.{◌*◌, ◌<◌, length};
 
-use crate::towns::{bend, crossing, objects_of, profile_of, to_and_fro};
+use crate::towns::{bend, crossing, network_of, to_and_fro};
 use edge_graph::{BuildFault, Network};
-use road_base::Object;
 use std::alloc::{AllocError, Global};
 use std::process::Abort;
 
@@ -44,9 +43,9 @@ fn told(alloc: Global, network: &Network) -> Result<String, AllocError> {
     Ok(text)
 }
 
-// What building a network gives.
-fn built(alloc: Global, objects: &[Object]) -> Result<String, AllocError> {
-    match Network::build(alloc, objects, &profile_of(alloc, CAR)?) {
+// What building the network of a map gives.
+fn built(alloc: Global, map: &str) -> Result<String, AllocError> {
+    match network_of(alloc, map, CAR) {
         Ok(network) => told(alloc, &network),
         Err(BuildFault::TooManySegments) => String::from_str(alloc, "too many segments"),
         Err(BuildFault::TooManyTurns) => String::from_str(alloc, "too many turns"),
@@ -54,19 +53,23 @@ fn built(alloc: Global, objects: &[Object]) -> Result<String, AllocError> {
     }
 }
 
-#[test]
-fn a_way_has_both_directions_and_turns_back_at_its_ends(rt: HostRuntime) -> Result<(), AllocError> {
-    let alloc = rt.alloc();
-    let got = built(alloc, &bend(alloc, "")?)?;
-    assert_eq!(rt;
-        got.as_str(),
-        "1>2 1 40000 ; 2>1 0 40000 ; 2>3 0 40000 ; 3>2 1 40000 ; 0-2 1-0 2-3 3-1 "
-    );
-    assert_eq!(rt; built(alloc, &[])?.as_str(), "");
+// Asserts that.
+fn assert_built(rt: &impl Abort, alloc: Global, map: &str, want: &str) -> Result<(), AllocError> {
+    let got = built(alloc, map)?;
+    assert_eq!(rt; got.as_str(), want);
     Ok(())
 }
 
-// Asserts which turns the bend has. The network stands behind a reference, so that no assertion drops it.
+#[test]
+fn a_way_has_both_directions_and_turns_back_at_its_ends(rt: HostRuntime) -> Result<(), AllocError> {
+    let alloc = rt.alloc();
+    let map = bend(alloc, "")?;
+    let want = "1>2 1 40000 ; 2>1 0 40000 ; 2>3 0 40000 ; 3>2 1 40000 ; 0-2 1-0 2-3 3-1 ";
+    assert_built(&rt, alloc, map.as_str(), want)?;
+    assert_built(&rt, alloc, "", "")
+}
+
+// Asserts which turns the bend has.
 fn assert_turns(rt: &impl Abort, network: &Network) {
     assert_eq!(rt; network.segments(), 2);
     assert_eq!(rt; network.turn(0, 2), Some(0));
@@ -77,8 +80,8 @@ fn assert_turns(rt: &impl Abort, network: &Network) {
 #[test]
 fn a_turn_is_found_by_its_ends(rt: HostRuntime) -> Result<(), AllocError> {
     let alloc = rt.alloc();
-    let built = Network::build(alloc, &bend(alloc, "")?, &profile_of(alloc, CAR)?);
-    let Ok(network) = built else {
+    let map = bend(alloc, "")?;
+    let Ok(network) = network_of(alloc, map.as_str(), CAR) else {
         return Err(AllocError);
     };
     assert_turns(&rt, &network);
@@ -97,48 +100,63 @@ n3 x0.001 y0.001";
 // street leads on.
 #[test]
 fn segments_go_by_way_and_place(rt: HostRuntime) -> Result<(), AllocError> {
-    let alloc = rt.alloc();
-    let got = built(alloc, &objects_of(alloc, TWO_STREETS)?)?;
-    assert_eq!(rt;
-        got.as_str(),
-        "2>3 1 40000 A; 3-2 1 40000 A; 3>1 1 40000 A; 1-3 0 40000 A; 1>2 1 40000 B; 2>1 0 40000 B; 0-2 2-4 4-0 5-4 "
-    );
-    Ok(())
+    let want =
+        "2>3 1 40000 A; 3-2 1 40000 A; 3>1 1 40000 A; 1-3 0 40000 A; 1>2 1 40000 B; 2>1 0 40000 B; 0-2 2-4 4-0 5-4 ";
+    assert_built(&rt, rt.alloc(), TWO_STREETS, want)
+}
+
+// Asserts what building the network of a way to and fro gives.
+fn assert_to_and_fro(
+    rt: &impl Abort,
+    alloc: Global,
+    segments: usize,
+    want: &str,
+) -> Result<(), AllocError> {
+    let map = to_and_fro(alloc, segments)?;
+    assert_built(rt, alloc, map.as_str(), want)
 }
 
 // 2 * 5794 * 5793 turns are more than 2^26, and 4194305 segments more than 2^22.
 #[test]
 fn past_the_limits_no_network_is_built(rt: HostRuntime) -> Result<(), AllocError> {
-    let alloc = rt.alloc();
-    let turns = built(
-        alloc,
-        &objects_of(alloc, to_and_fro(alloc, 5794)?.as_str())?,
-    )?;
-    assert_eq!(rt; turns.as_str(), "too many turns");
-    let segments = built(
-        alloc,
-        &objects_of(alloc, to_and_fro(alloc, 4194305)?.as_str())?,
-    )?;
-    assert_eq!(rt; segments.as_str(), "too many segments");
-    Ok(())
+    assert_to_and_fro(&rt, rt.alloc(), 5794, "too many turns")?;
+    assert_to_and_fro(&rt, rt.alloc(), 4194305, "too many segments")
 }
 
-// The turns of a map, how many restrictions apply in it, and how many are ignored.
-fn turns_of(alloc: Global, objects: &[Object]) -> Result<String, AllocError> {
-    let Ok(network) = Network::build(alloc, objects, &profile_of(alloc, CAR)?) else {
-        return Err(AllocError);
-    };
-    let turns = turns_told(alloc, &network)?;
+// The turns of a network, how many restrictions apply in it, and how many are ignored.
+fn restricted_told(alloc: Global, network: &Network) -> Result<String, AllocError> {
+    let turns = turns_told(alloc, network)?;
     let (applied, ignored) = (network.applied(), network.ignored());
     format!(in alloc; "{turns}| {applied} {ignored}")
 }
 
-// The turns of the crossing under one restriction of this value, from, over and to its members.
-fn under(alloc: Global, value: &str, members: &str) -> Result<String, AllocError> {
+// Asserts that of a map.
+fn assert_restricted(
+    rt: &impl Abort,
+    alloc: Global,
+    map: &str,
+    want: &str,
+) -> Result<(), AllocError> {
+    let Ok(network) = network_of(alloc, map, CAR) else {
+        return Err(AllocError);
+    };
+    let got = restricted_told(alloc, &network)?;
+    assert_eq!(rt; got.as_str(), want);
+    Ok(())
+}
+
+// Asserts the turns of the crossing under one restriction of this value, from, over and to its members.
+fn assert_under(
+    rt: &impl Abort,
+    alloc: Global,
+    value: &str,
+    members: &str,
+    want: &str,
+) -> Result<(), AllocError> {
     let tags = format!(in alloc; "Ttype=restriction,restriction={value},except=bus")?;
     let line = format!(in alloc; "r1 {tags} M{members}")?;
-    let objects = crossing(alloc, "", line.as_str())?;
-    turns_of(alloc, &objects)
+    let map = crossing(alloc, "", line.as_str())?;
+    assert_restricted(rt, alloc, map.as_str(), want)
 }
 
 // Restrictions at the crossing, each as its value, its members and the turns under it, with a bar between them.
@@ -154,38 +172,58 @@ const IGNORED: &str = "no_left_turn|w1@from,n2@via,w2@to
 only_left_turn|w1@from,n5@via,w9@to
 no_left_turn|w1@from,w2@from,n5@via,w4@to";
 
+// Asserts a row of those that forbid.
+fn assert_forbidden(rt: &impl Abort, alloc: Global, row: &str) -> Result<(), AllocError> {
+    let mut parts = row.split('|');
+    match (parts.next(), parts.next(), parts.next()) {
+        (Some(value), Some(members), Some(turns)) => {
+            let want = format!(in alloc; "{turns}| 1 0")?;
+            assert_under(rt, alloc, value, members, want.as_str())
+        }
+        _ => panic!(rt; "a row of three"),
+    }
+}
+
 // A restriction forbids its own turns and no others; that back in a dead end too. The way that no turn
 // leaves any more does not become a dead end.
 #[test]
 fn restrictions_forbid_their_turns(rt: HostRuntime) -> Result<(), AllocError> {
-    let alloc = rt.alloc();
-    let free = turns_of(alloc, &crossing(alloc, "", "")?)?;
-    assert_eq!(rt;
-        free.as_str(),
-        format!(in alloc; "{CROSSING}| 0 0")?.as_str()
-    );
+    assert_at_crossing(&rt, rt.alloc(), "", "0 0")?;
     for row in FORBIDDEN.split('\n') {
-        let mut parts = row.split('|');
-        let (Some(value), Some(members), Some(turns)) = (parts.next(), parts.next(), parts.next())
-        else {
-            panic!(rt; "a row of three");
-        };
-        let want = format!(in alloc; "{turns}| 1 0")?;
-        assert_eq!(rt; under(alloc, value, members)?.as_str(), want.as_str());
+        assert_forbidden(&rt, rt.alloc(), row)?;
     }
     Ok(())
 }
 
+// Asserts that under one more line nothing is forbidden at the crossing, and how many restrictions apply and how many
+// are ignored.
+fn assert_at_crossing(
+    rt: &impl Abort,
+    alloc: Global,
+    line: &str,
+    counts: &str,
+) -> Result<(), AllocError> {
+    let map = crossing(alloc, "", line)?;
+    let want = format!(in alloc; "{CROSSING}| {counts}")?;
+    assert_restricted(rt, alloc, map.as_str(), want.as_str())
+}
+
+// Asserts a row of those that are ignored.
+fn assert_ignored(rt: &impl Abort, alloc: Global, row: &str) -> Result<(), AllocError> {
+    let mut parts = row.split('|');
+    match (parts.next(), parts.next()) {
+        (Some(value), Some(members)) => {
+            let want = format!(in alloc; "{CROSSING}| 0 1")?;
+            assert_under(rt, alloc, value, members, want.as_str())
+        }
+        _ => panic!(rt; "a row of two"),
+    }
+}
+
 #[test]
 fn restrictions_that_do_not_apply_forbid_nothing(rt: HostRuntime) -> Result<(), AllocError> {
-    let alloc = rt.alloc();
-    let want = format!(in alloc; "{CROSSING}| 0 1")?;
     for row in IGNORED.split('\n') {
-        let mut parts = row.split('|');
-        let (Some(value), Some(members)) = (parts.next(), parts.next()) else {
-            panic!(rt; "a row of two");
-        };
-        assert_eq!(rt; under(alloc, value, members)?.as_str(), want.as_str());
+        assert_ignored(&rt, rt.alloc(), row)?;
     }
     Ok(())
 }
@@ -198,13 +236,18 @@ const NO_WAY_BACK: &str = "r1 Ttype=restriction,restriction=no_u_turn Mw1@from,n
 // One that excepts the vehicle is not even counted.
 #[test]
 fn a_restriction_may_except_the_vehicle(rt: HostRuntime) -> Result<(), AllocError> {
-    let alloc = rt.alloc();
-    let got = turns_of(alloc, &crossing(alloc, "", NOT_FOR_CARS)?)?;
-    assert_eq!(rt;
-        got.as_str(),
-        format!(in alloc; "{CROSSING}| 0 0")?.as_str()
-    );
-    Ok(())
+    assert_at_crossing(&rt, rt.alloc(), NOT_FOR_CARS, "0 0")
+}
+
+// Asserts which turns the bend has where its middle has these tags.
+fn assert_at_bend(
+    rt: &impl Abort,
+    alloc: Global,
+    at_bend: &str,
+    want: &str,
+) -> Result<(), AllocError> {
+    let map = bend(alloc, at_bend)?;
+    assert_restricted(rt, alloc, map.as_str(), want)
 }
 
 // At a closed node every way turns back onto itself, unless a restriction forbids that; a barrier that the
@@ -212,25 +255,17 @@ fn a_restriction_may_except_the_vehicle(rt: HostRuntime) -> Result<(), AllocErro
 #[test]
 fn a_barrier_closes_its_node(rt: HostRuntime) -> Result<(), AllocError> {
     let alloc = rt.alloc();
-    let closed = turns_of(alloc, &bend(alloc, "barrier=bollard")?)?;
-    assert_eq!(rt; closed.as_str(), "0-1 1-0 2-3 3-2 | 0 0");
-    let gate = turns_of(alloc, &bend(alloc, "barrier=gate")?)?;
-    assert_eq!(rt; gate.as_str(), "0-2 1-0 2-3 3-1 | 0 0");
-    let crossed = turns_of(alloc, &crossing(alloc, "barrier=bollard", NO_WAY_BACK)?)?;
-    assert_eq!(rt; crossed.as_str(), "1-0 2-3 3-2 4-5 5-4 6-7 7-6 | 1 0");
-    Ok(())
+    assert_at_bend(&rt, alloc, "barrier=bollard", "0-1 1-0 2-3 3-2 | 0 0")?;
+    assert_at_bend(&rt, alloc, "barrier=gate", "0-2 1-0 2-3 3-1 | 0 0")?;
+    let crossed = crossing(alloc, "barrier=bollard", NO_WAY_BACK)?;
+    let want = "1-0 2-3 3-2 4-5 5-4 6-7 7-6 | 1 0";
+    assert_restricted(&rt, alloc, crossed.as_str(), want)
 }
 
 // A name is kept as it stands, with a carriage return at its end.
 #[test]
 fn names_are_kept(rt: HostRuntime) -> Result<(), AllocError> {
-    let alloc = rt.alloc();
-    let text = "w10 Tname=Main%20%Street%d%,highway=residential Nn1,n2\nn1 x0 y0\nn2 x0 y0.001";
-    let objects = objects_of(alloc, text)?;
-    let got = built(alloc, &objects)?;
-    assert_eq!(rt;
-        got.as_str(),
-        "1>2 0 40000 Main Street\r; 2>1 0 40000 Main Street\r; 0-1 1-0 "
-    );
-    Ok(())
+    let map = "w10 Tname=Main%20%Street%d%,highway=residential Nn1,n2\nn1 x0 y0\nn2 x0 y0.001";
+    let want = "1>2 0 40000 Main Street\r; 2>1 0 40000 Main Street\r; 0-1 1-0 ";
+    assert_built(&rt, rt.alloc(), map, want)
 }

@@ -1,32 +1,49 @@
-//! Small towns, as OPL texts: a proof takes time for each value of a list, and none for a text.
+//! Small towns, as OPL texts, and the networks of such texts. A proof takes time for each value of a list, and none for
+//! a text; and for each exit past a value that holds much, so a function that owns one has a single exit behind it.
 
+use edge_graph::{BuildFault, Network};
 use opl_read::read;
 use road_base::Object;
 use std::alloc::{AllocError, Global};
 use way_profile::Profile;
 
-/// The profile of these settings.
-pub fn profile_of(alloc: Global, settings: &str) -> Result<Profile, AllocError> {
-    match Profile::read(alloc, settings.as_bytes()) {
-        Ok(profile) => Ok(profile),
-        Err(_) => Err(AllocError),
+// The network of these objects under a profile, in a box.
+fn boxed_network(
+    alloc: Global,
+    objects: &[Object],
+    profile: &Profile,
+) -> Result<Box<Network>, BuildFault> {
+    let network = Network::build(alloc, objects, profile)?;
+    match Box::new(alloc, network) {
+        Ok(network) => Ok(network),
+        Err(_) => Err(BuildFault::Memory),
     }
 }
 
-/// The objects of a text.
-pub fn objects_of(alloc: Global, text: &str) -> Result<Vec<Object>, AllocError> {
-    match read(alloc, text.as_bytes()) {
-        Ok(objects) => Ok(objects),
-        Err(_) => Err(AllocError),
+// The network of these objects under these settings.
+fn network_under(
+    alloc: Global,
+    objects: &[Object],
+    settings: &str,
+) -> Result<Box<Network>, BuildFault> {
+    match Profile::read(alloc, settings.as_bytes()) {
+        Ok(profile) => boxed_network(alloc, objects, &profile),
+        Err(_) => Err(BuildFault::Memory),
+    }
+}
+
+/// The network of a map under these settings, in a box.
+pub fn network_of(alloc: Global, map: &str, settings: &str) -> Result<Box<Network>, BuildFault> {
+    match read(alloc, map.as_bytes()) {
+        Ok(objects) => network_under(alloc, &objects, settings),
+        Err(_) => Err(BuildFault::Memory),
     }
 }
 
 /// A street that goes north from node 1 to node 2, which has these tags, and east from there to node 3.
-pub fn bend(alloc: Global, at_bend: &str) -> Result<Vec<Object>, AllocError> {
-    let nodes = format!(in alloc; "n1 x0 y0\nn2 x0 y0.001 T{at_bend}\nn3 x0.001 y0.001")?;
-    objects_of(
-        alloc,
-        format!(in alloc; "{nodes}\nw10 Thighway=residential Nn1,n2,n3")?.as_str(),
+pub fn bend(alloc: Global, at_bend: &str) -> Result<String, AllocError> {
+    format!(in alloc;
+        "n1 x0 y0\nn2 x0 y0.001 T{at_bend}\nn3 x0.001 y0.001\nw10 Thighway=residential Nn1,n2,n3"
     )
 }
 
@@ -42,9 +59,8 @@ w4 Thighway=residential Nn4,n5";
 /// A crossing at node 5, which has these tags: way 1 comes to it from node 1 in the south, way 2 leads to
 /// node 2 in the east, way 3 to node 3 in the north, and way 4 comes from node 4 in the west. A traffic
 /// signal stands at node 4. Behind these stand more lines.
-pub fn crossing(alloc: Global, at_middle: &str, more: &str) -> Result<Vec<Object>, AllocError> {
-    let text = format!(in alloc; "{AROUND}\nn5 x0.001 y0.001 T{at_middle}\n{more}")?;
-    objects_of(alloc, text.as_str())
+pub fn crossing(alloc: Global, at_middle: &str, more: &str) -> Result<String, AllocError> {
+    format!(in alloc; "{AROUND}\nn5 x0.001 y0.001 T{at_middle}\n{more}")
 }
 
 /// A way 1 that goes to and fro between nodes 1 and 2 so many times.

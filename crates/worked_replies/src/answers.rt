@@ -1,7 +1,11 @@
 //! Whole answers over small towns.
 
+ghost use Rattle.std.specs.Prelude.{◌≤◌, All};
+ghost use Rattle.std.specs.List.Sorted.{IsStrictlyIncreasing};
+
 use crate::cases::{Case, assert_ends, assert_refused, case_of};
 use crate::towns::{Asked, BLOCK, CORNER, DESERT, LANE, Town, ask, ask_at, ask_over};
+use customized::SERVER_LIMITS;
 use reply_core::{Answer, ReplyFault};
 use reply_texts::Code;
 use std::alloc::{AllocError, Global};
@@ -11,26 +15,33 @@ use std::thread::Threads;
 const FIRST_ROUTE: &str =
     "{\"code\":\"Ok\",\"data_version\":\"7\",\"routes\":[{\"distance\":222.2,\"duration\":19.8,\"weight\":19.8,\"weight_name\":\"duration\",\"legs\":[{\"distance\":222.2,\"duration\":19.8,\"weight\":19.8,\"summary\":\"\",\"steps\":[]}]}],\"waypoints\":[{\"distance\":0.0,\"name\":\"\",\"location\":[0.000000,0.000000]},{\"distance\":0.0,\"name\":\"\",\"location\":[0.001000,0.001000]}]}";
 
-// The cells are found by the server's limits, street by street, and by both.
-#[test]
-fn the_first_route(rt: HostRuntime) -> Result<(), ReplyFault> {
+// Asserts that the first route is found over cells of these limits.
+fn assert_first_route(
+    rt: &(impl Threads + Abort + Sync),
+    alloc: Global,
+    limits: &[u32],
+) -> Result<(), ReplyFault>
+    requires ascending { IsStrictlyIncreasing limits.now }
+    requires some { All (λ limit. 1 ≤ limit) limits.now }
+{
     let target = Asked::Target("/route/v1/car/0,0;0.001,0.001?overview=false");
-    let answer = ask(&rt, rt.alloc(), CORNER, target)?;
+    let answer = ask_over(rt, alloc, CORNER, limits, target)?;
     assert_eq!(rt; answer.code, Code::Ok);
     assert_eq!(rt; answer.status, 200);
     assert_eq!(rt; answer.text.as_str(), FIRST_ROUTE);
-    let by_street = ask_over(&rt, rt.alloc(), CORNER, &[2], 7, target)?;
-    assert_eq!(rt; by_street.text.as_str(), FIRST_ROUTE);
-    let by_both = ask_over(&rt, rt.alloc(), CORNER, &[2, 4], 7, target)?;
-    assert_eq!(rt; by_both.text.as_str(), FIRST_ROUTE);
     Ok(())
 }
 
-// Each segment of the block is a cell of level 2, each vertex one of level 1.
+// The cells are found by the server's limits, street by street, and by both.
 #[test]
-fn round_a_oneway_block(rt: HostRuntime) -> Result<(), ReplyFault> {
-    let target = Asked::Target("/route/v1/car/0.00075,0;0.00025,0?overview=false");
-    let answer = ask(&rt, rt.alloc(), BLOCK, target)?;
+fn the_first_route(rt: HostRuntime) -> Result<(), ReplyFault> {
+    assert_first_route(&rt, rt.alloc(), &SERVER_LIMITS)?;
+    assert_first_route(&rt, rt.alloc(), &[2])?;
+    assert_first_route(&rt, rt.alloc(), &[2, 4])
+}
+
+// Asserts what the way round the block is.
+fn assert_round(rt: &impl Abort, alloc: Global, answer: &Answer) -> Result<(), AllocError> {
     assert_eq!(rt; answer.code, Code::Ok);
     assert!(rt;
         answer.text.as_str().contains(
@@ -39,10 +50,19 @@ fn round_a_oneway_block(rt: HostRuntime) -> Result<(), ReplyFault> {
     );
     assert_eq!(rt; answer.walks.as_slice().len(), 1);
     for walk in answer.walks.as_slice() {
-        let vertices = format!(in rt.alloc(); "{:?}", walk.as_slice())?;
+        let vertices = format!(in alloc; "{:?}", walk.as_slice())?;
         assert_eq!(rt; vertices.as_str(), "[0, 2, 4, 6, 0]");
     }
-    let by_segment = ask_over(&rt, rt.alloc(), BLOCK, &[1, 2], 7, target)?;
+    Ok(())
+}
+
+// Each segment of the block is a cell of level 2, each vertex one of level 1.
+#[test]
+fn round_a_oneway_block(rt: HostRuntime) -> Result<(), ReplyFault> {
+    let target = Asked::Target("/route/v1/car/0.00075,0;0.00025,0?overview=false");
+    let answer = ask(&rt, rt.alloc(), BLOCK, target)?;
+    assert_round(&rt, rt.alloc(), &answer)?;
+    let by_segment = ask_over(&rt, rt.alloc(), BLOCK, &[1, 2], target)?;
     assert_eq!(rt; by_segment.text.as_str(), answer.text.as_str());
     Ok(())
 }
@@ -188,7 +208,7 @@ fn waypoints_are_skipped_where_it_is_asked_for(rt: HostRuntime) -> Result<(), Re
 fn told_at(
     rt: &(impl Threads + Sync),
     alloc: Global,
-    town: Town,
+    town: Town<'_>,
     number: u32,
 ) -> Result<String, ReplyFault> {
     let target = Asked::Target("/route/v1/car/0,0;0.001,0.001?overview=false&since=5");

@@ -10,7 +10,7 @@ use std::thread::Threads;
 /// A target that is asked for over a town, and what is told.
 #[derive(Clone, Copy)]
 pub(crate) struct Case<'a> {
-    pub(crate) town: Town,
+    pub(crate) town: Town<'a>,
     pub(crate) target: &'a str,
     pub(crate) told: &'a str,
 }

@@ -12,3 +12,5 @@ mod steps;
 mod texts;
 #[cfg(test)]
 mod towns;
+#[cfg(test)]
+mod turns;
