@@ -5,7 +5,8 @@
 
 PROGRAM is the built road_router, or a command of several words that runs it, `ask` and what follows left out. On each
 map random places are asked for: `nearest` with one and with ten results, tables of 100 by 100, routes without a
-line, with a simplified line, with a full one and all annotations, and with steps. Then come long roads, of 1,000 to
+line, with a simplified line, with a full one and all annotations, and with steps, and one route of 500 places that
+goes to and fro between two far ones, without a line and with a simplified one. Then come long roads, of 1,000 to
 10,000 segments: one way, whose whole line and annotations are asked for, and a chain of ways of other names, whose
 steps are asked for.
 
@@ -135,7 +136,17 @@ def on_map(runs, opl):
         ("the same in polyline6", [f"GET /route/v1/car/{pair}?overview=false&steps=true&geometries=polyline6" for pair in pairs]),
         ("route with all and steps", [f"GET /route/v1/car/{pair}?overview=full&geometries=geojson&annotations=true&steps=true" for pair in pairs]),
     ]
-    return [measure(name, runs, start, lines) for name, lines in kinds]
+    fine = [measure(name, runs, start, lines) for name, lines in kinds]
+    return fine + on_way_back(runs, start, west, east, south, north)
+
+
+def on_way_back(runs, start, west, east, south, north):
+    """A route of 500 places, to and fro between two near opposite corners of a map: its line goes back the way it came.
+    They have three digits, so that the target isn't too long."""
+    ends = [f"{west:.3f},{south:.3f}", f"{east:.3f},{north:.3f}"]
+    target = "GET /route/v1/car/" + ";".join(ends[number % 2] for number in range(500))
+    kinds = [("without a line", "?overview=false"), ("with a simplified line", "")]
+    return [measure(f"route to and fro {name}", runs, start, [target + query]) for name, query in kinds]
 
 
 def road(segments, folder):
