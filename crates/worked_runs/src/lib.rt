@@ -3,18 +3,26 @@
 #![tactic(auto)]
 
 #[cfg(test)]
-mod edge_tests;
+mod asking;
 #[cfg(test)]
-mod loopback_tests;
+mod cases;
 #[cfg(test)]
-mod row_tests;
+mod counting;
 #[cfg(test)]
-mod serve_tests;
+mod generated;
 #[cfg(test)]
-mod step_tests;
+mod large;
 #[cfg(test)]
-mod tests;
+mod loopback;
 #[cfg(test)]
-mod town_tests;
+mod routes;
 #[cfg(test)]
-mod traffic_tests;
+mod rows;
+#[cfg(test)]
+mod served;
+#[cfg(test)]
+mod steps;
+#[cfg(test)]
+mod traffic;
+#[cfg(test)]
+mod typed;

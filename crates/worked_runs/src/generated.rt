@@ -1,9 +1,8 @@
 //! What no clause says of the commands over a generated town: that they succeed with ample memory, what the least town is,
 //! and which numbers are words.
 
-use crate::tests::{Case, run_over};
+use crate::cases::{Case, ends};
 use road_base::Status;
-use road_io::MemFiles;
 use road_run::USAGE;
 use std::alloc::{AllocError, Global};
 use std::net::{Net, TcpListener, TcpStream};
@@ -16,44 +15,49 @@ const TOWN_2: &[u8] =
 const DRILL_2: &[u8] =
     b"metric 0 ok 16 none 0 duration 106.4\nmetric 1 ok 16 none 0 duration 106.4\nmetric 2 ok 16 none 0 duration 106.4\nmetric 3 ok 16 none 0 duration 106.4\n";
 
-// Whether a run on these words ends so, with this in an output of so much room.
-fn ends(
+// Whether a run on these words is done, with this in the output.
+fn is_done(
     rt: &(impl Threads + Wait + Net<Listener = TcpListener, Stream = TcpStream> + Sync),
     alloc: Global,
     words: &str,
-    room: usize,
-    status: Status,
-    written: &[u8],
+    output: &[u8],
 ) -> Result<bool, AllocError> {
-    let mut files = MemFiles::of(alloc, Vec::new(alloc), Vec::new(alloc));
     let case = Case {
-        room,
+        words,
         ..Case::over_town(b"")
     };
-    let (ended, output) = run_over(rt, alloc, case, words, &mut files)?;
-    Ok(ended == status && output.as_bytes() == written)
+    ends(rt, alloc, case, Status::Ok, output)
 }
 
 #[test]
 fn the_least_town_and_its_drill(rt: HostRuntime) -> Result<(), AllocError> {
-    let alloc = rt.alloc();
-    assert!(rt; ends(&rt, alloc, "town 2", 4096, Status::Ok, TOWN_2)?);
-    assert!(rt; ends(&rt, alloc, "drill 2", 4096, Status::Ok, DRILL_2)?);
+    assert!(rt; is_done(&rt, rt.alloc(), "town 2", TOWN_2)?);
+    assert!(rt; is_done(&rt, rt.alloc(), "drill 2", DRILL_2)?);
     Ok(())
 }
 
 #[test]
 fn other_numbers_are_no_words(rt: HostRuntime) -> Result<(), AllocError> {
-    let alloc = rt.alloc();
     for words in "town 1|town 1001|town two|drill 1|drill 1001|drill two".split('|') {
-        assert!(rt; ends(&rt, alloc, words, 4096, Status::Words, USAGE)?);
+        let case = Case {
+            words,
+            ..Case::over_town(b"")
+        };
+        assert!(rt;
+            ends(&rt, rt.alloc(), case, Status::Words, USAGE)?,
+            "{words}"
+        );
     }
     Ok(())
 }
 
 #[test]
 fn a_full_output_ends_the_run(rt: HostRuntime) -> Result<(), AllocError> {
-    let alloc = rt.alloc();
-    assert!(rt; ends(&rt, alloc, "town 2", 10, Status::Outside, b"n1 x0.0000")?);
+    let case = Case {
+        words: "town 2",
+        room: 10,
+        ..Case::over_town(b"")
+    };
+    assert!(rt; ends(&rt, rt.alloc(), case, Status::Outside, b"n1 x0.0000")?);
     Ok(())
 }

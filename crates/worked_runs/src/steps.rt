@@ -1,6 +1,6 @@
 //! Routes with steps, by a run over worked maps.
 
-use crate::tests::{Case, SETTINGS, shows};
+use crate::cases::{Case, SETTINGS, shows};
 use std::alloc::{AllocError, Global};
 use std::net::{Net, TcpListener, TcpStream};
 use std::process::Abort;

@@ -1,7 +1,7 @@
 //! The command `serve` over TCP, with a client in a thread.
 
-use crate::serve_tests::ASKED;
-use crate::tests::{SETTINGS, TOWN, named, words};
+use crate::cases::{Case, files_of, words};
+use crate::served::ASKED;
 use road_base::Status;
 use road_io::{MemFiles, MemSink, MemSource, OpenGate};
 use road_real::TcpDoors;
@@ -79,9 +79,7 @@ fn serve_at<R: Threads + Wait + Net<Listener = TcpListener, Stream = TcpStream> 
     queries: &str,
     control: &str,
 ) -> Result<(Status, MemSink), Fail> {
-    let mut list = Vec::new(alloc);
-    list.push(named(alloc, "town.opl", TOWN)?)?;
-    list.push(named(alloc, "settings.toml", SETTINGS)?)?;
+    let list = files_of(alloc, Case::over_town(b""))?;
     let mut files = MemFiles::of(alloc, list, Vec::new(alloc));
     let mut input = MemSource::of(Vec::new(alloc), Vec::new(alloc), Vec::new(alloc));
     let mut output = MemSink::of(alloc, 100, Vec::new(alloc))?;

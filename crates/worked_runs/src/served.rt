@@ -5,7 +5,7 @@ ghost use Rattle.road_io.specs.DoorOpening.{IsNewDoor};
 ghost use Rattle.road_io.specs.MemoryStates.{conn_state};
 ghost use Rattle.road_io.specs.Views.{IsFreshConn};
 
-use crate::tests::{SETTINGS, TOWN, named, words};
+use crate::cases::{Case, files_of, named, words};
 use road_base::Status;
 use road_doors::{MemDoors, QueueDoor};
 use road_io::{MemConn, MemFiles, MemSink, MemSource, OpenGate};
@@ -37,30 +37,37 @@ fn door(alloc: Global, failing: Vec<u64>) -> Result<QueueDoor<MemConn>, AllocErr
     QueueDoor::of(alloc, connections, failing)
 }
 
-// Serves doors with one for queries and one for control, through which nothing comes.
-fn serve(
-    rt: &(impl Threads + Wait + Net<Listener = TcpListener, Stream = TcpStream> + Sync),
-    alloc: Global,
-    query: QueueDoor<MemConn>,
-    rows: &[u8],
-) -> Result<(Status, MemSink, MemDoors<MemConn>), AllocError>
+// Doors with one for queries and one for control, through which nothing comes.
+fn doors_of(alloc: Global, query: QueueDoor<MemConn>) -> Result<MemDoors<MemConn>, AllocError>
     requires { IsNewDoor query }
 {
     let mut queries = Vec::new(alloc);
     queries.push(query)?;
     let control = QueueDoor::of(alloc, Vec::new(alloc), Vec::new(alloc))?;
-    let mut doors = MemDoors::of(alloc, queries, control, Vec::new(alloc));
-    let mut list = Vec::new(alloc);
-    list.push(named(alloc, "town.opl", TOWN)?)?;
-    list.push(named(alloc, "settings.toml", SETTINGS)?)?;
+    Ok(MemDoors::of(alloc, queries, control, Vec::new(alloc)))
+}
+
+// The files of the town, and these rows.
+fn files(alloc: Global, rows: &[u8]) -> Result<MemFiles, AllocError> {
+    let mut list = files_of(alloc, Case::over_town(b""))?;
     list.push(named(alloc, "speeds.csv", rows)?)?;
-    let mut files = MemFiles::of(alloc, list, Vec::new(alloc));
+    Ok(MemFiles::of(alloc, list, Vec::new(alloc)))
+}
+
+const WORDS: &str =
+    "serve town.opl settings.toml --listen a:1 --control a:2 --workers 1 --segment-speed-file speeds.csv";
+
+// Serves doors over the town, with these rows.
+fn serve(
+    rt: &(impl Threads + Wait + Net<Listener = TcpListener, Stream = TcpStream> + Sync),
+    alloc: Global,
+    doors: &mut MemDoors<MemConn>,
+    rows: &[u8],
+) -> Result<(Status, MemSink), AllocError> {
+    let asked = words(alloc, WORDS)?;
+    let mut files = files(alloc, rows)?;
     let mut input = MemSource::of(Vec::new(alloc), Vec::new(alloc), Vec::new(alloc));
     let mut output = MemSink::of(alloc, 100, Vec::new(alloc))?;
-    let asked = words(
-        alloc,
-        "serve town.opl settings.toml --listen a:1 --control a:2 --workers 1 --segment-speed-file speeds.csv",
-    )?;
     let status = run(
         rt,
         alloc,
@@ -68,48 +75,56 @@ fn serve(
         &mut files,
         &mut input,
         &mut output,
-        &mut doors,
+        doors,
         &OpenGate,
     );
-    Ok((status, output, doors))
+    Ok((status, output))
+}
+
+// Whether serving these doors ends so, with this output.
+fn ends(
+    rt: &(impl Threads + Wait + Net<Listener = TcpListener, Stream = TcpStream> + Sync),
+    alloc: Global,
+    doors: &mut MemDoors<MemConn>,
+    rows: &[u8],
+    status: Status,
+    output: &[u8],
+) -> Result<bool, AllocError> {
+    let (ended, written) = serve(rt, alloc, doors, rows)?;
+    Ok(ended == status && written.as_bytes() == output)
+}
+
+// Whether the doors are back, and one connection is finished at the one for queries.
+fn one_is_finished(doors: &MemDoors<MemConn>) -> bool {
+    matches!(doors.returned(), [set] if matches!(set.queries(), [one] if one.finished().len() == 1))
 }
 
 #[test]
 fn a_connection_is_served_under_the_metric_of_the_start(rt: HostRuntime) -> Result<(), AllocError> {
     let alloc = rt.alloc();
-    let query = door(alloc, Vec::new(alloc))?;
-    let (status, output, doors) = serve(&rt, alloc, query, b"")?;
-    assert_eq!(rt; status, Status::Ok);
-    assert_eq!(rt;
-        output.as_bytes(),
-        b"ready\nconnections 1\nmetric 0\n".as_slice()
-    );
-    assert!(rt;
-        matches!(doors.returned(), [set] if matches!(set.queries(), [one] if one.finished().len() == 1))
-    );
+    let mut doors = doors_of(alloc, door(alloc, Vec::new(alloc))?)?;
+    let told = b"ready\nconnections 1\nmetric 0\n";
+    assert!(rt; ends(&rt, alloc, &mut doors, b"", Status::Ok, told)?);
+    assert!(rt; one_is_finished(&doors));
     Ok(())
 }
 
 #[test]
 fn a_door_that_fails_is_told(rt: HostRuntime) -> Result<(), AllocError> {
     let alloc = rt.alloc();
-    let query = door(alloc, vec![in alloc; 1_u64]?)?;
-    let (status, output, _doors) = serve(&rt, alloc, query, b"")?;
-    assert_eq!(rt; status, Status::Outside);
-    assert_eq!(rt;
-        output.as_bytes(),
-        b"ready\nconnections 0\nmetric 0\n".as_slice()
-    );
+    let mut doors = doors_of(alloc, door(alloc, vec![in alloc; 1_u64]?)?)?;
+    let told = b"ready\nconnections 0\nmetric 0\n";
+    assert!(rt; ends(&rt, alloc, &mut doors, b"", Status::Outside, told)?);
     Ok(())
 }
 
 #[test]
 fn a_faulty_row_of_the_start_opens_no_door(rt: HostRuntime) -> Result<(), AllocError> {
     let alloc = rt.alloc();
-    let query = door(alloc, Vec::new(alloc))?;
-    let (status, output, doors) = serve(&rt, alloc, query, b"1,2,20\n2,3,20\n1,2,-5")?;
-    assert_eq!(rt; status, Status::Refused);
-    assert_eq!(rt; output.as_bytes(), b"speeds row 3 BadNumber\n".as_slice());
+    let mut doors = doors_of(alloc, door(alloc, Vec::new(alloc))?)?;
+    let rows = b"1,2,20\n2,3,20\n1,2,-5";
+    let told = b"speeds row 3 BadNumber\n";
+    assert!(rt; ends(&rt, alloc, &mut doors, rows, Status::Refused, told)?);
     assert!(rt; doors.returned().is_empty());
     Ok(())
 }
