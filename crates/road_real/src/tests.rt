@@ -8,12 +8,13 @@ use road_io::{
     put_whole, take_into,
 };
 use std::alloc::{AllocError, Global};
+use std::fmt::Display;
 use std::io;
 use std::io::{ErrorKind, Read, Write};
 use std::net::{Net, Shutdown, SocketAddr, TcpListener, TcpStream};
 use std::rt::Clock;
-use std::sync::Arc;
 use std::sync::atomic::AtomicBool;
+use std::sync::{Arc, OnceLock};
 use std::test::*;
 use std::thread::{Threads, join, sleep};
 use std::time::{Duration, Instant};
@@ -304,7 +305,7 @@ fn a_client_whose_time_cannot_be_limited_is_not_waited_for(rt: HostRuntime) -> R
 }
 
 // Whether doors that open have these limits, in seconds. They are closed, and go back.
-fn have_limits<N: Net, R: Net<Listener = TcpListener, Stream = TcpStream>>(
+fn have_limits<N: Net + Eprint, R: Net<Listener = TcpListener, Stream = TcpStream>>(
     rt: &R,
     alloc: Global,
     doors: &mut TcpDoors<'_, N>,
@@ -395,4 +396,63 @@ fn doors_open_at_addresses_and_no_other_texts(rt: HostRuntime) {
     assert!(rt; refuses(&rt, rt.alloc(), &mut doors, "127.0.0.1", "127.0.0.1:0"));
     assert!(rt; refuses(&rt, rt.alloc(), &mut doors, "127.0.0.1:0", "no port"));
     assert!(rt; !refuses(&rt, rt.alloc(), &mut doors, "127.0.0.1:0", "127.0.0.1:0"));
+}
+
+// A runtime that keeps the first line that is told on standard error.
+#[derive(Drop)]
+struct Listening<'a, R> {
+    rt: &'a R,
+    alloc: Global,
+    said: OnceLock<String>,
+}
+
+impl<'a, R> Eprint for Listening<'a, R> {
+    fn eprint<D: Display + Drop>(&self, value: D) -> io::Result<()> {
+        self.eprintln(value)
+    }
+
+    fn eprintln<D: Display + Drop>(&self, value: D) -> io::Result<()> {
+        let line = format!(in self.alloc; "{value}")?;
+        let _ = self.said.try_set(line);
+        Ok(())
+    }
+}
+
+impl<'a, R: Net<Listener = TcpListener, Stream = TcpStream>> Net for Listening<'a, R> {
+    type Stream = TcpStream;
+
+    type Listener = TcpListener;
+
+    fn bind(&self, address: SocketAddr) -> io::Result<TcpListener> {
+        self.rt.bind(address)
+    }
+
+    fn connect(&self, address: SocketAddr) -> io::Result<TcpStream> {
+        self.rt.connect(address)
+    }
+}
+
+#[test]
+fn an_address_in_use_is_told_on_standard_error(rt: HostRuntime) -> Result<(), Fail> {
+    let alloc = rt.alloc();
+    let listener = TcpListener::bind(&rt, "127.0.0.1:0")?;
+    let address = listener.local_addr()?;
+    let text = format!(in alloc; "{address}")?;
+    let expected = format!(in alloc;
+        "walnutkiln: cannot listen at {address}: Address already in use (os error 98)"
+    )?;
+    let heard = Listening {
+        rt: &rt,
+        alloc,
+        said: OnceLock::new(),
+    };
+    let mut doors = TcpDoors::of(&heard);
+    assert!(rt; refuses(&rt, alloc, &mut doors, text.as_str(), "127.0.0.1:0"));
+    assert!(rt;
+        heard
+            .said
+            .get()
+            .is_some_and(|line| line.as_str() == expected.as_str())
+    );
+    Ok(())
 }
