@@ -1,6 +1,6 @@
 //! What opens doors over TCP, closes them and takes them back.
 
-ghost use Rattle.std.specs.Prelude.{◌≡◌, ◌+◌, ◌<◌, ◌≤◌, ◌↔◌, All, IsTrue, IfOk, length, map, sum_by};
+ghost use Rattle.std.specs.Prelude.{◌≡◌, ◌+◌, ◌<◌, ◌≤◌, ◌↔◌, All, IsTrue, IfOk, Ok, length, map, sum_by};
 ghost use Rattle.road_io.specs.DoorOpening.{BackGives, IsNewDoor, door_set};
 ghost use Rattle.road_real.specs.TcpDoorsTold.{doors_told};
 ghost use Rattle.road_real.specs.TcpStates.{door_view};
@@ -9,6 +9,7 @@ use crate::silence_limits::SilenceLimits;
 use crate::tcp_doors::TcpDoor;
 use road_io::{Closer, Doors, DoorsFault, Opened};
 use std::alloc::{AllocError, Global};
+use std::io;
 use std::net::{Net, SocketAddr, TcpListener, TcpStream};
 use std::sync::Arc;
 use std::sync::atomic::{AtomicBool, Ordering};
@@ -73,7 +74,7 @@ impl<'a, N> TcpDoors<'a, N> {
     }
 }
 
-impl<'a, N: Net> TcpDoors<'a, N> {
+impl<'a, N: Net + Eprint> TcpDoors<'a, N> {
     // Opens doors at these addresses, and counts nothing.
     fn opened<R: Net<Listener = TcpListener, Stream = TcpStream>>(
         &self,
@@ -86,31 +87,37 @@ impl<'a, N: Net> TcpDoors<'a, N> {
         ensures queries { IfOk result (λ o. (length o.queries.items ≡ workers) × All IsNewDoor (map door_view o.queries.items)) }
         ensures control { IfOk result (λ o. IsNewDoor (door_view o.control)) }
     {
-        let listener = listener_at(rt, query)?;
-        let Ok(address) = listener.local_addr() else {
-            return Err(DoorsFault::Failed);
-        };
-        let control = TcpDoor::of(
-            listener_at(rt, control)?,
-            lowered_flag(alloc)?,
-            self.limits.control,
-        );
-        let close = lowered_flag(alloc)?;
-        let queries = doors_at(alloc, &listener, &close, self.limits.query, workers)?;
+        let side = query_side(rt, alloc, query, self.limits.query, workers);
+        let side = self.told(query, side)?;
+        let control_door = control_side(rt, alloc, control, self.limits.control);
         Ok(Opened {
-            queries,
-            control,
+            control: self.told(control, control_door)?,
+            queries: side.doors,
             closer: TcpCloser {
                 rt: self.rt,
-                address,
+                address: side.address,
                 doors: workers,
-                close,
+                close: side.close,
             },
         })
     }
+
+    // What was opened at this address. Why the system refuses it is told on standard error.
+    fn told<T>(&self, address: &str, opened: Result<T, OpenFault>) -> Result<T, DoorsFault>
+        ensures { IfOk result (λ side. opened ≡ Ok side) }
+    {
+        match opened {
+            Ok(side) => Ok(side),
+            Err(OpenFault::System(why)) => {
+                let _ = eprintln!(self.rt; "walnutkiln: cannot listen at {address}: {why}");
+                Err(DoorsFault::Failed)
+            }
+            Err(OpenFault::Memory) => Err(DoorsFault::Memory),
+        }
+    }
 }
 
-impl<'a, N: Net> Doors for TcpDoors<'a, N> {
+impl<'a, N: Net + Eprint> Doors for TcpDoors<'a, N> {
     type Door = TcpDoor;
 
     type Closer = TcpCloser<'a, N>;
@@ -155,17 +162,70 @@ impl<'a, N: Net> Doors for TcpDoors<'a, N> {
     }
 }
 
-// A listener at this address.
-fn listener_at<R: Net<Listener = TcpListener, Stream = TcpStream>>(
+// Why nothing is opened at an address.
+#[derive(Drop)]
+enum OpenFault {
+    System(io::Error),
+    Memory,
+}
+
+impl From<io::Error> for OpenFault {
+    fn from(why: io::Error) -> OpenFault {
+        OpenFault::System(why)
+    }
+}
+
+impl From<AllocError> for OpenFault {
+    fn from(_: AllocError) -> OpenFault {
+        OpenFault::Memory
+    }
+}
+
+// Query doors, with what their closer needs.
+#[derive(Drop)]
+struct QuerySide {
+    doors: Vec<TcpDoor>,
+    address: SocketAddr,
+    close: Arc<AtomicBool>,
+}
+
+// Opens the query doors at this address.
+fn query_side<R: Net<Listener = TcpListener, Stream = TcpStream>>(
     rt: &R,
+    alloc: Global,
     address: &str,
-) -> Result<TcpListener, DoorsFault> {
-    TcpListener::bind(rt, address).map_err(|_| DoorsFault::Failed)
+    silence: Duration,
+    workers: u32,
+) -> Result<QuerySide, OpenFault>
+    ensures { IfOk result (λ side. (length side.doors.items ≡ workers) × All IsNewDoor (map door_view side.doors.items)) }
+{
+    let listener = TcpListener::bind(rt, address)?;
+    let address = listener.local_addr()?;
+    let close = lowered_flag(alloc)?;
+    let doors = doors_at(alloc, &listener, &close, silence, workers)?;
+    Ok(QuerySide {
+        doors,
+        address,
+        close,
+    })
+}
+
+// Opens the control door at this address.
+fn control_side<R: Net<Listener = TcpListener, Stream = TcpStream>>(
+    rt: &R,
+    alloc: Global,
+    address: &str,
+    silence: Duration,
+) -> Result<TcpDoor, OpenFault>
+    ensures { IfOk result (λ door. IsNewDoor (door_view door)) }
+{
+    let listener = TcpListener::bind(rt, address)?;
+    Ok(TcpDoor::of(listener, lowered_flag(alloc)?, silence))
 }
 
 // A flag that is not raised.
-fn lowered_flag(alloc: Global) -> Result<Arc<AtomicBool>, DoorsFault> {
-    Arc::new(alloc, AtomicBool::new(false)).map_err(|_| DoorsFault::Memory)
+fn lowered_flag(alloc: Global) -> Result<Arc<AtomicBool>, AllocError> {
+    Ok(Arc::new(alloc, AtomicBool::new(false))?)
 }
 
 // So many doors that share a listener and a flag.
@@ -175,14 +235,14 @@ fn doors_at(
     close: &Arc<AtomicBool>,
     silence: Duration,
     count: u32,
-) -> Result<Vec<TcpDoor>, DoorsFault>
+) -> Result<Vec<TcpDoor>, OpenFault>
     ensures { IfOk result (λ v. (length v.items ≡ count) × All IsNewDoor (map door_view v.items)) }
 {
     let mut doors = Vec::new(alloc);
     for _ in 0..count {
         let door = door_at(listener, close, silence)?;
         if doors.push(door).is_err() {
-            return Err(DoorsFault::Memory);
+            return Err(OpenFault::Memory);
         }
     }
     Ok(doors)
@@ -193,14 +253,11 @@ fn door_at(
     listener: &TcpListener,
     close: &Arc<AtomicBool>,
     silence: Duration,
-) -> Result<TcpDoor, DoorsFault>
+) -> Result<TcpDoor, OpenFault>
     ensures { IfOk result (λ door. IsNewDoor (door_view door)) }
 {
-    match (listener.try_clone(), Arc::try_clone(close)) {
-        (Ok(listener), Ok(close)) => Ok(TcpDoor::of(listener, close, silence)),
-        (Ok(_), Err(AllocError)) => Err(DoorsFault::Memory),
-        (Err(_), _) => Err(DoorsFault::Failed),
-    }
+    let listener = listener.try_clone()?;
+    Ok(TcpDoor::of(listener, Arc::try_clone(close)?, silence))
 }
 
 // Whether one of these doors has counted a fault.

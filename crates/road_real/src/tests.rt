@@ -2,36 +2,42 @@
 
 ghost use Rattle.std.specs.Prelude.{◌≤◌, IfOk};
 
-use crate::{Reading, SilenceLimits, SystemFiles, TcpDoor, TcpDoors, Writing};
+use crate::{Reading, SystemFiles, TcpDoor, TcpDoors, Writing};
 use road_io::{
     Closer, Conn, Door, Doors, DoorsFault, Failed, FileFault, Files, Opened, Sink, Source,
     put_whole, take_into,
 };
-use std::alloc::Global;
+use std::alloc::{AllocError, Global};
+use std::fmt::Display;
 use std::io;
 use std::io::{ErrorKind, Read, Write};
 use std::net::{Net, Shutdown, SocketAddr, TcpListener, TcpStream};
 use std::rt::Clock;
-use std::sync::Arc;
 use std::sync::atomic::AtomicBool;
+use std::sync::{Arc, OnceLock};
 use std::test::*;
 use std::thread::{Threads, join, sleep};
 use std::time::{Duration, Instant};
 
+// Whether the file of this name can't be read.
+fn is_unreadable<F: Files>(files: &mut F, alloc: Global, name: &str) -> bool {
+    matches!(&files.read(alloc, name), Err(FileFault::Failed))
+}
+
+// None is there, a folder, and no name at all.
 #[test]
 fn files_that_cannot_be_read_are_no_empty_ones(rt: HostRuntime) {
     let mut files = SystemFiles::of(&rt);
-    // None is there, a folder, and no name at all.
-    for name in ["no/such/file", "/", ""] {
-        assert_eq!(rt; files.read(rt.alloc(), name), Err(FileFault::Failed));
-    }
+    assert!(rt; is_unreadable(&mut files, rt.alloc(), "no/such/file"));
+    assert!(rt; is_unreadable(&mut files, rt.alloc(), "/"));
+    assert!(rt; is_unreadable(&mut files, rt.alloc(), ""));
 }
 
-// A stream whose calls are interrupted so many times; then it gives or takes a byte, or fails.
+// A stream whose calls are interrupted so many times; then it gives or takes a byte, or is broken.
 #[derive(Drop)]
 struct Halting {
     interrupted: u32,
-    last: Option<ErrorKind>,
+    broken: bool,
 }
 
 impl Halting {
@@ -42,10 +48,10 @@ impl Halting {
             self.interrupted -= 1;
             return Err(io::Error::from(ErrorKind::Interrupted));
         }
-        match self.last {
-            Some(kind) => Err(io::Error::from(kind)),
-            None => Ok(most.min(1)),
+        if self.broken {
+            return Err(io::Error::from(ErrorKind::BrokenPipe));
         }
+        Ok(most.min(1))
     }
 }
 
@@ -65,33 +71,46 @@ impl Write for Halting {
     }
 }
 
-#[test]
-fn interrupted_calls_are_tried_again(rt: HostRuntime) {
-    for (last, expected) in [(None, Ok(1)), (Some(ErrorKind::BrokenPipe), Err(Failed))] {
-        let mut input = Reading::of(Halting {
-            interrupted: 3,
-            last,
-        });
-        assert_eq!(rt; input.take(&mut [0; 4]), expected);
-        let mut output = Writing::of(Halting {
-            interrupted: 3,
-            last,
-        });
-        assert_eq!(rt; output.put(b"town"), expected);
-    }
+// What a take comes to behind three interrupted calls.
+fn taken_at_last(broken: bool) -> Result<usize, Failed> {
+    let mut input = Reading::of(Halting {
+        interrupted: 3,
+        broken,
+    });
+    input.take(&mut [0; 4])
 }
 
-// Takes and puts one piece, over any connection, until its input ends. Answers how many bytes it took.
+// What a put comes to behind three interrupted calls.
+fn put_at_last(broken: bool) -> Result<usize, Failed> {
+    let mut output = Writing::of(Halting {
+        interrupted: 3,
+        broken,
+    });
+    output.put(b"town")
+}
+
+#[test]
+fn interrupted_calls_are_tried_again(rt: HostRuntime) {
+    assert!(rt; taken_at_last(false) == Ok(1) && put_at_last(false) == Ok(1));
+    assert!(rt; taken_at_last(true) == Err(Failed) && put_at_last(true) == Err(Failed));
+}
+
+// Takes one piece of any connection's input, and puts it back. Answers how many bytes it has.
+fn echo_piece<C: Conn>(conn: &mut C) -> Result<usize, Failed> {
+    let mut piece = [0_u8; 4];
+    let count = take_into(conn, &mut piece)?;
+    put_whole(conn, &piece[..count.min(4)])?;
+    Ok(count)
+}
+
+// Puts the input of any connection back, to its end. Answers how many bytes it has.
 fn echo<C: Conn>(conn: &mut C) -> Result<usize, Failed> {
     let mut total = 0_usize;
-    let mut piece = [0_u8; 4];
     for _ in 0..100 {
-        let count = take_into(conn, &mut piece)?;
-        if count == 0 {
-            return Ok(total);
+        match echo_piece(conn)? {
+            0 => return Ok(total),
+            count => total = total.saturating_add(count),
         }
-        put_whole(conn, &piece[..count.min(4)])?;
-        total = total.saturating_add(count);
     }
     Err(Failed)
 }
@@ -111,19 +130,19 @@ fn serve_one<D: Door>(door: &mut D) -> Result<Option<usize>, Failed>
     }
 }
 
-// Puts these bytes to an address, ends its output, and takes what comes back to its end.
-fn ask<R: Net<Listener = TcpListener, Stream = TcpStream>>(
+// Puts these bytes to an address, ends its output, and takes what comes back to its end. Whether it is the same.
+fn gets_back<R: Net<Listener = TcpListener, Stream = TcpStream>>(
     rt: &R,
     alloc: Global,
     address: SocketAddr,
     bytes: &[u8],
-) -> io::Result<Vec<u8>> {
+) -> io::Result<bool> {
     let mut stream = TcpStream::connect(rt, address)?;
     stream.write_all(bytes)?;
     stream.shutdown(Shutdown::Write)?;
     let mut answer = Vec::new(alloc);
     stream.read_to_end(&mut answer)?;
-    Ok(answer)
+    Ok(answer.as_slice() == bytes)
 }
 
 // Whether a client of this door gets its bytes back, and the door serves it to its end.
@@ -134,13 +153,42 @@ fn echoes<R: Net<Listener = TcpListener, Stream = TcpStream> + Threads + Sync>(
     address: SocketAddr,
     text: &str,
 ) -> bool {
-    let (answer, served) = join(
+    let bytes = text.as_bytes();
+    let (same, served) = join(
         rt,
-        || ask(rt, alloc, address, text.as_bytes()),
+        || matches!(gets_back(rt, alloc, address, bytes), Ok(true)),
         || serve_one(door),
     );
-    served == Ok(Some(text.len()))
-        && matches!(&answer, Ok(bytes) if bytes.as_slice() == text.as_bytes())
+    same && served == Ok(Some(bytes.len()))
+}
+
+// The same at the door's own address.
+fn gives_back<R: Net<Listener = TcpListener, Stream = TcpStream> + Threads + Sync>(
+    rt: &R,
+    alloc: Global,
+    door: &mut TcpDoor,
+    text: &str,
+) -> bool {
+    match door.address() {
+        Ok(address) => echoes(rt, alloc, door, address, text),
+        Err(_) => false,
+    }
+}
+
+// Whether this query door gives bytes back until it is closed, and this control door after that.
+fn both_give_back<K: Closer, R: Net<Listener = TcpListener, Stream = TcpStream> + Threads + Sync>(
+    rt: &R,
+    alloc: Global,
+    query: &mut TcpDoor,
+    control: &mut TcpDoor,
+    closer: K,
+) -> bool {
+    let asked = gives_back(rt, alloc, query, "GET /nearest/v1/car/0,0");
+    let silent = gives_back(rt, alloc, query, "");
+    closer.close();
+    let closed = serve_one(query) == Ok(None);
+    let controlled = gives_back(rt, alloc, control, "the control door is not closed");
+    asked && silent && closed && controlled
 }
 
 #[test]
@@ -153,29 +201,7 @@ fn bytes_go_through_doors_and_come_back(rt: HostRuntime) {
         closer,
     } = opened.expect(&rt, "doors that open");
     let mut query = queries.pop().expect(&rt, "a query door");
-    let address = query.address().expect(&rt, "an address");
-    assert!(rt;
-        echoes(
-            &rt,
-            rt.alloc(),
-            &mut query,
-            address,
-            "GET /nearest/v1/car/0,0"
-        )
-    );
-    assert!(rt; echoes(&rt, rt.alloc(), &mut query, address, ""));
-    closer.close();
-    assert_eq!(rt; serve_one(&mut query), Ok(None));
-    let address = control.address().expect(&rt, "an address");
-    assert!(rt;
-        echoes(
-            &rt,
-            rt.alloc(),
-            &mut control,
-            address,
-            "the control door is not closed"
-        )
-    );
+    assert!(rt; both_give_back(&rt, rt.alloc(), &mut query, &mut control, closer));
 }
 
 // A door at a free port of this machine, and its address. Its clients may be silent for so many milliseconds.
@@ -193,27 +219,24 @@ fn door_of<R: Net<Listener = TcpListener, Stream = TcpStream>>(
     ))
 }
 
-// Puts more than the buffers of the system hold to the next connection of any door. Answers whether there was one.
-fn flood_one<D: Door>(door: &mut D) -> Result<bool, Failed>
+// Puts these bytes to the next connection of any door.
+fn put_to_next<D: Door>(door: &mut D, bytes: &[u8]) -> Result<(), Failed>
     requires { (D.view door.old).finished ≤ (D.view door.old).given }
 {
     match door.next() {
         Ok(Some(mut conn)) => {
-            let flooded = flood(&mut conn);
+            let put = put_whole(&mut conn, bytes);
             door.finish(conn);
-            flooded
+            put
         }
-        Ok(None) => Ok(false),
+        Ok(None) => Ok(()),
         Err(failed) => Err(failed),
     }
 }
 
-// Puts more than the buffers of the system hold.
-fn flood<C: Conn>(conn: &mut C) -> Result<bool, Failed> {
-    for _ in 0..100_000 {
-        put_whole(conn, &[0; 4096])?;
-    }
-    Ok(true)
+// More bytes than the buffers of the system hold.
+fn long_reply(alloc: Global) -> Result<Vec<u8>, AllocError> {
+    vec![in alloc; 0; 1 << 26]
 }
 
 // Whether a connection is failed whose client sends nothing, and how long that takes.
@@ -228,15 +251,16 @@ fn silent<R: Net<Listener = TcpListener, Stream = TcpStream> + Clock>(
     Ok((failed, begun.elapsed(rt)?))
 }
 
-// Whether a connection is failed whose client takes nothing, and how long that takes.
+// Whether a connection is failed whose client takes nothing of a long reply, and how long that takes.
 fn deaf<R: Net<Listener = TcpListener, Stream = TcpStream> + Clock>(
     rt: &R,
     door: &mut TcpDoor,
     address: SocketAddr,
+    reply: &[u8],
 ) -> io::Result<(bool, Duration)> {
     let _client = TcpStream::connect(rt, address)?;
     let begun = Instant::now(rt)?;
-    let failed = flood_one(door) == Err(Failed);
+    let failed = put_to_next(door, reply) == Err(Failed);
     Ok((failed, begun.elapsed(rt)?))
 }
 
@@ -263,8 +287,9 @@ fn a_client_that_sends_nothing_is_let_go_after_its_time(rt: HostRuntime) -> Resu
 
 #[test]
 fn a_client_that_takes_nothing_is_let_go_after_its_time(rt: HostRuntime) -> Result<(), Fail> {
+    let reply = long_reply(rt.alloc())?;
     let (mut door, address) = door_of(&rt, rt.alloc(), 500)?;
-    let (failed, waited) = deaf(&rt, &mut door, address)?;
+    let (failed, waited) = deaf(&rt, &mut door, address, &reply)?;
     assert!(rt; failed && waited >= Duration::from_millis(250));
     assert!(rt; serves_next(&rt, &mut door, address)?);
     Ok(())
@@ -275,40 +300,38 @@ fn a_client_that_takes_nothing_is_let_go_after_its_time(rt: HostRuntime) -> Resu
 fn a_client_whose_time_cannot_be_limited_is_not_waited_for(rt: HostRuntime) -> Result<(), Fail> {
     let (mut door, address) = door_of(&rt, rt.alloc(), 0)?;
     assert!(rt; silent(&rt, &mut door, address)?.0);
-    assert!(rt; deaf(&rt, &mut door, address)?.0);
+    assert!(rt; deaf(&rt, &mut door, address, b"a reply")?.0);
     Ok(())
 }
 
-// The limits of doors that are opened, closed and handed back.
-fn limits_of<N: Net, R: Net<Listener = TcpListener, Stream = TcpStream>>(
+// Whether doors that open have these limits, in seconds. They are closed, and go back.
+fn have_limits<N: Net + Eprint, R: Net<Listener = TcpListener, Stream = TcpStream>>(
     rt: &R,
     alloc: Global,
     doors: &mut TcpDoors<'_, N>,
-) -> Result<SilenceLimits, DoorsFault> {
+    query: u64,
+    control: u64,
+) -> bool {
+    let Ok(opened) = doors.open(rt, alloc, "127.0.0.1:0", "127.0.0.1:0", 1) else {
+        return false;
+    };
     let Opened {
         queries,
-        control,
+        control: control_door,
         closer,
-    } = doors.open(rt, alloc, "127.0.0.1:0", "127.0.0.1:0", 1)?;
+    } = opened;
     closer.close();
-    let limits = SilenceLimits {
-        query: queries
-            .first()
-            .map_or(Duration::ZERO, |door| door.silence()),
-        control: control.silence(),
-    };
-    doors.back(queries, control);
-    Ok(limits)
+    let are_right = control_door.silence() == Duration::from_secs(control)
+        && queries
+            .iter()
+            .all(|door| door.silence() == Duration::from_secs(query));
+    doors.back(queries, control_door);
+    are_right
 }
 
 #[test]
 fn the_program_waits_a_minute_for_queries_and_five_to_publish(rt: HostRuntime) {
-    let limits = limits_of(&rt, rt.alloc(), &mut TcpDoors::of(&rt));
-    let expected = SilenceLimits {
-        query: Duration::from_secs(60),
-        control: Duration::from_secs(300),
-    };
-    assert_eq!(rt; limits, Ok(expected));
+    assert!(rt; have_limits(&rt, rt.alloc(), &mut TcpDoors::of(&rt), 60, 300));
 }
 
 // Closes the doors of any closer, after a while.
@@ -370,12 +393,66 @@ fn refuses<N: Doors, R: Net<Listener = TcpListener, Stream = TcpStream>>(
 #[test]
 fn doors_open_at_addresses_and_no_other_texts(rt: HostRuntime) {
     let mut doors = TcpDoors::of(&rt);
-    for (query, control, expected) in [
-        ("127.0.0.1", "127.0.0.1:0", true),
-        ("127.0.0.1:0", "no port", true),
-        ("127.0.0.1:0", "127.0.0.1:0", false),
-    ] {
-        let refused = refuses(&rt, rt.alloc(), &mut doors, query, control);
-        assert_eq!(rt; refused, expected, "{query} and {control}");
+    assert!(rt; refuses(&rt, rt.alloc(), &mut doors, "127.0.0.1", "127.0.0.1:0"));
+    assert!(rt; refuses(&rt, rt.alloc(), &mut doors, "127.0.0.1:0", "no port"));
+    assert!(rt; !refuses(&rt, rt.alloc(), &mut doors, "127.0.0.1:0", "127.0.0.1:0"));
+}
+
+// A runtime that keeps the first line that is told on standard error.
+#[derive(Drop)]
+struct Listening<'a, R> {
+    rt: &'a R,
+    alloc: Global,
+    said: OnceLock<String>,
+}
+
+impl<'a, R> Eprint for Listening<'a, R> {
+    fn eprint<D: Display + Drop>(&self, value: D) -> io::Result<()> {
+        self.eprintln(value)
     }
+
+    fn eprintln<D: Display + Drop>(&self, value: D) -> io::Result<()> {
+        let line = format!(in self.alloc; "{value}")?;
+        let _ = self.said.try_set(line);
+        Ok(())
+    }
+}
+
+impl<'a, R: Net<Listener = TcpListener, Stream = TcpStream>> Net for Listening<'a, R> {
+    type Stream = TcpStream;
+
+    type Listener = TcpListener;
+
+    fn bind(&self, address: SocketAddr) -> io::Result<TcpListener> {
+        self.rt.bind(address)
+    }
+
+    fn connect(&self, address: SocketAddr) -> io::Result<TcpStream> {
+        self.rt.connect(address)
+    }
+}
+
+#[test]
+fn an_address_in_use_is_told_on_standard_error(rt: HostRuntime) -> Result<(), Fail> {
+    let alloc = rt.alloc();
+    let listener = TcpListener::bind(&rt, "127.0.0.1:0")?;
+    let address = listener.local_addr()?;
+    let text = format!(in alloc; "{address}")?;
+    let expected = format!(in alloc;
+        "walnutkiln: cannot listen at {address}: Address already in use (os error 98)"
+    )?;
+    let heard = Listening {
+        rt: &rt,
+        alloc,
+        said: OnceLock::new(),
+    };
+    let mut doors = TcpDoors::of(&heard);
+    assert!(rt; refuses(&rt, alloc, &mut doors, text.as_str(), "127.0.0.1:0"));
+    assert!(rt;
+        heard
+            .said
+            .get()
+            .is_some_and(|line| line.as_str() == expected.as_str())
+    );
+    Ok(())
 }

@@ -27,7 +27,7 @@ impl<C: Conn + Drop> CountedDoors for MemDoors<C> {
     }
 }
 
-impl<'a, N: Net> CountedDoors for TcpDoors<'a, N> {
+impl<'a, N: Net + Eprint> CountedDoors for TcpDoors<'a, N> {
     fn has_fault(door: &TcpDoor) -> bool {
         door.has_fault()
     }

@@ -73,7 +73,7 @@ fn ask_and_stop<R: Net<Listener = TcpListener, Stream = TcpStream> + Clock>(
 }
 
 // Serves the town at these addresses until it is stopped.
-fn serve_at<R: Threads + Wait + Net<Listener = TcpListener, Stream = TcpStream> + Sync>(
+fn serve_at<R: Threads + Wait + Net<Listener = TcpListener, Stream = TcpStream> + Eprint + Sync>(
     rt: &R,
     alloc: Global,
     queries: &str,
