@@ -31,11 +31,11 @@ fn with_traffic(rt: &impl Abort, alloc: Global, case: Case<'_>) -> Result<MemFil
 }
 
 // What a run over a map with this input puts, if it is done.
-fn told(
+fn told<'a>(
     rt: &(impl Abort + Threads + Wait + Net<Listener = TcpListener, Stream = TcpStream> + Sync),
     alloc: Global,
-    map: &[u8],
-    input: &[u8],
+    map: &'a [u8],
+    input: &'a [u8],
 ) -> Result<String, AllocError> {
     let case = Case {
         map,
