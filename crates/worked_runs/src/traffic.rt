@@ -43,8 +43,11 @@ fn told<'a>(
     };
     let mut files = with_traffic(rt, alloc, case)?;
     let (status, output) = run_over(rt, alloc, case, &mut files)?;
+    if status != Status::Ok {
+        return Ok(String::new(alloc));
+    }
     let told = std::str::from_utf8(output.as_bytes()).unwrap_or("");
-    String::from_str(alloc, if status == Status::Ok { told } else { "" })
+    String::from_str(alloc, told)
 }
 
 // What a run over the town puts, and then how many files it read and how many of these it could not, if it ends for the
