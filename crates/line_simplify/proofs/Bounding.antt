@@ -1,5 +1,6 @@
 -- What lies within an extent is no farther off a line than the bound says.
 use Rattle.std.proofs.Common.{◌≡◌, ℕ, zero, suc, ◌+◌, ◌-◌, ◌*◌, ◌/◌, ◌<◌, ◌≤◌, ◌⊎◌, inl, inr, refl, sym, ap, ◌∙◌, subst, arith}
+use borrow.Author.Differences.{down, product_is, same_in, sum_is_lem, up}
 use Rattle.std.specs.Prelude.{ℤ, pos, negsuc, ◌+ℤ◌, ◌-ℤ◌, ◌*ℤ◌, ◌≤ℤ◌, max, unsigned_abs}
 use Rattle.std.specs.Int.{int_div_euclid}
 use Rattle.std.proofs.Math.Nat.{mul-le-mul}
@@ -23,25 +24,42 @@ le_refl : (n : ℕ) → n ≤ n
 le_refl n = omega arith
 
 -- the sign of a product
+mul-below : (u v : ℤ) → ((pos 0 ≤ℤ u) × (v ≤ℤ pos 0)) ⊎ ((u ≤ℤ pos 0) × (pos 0 ≤ℤ v)) → (u *ℤ v) ≤ℤ pos 0
+mul-below (pos a) (pos zero) s = omega (arith, ints)
+mul-below (pos a) (negsuc b) s = omega (arith, ints)
+mul-below (pos zero) (pos b) s = omega (arith, ints)
+mul-below (pos (suc a)) (pos (suc b)) (inl s) = let le = s.1 in absurd (omega (arith, ints, le))
+mul-below (pos (suc a)) (pos (suc b)) (inr s) = let le = s.0 in absurd (omega (arith, ints, le))
+mul-below (negsuc a) (pos b) s = omega (arith, ints)
+mul-below (negsuc a) (negsuc b) (inl s) = let le = s.0 in absurd (omega (arith, ints, le))
+mul-below (negsuc a) (negsuc b) (inr s) = let le = s.1 in absurd (omega (arith, ints, le))
+
+mul-above : (u v : ℤ) → ((pos 0 ≤ℤ u) × (pos 0 ≤ℤ v)) ⊎ ((u ≤ℤ pos 0) × (v ≤ℤ pos 0)) → pos 0 ≤ℤ (u *ℤ v)
+mul-above (pos a) (pos b) s = omega (arith, ints)
+mul-above (pos zero) (negsuc b) s = omega (arith, ints)
+mul-above (pos (suc a)) (negsuc b) (inl s) = let le = s.1 in absurd (omega (arith, ints, le))
+mul-above (pos (suc a)) (negsuc b) (inr s) = let le = s.0 in absurd (omega (arith, ints, le))
+mul-above (negsuc a) (pos zero) s = omega (arith, ints)
+mul-above (negsuc a) (pos (suc b)) (inl s) = let le = s.0 in absurd (omega (arith, ints, le))
+mul-above (negsuc a) (pos (suc b)) (inr s) = let le = s.1 in absurd (omega (arith, ints, le))
+mul-above (negsuc a) (negsuc b) s = omega (arith, ints)
+
+times-above : (h : ℤ) (k : ℕ) → pos 0 ≤ℤ h → pos 0 ≤ℤ (h *ℤ pos k)
+times-above (pos a) k le = omega (arith, ints)
+times-above (negsuc a) k le = absurd (omega (arith, ints))
+
+times-below : (h : ℤ) (k : ℕ) → h ≤ℤ pos 0 → (h *ℤ pos k) ≤ℤ pos 0
+times-below (pos zero) k le = omega (arith, ints)
+times-below (pos (suc a)) k le = absurd (omega (arith, ints))
+times-below (negsuc a) k le = omega (arith, ints)
+
 product-below : (h v : ℤ) (k : ℕ) → ((pos 0 ≤ℤ h) × (v ≤ℤ pos 0)) ⊎ ((h ≤ℤ pos 0) × (pos 0 ≤ℤ v)) → (h *ℤ pos k *ℤ v) ≤ℤ pos 0
-product-below (pos a) (pos zero) k s = omega (arith, ints)
-product-below (pos a) (negsuc b) k s = omega (arith, ints)
-product-below (pos zero) (pos b) k s = omega (arith, ints)
-product-below (pos (suc a)) (pos (suc b)) k (inl s) = let le = s.1 in absurd (omega (arith, ints, le))
-product-below (pos (suc a)) (pos (suc b)) k (inr s) = let le = s.0 in absurd (omega (arith, ints, le))
-product-below (negsuc a) (pos b) k s = omega (arith, ints)
-product-below (negsuc a) (negsuc b) k (inl s) = let le = s.0 in absurd (omega (arith, ints, le))
-product-below (negsuc a) (negsuc b) k (inr s) = let le = s.1 in absurd (omega (arith, ints, le))
+product-below h v k (inl s) = mul-below (h *ℤ pos k) v (inl (times-above h k s.0, s.1))
+product-below h v k (inr s) = mul-below (h *ℤ pos k) v (inr (times-below h k s.0, s.1))
 
 product-above : (h v : ℤ) (k : ℕ) → ((pos 0 ≤ℤ h) × (pos 0 ≤ℤ v)) ⊎ ((h ≤ℤ pos 0) × (v ≤ℤ pos 0)) → pos 0 ≤ℤ (h *ℤ pos k *ℤ v)
-product-above (pos a) (pos b) k s = omega (arith, ints)
-product-above (pos zero) (negsuc b) k s = omega (arith, ints)
-product-above (pos (suc a)) (negsuc b) k (inl s) = let le = s.1 in absurd (omega (arith, ints, le))
-product-above (pos (suc a)) (negsuc b) k (inr s) = let le = s.0 in absurd (omega (arith, ints, le))
-product-above (negsuc a) (pos zero) k s = omega (arith, ints)
-product-above (negsuc a) (pos (suc b)) k (inl s) = let le = s.0 in absurd (omega (arith, ints, le))
-product-above (negsuc a) (pos (suc b)) k (inr s) = let le = s.1 in absurd (omega (arith, ints, le))
-product-above (negsuc a) (negsuc b) k s = omega (arith, ints)
+product-above h v k (inl s) = mul-above (h *ℤ pos k) v (inl (times-above h k s.0, s.1))
+product-above h v k (inr s) = mul-above (h *ℤ pos k) v (inr (times-below h k s.0, s.1))
 
 -- a point that lies farther along one axis, and along the other on the side from which a line comes
 abbrev Sides : ℤ → ℤ → ℤ → Type 0
@@ -61,12 +79,59 @@ apart-swap : (g h : ℤ) → GoApart g h → GoApart h g
 apart-swap g h (inl s) = inr (s.1, s.0)
 apart-swap g h (inr s) = inl (s.1, s.0)
 
+-- products of whole numbers, each read as `up z - down z`
+times-comm : (x y : ℤ) → x *ℤ y ≡ y *ℤ x
+times-comm x y = omega (arith, ints)
+
+times-assoc : (x y z : ℤ) → (x *ℤ y) *ℤ z ≡ x *ℤ (y *ℤ z)
+times-assoc x y z =
+    let xy = product_is x y in
+    let yz = product_is y z in
+    let by = λ (k : ℕ) (m n : ℕ) (e : m ≡ n). ap (λ (w : ℕ). w * k) e in
+    let left = product_is (x *ℤ y) z in
+    let right = product_is x (y *ℤ z) in
+    same_in ((x *ℤ y) *ℤ z) (x *ℤ (y *ℤ z))
+    (omega (arith, by (up z) _ _ xy.0, by (down z) _ _ xy.1, by (down z) _ _ xy.0, by (up z) _ _ xy.1, by (up x) _ _ yz.0, by (down x) _ _ yz.1, by (down x) _ _ yz.0, by (up x) _ _ yz.1))
+
+times-sum : (x y z : ℤ) → x *ℤ (y +ℤ z) ≡ (x *ℤ y) +ℤ (x *ℤ z)
+times-sum x y z =
+    let e = sum_is_lem y z in
+    let right = sum_is_lem (x *ℤ y) (x *ℤ z) in
+    let whole = product_is x (y +ℤ z) in
+    let first = product_is x y in
+    let second = product_is x z in
+    same_in (x *ℤ (y +ℤ z)) ((x *ℤ y) +ℤ (x *ℤ z)) (omega (arith, ap (λ (n : ℕ). up x * n) e, ap (λ (n : ℕ). down x * n) e))
+
+-- both factors times a number
+times-both : (g d : ℤ) (c : ℕ) → (g *ℤ pos c) *ℤ (d *ℤ pos c) ≡ (g *ℤ pos (c * c)) *ℤ d
+times-both g d c =
+    times-assoc g (pos c) (d *ℤ pos c)
+    ∙ ap (λ (z : ℤ). g *ℤ z) (times-comm (pos c) (d *ℤ pos c) ∙ times-assoc d (pos c) (pos c) ∙ times-comm d (pos (c * c)))
+    ∙ sym (times-assoc g (pos (c * c)) d)
+
+times-more : (g e d : ℤ) (c : ℕ) → (g *ℤ pos c) *ℤ ((e +ℤ d) *ℤ pos c) ≡ ((g *ℤ pos c) *ℤ (e *ℤ pos c)) +ℤ ((g *ℤ pos (c * c)) *ℤ d)
+times-more g e d c =
+    ap (λ (z : ℤ). (g *ℤ pos c) *ℤ z) (times-comm (e +ℤ d) (pos c) ∙ times-sum (pos c) e d)
+    ∙ times-sum (g *ℤ pos c) (pos c *ℤ e) (pos c *ℤ d)
+    ∙ ap (λ (z : ℤ). ((g *ℤ pos c) *ℤ z) +ℤ ((g *ℤ pos c) *ℤ (pos c *ℤ d))) (times-comm (pos c) e)
+    ∙ ap (λ (z : ℤ). ((g *ℤ pos c) *ℤ (e *ℤ pos c)) +ℤ z) (ap (λ (z : ℤ). (g *ℤ pos c) *ℤ z) (times-comm (pos c) d) ∙ times-both g d c)
+
+sums-first : (x y z w r s : ℤ) → x ≡ y +ℤ z → w ≡ r +ℤ s → x +ℤ w ≡ ((y +ℤ r) +ℤ z) +ℤ s
+sums-first x y z w r s e f = omega (arith, ints, e, f)
+
+sums-second : (x y z w r s : ℤ) → x ≡ y +ℤ z → w ≡ r +ℤ s → x +ℤ w ≡ ((y +ℤ r) +ℤ s) +ℤ z
+sums-second x y z w r s e f = omega (arith, ints, e, f)
+
 -- the scalar product of a point in terms of that of another
 product-lon : (g h e n v : ℤ) (c d : ℕ) → ((g *ℤ pos c) *ℤ ((e +ℤ pos d) *ℤ pos c)) +ℤ ((h *ℤ pos 65536) *ℤ ((n +ℤ v) *ℤ pos 65536)) ≡ ((((g *ℤ pos c) *ℤ (e *ℤ pos c)) +ℤ ((h *ℤ pos 65536) *ℤ (n *ℤ pos 65536))) +ℤ (g *ℤ pos (c * c) *ℤ pos d)) +ℤ (h *ℤ pos 4294967296 *ℤ v)
-product-lon g h e n v c d = omega (arith, ints)
+product-lon g h e n v c d =
+    sums-first ((g *ℤ pos c) *ℤ ((e +ℤ pos d) *ℤ pos c)) ((g *ℤ pos c) *ℤ (e *ℤ pos c)) (g *ℤ pos (c * c) *ℤ pos d) ((h *ℤ pos 65536) *ℤ ((n +ℤ v) *ℤ pos 65536)) ((h *ℤ pos 65536) *ℤ (n *ℤ pos 65536)) (h *ℤ pos 4294967296 *ℤ v)
+    (times-more g e (pos d) c) (times-more h n v 65536)
 
 product-lat : (g h e n v : ℤ) (c d : ℕ) → ((g *ℤ pos c) *ℤ ((e +ℤ v) *ℤ pos c)) +ℤ ((h *ℤ pos 65536) *ℤ ((n +ℤ pos d) *ℤ pos 65536)) ≡ ((((g *ℤ pos c) *ℤ (e *ℤ pos c)) +ℤ ((h *ℤ pos 65536) *ℤ (n *ℤ pos 65536))) +ℤ (h *ℤ pos 4294967296 *ℤ pos d)) +ℤ (g *ℤ pos (c * c) *ℤ v)
-product-lat g h e n v c d = omega (arith, ints)
+product-lat g h e n v c d =
+    sums-second ((g *ℤ pos c) *ℤ ((e +ℤ v) *ℤ pos c)) ((g *ℤ pos c) *ℤ (e *ℤ pos c)) (g *ℤ pos (c * c) *ℤ v) ((h *ℤ pos 65536) *ℤ ((n +ℤ pos d) *ℤ pos 65536)) ((h *ℤ pos 65536) *ℤ (n *ℤ pos 65536)) (h *ℤ pos 4294967296 *ℤ pos d)
+    (times-more g e v c) (times-more h n (pos d) 65536)
 
 whole-lon : (m n c : ℕ) → m * m * (c * c) ≤ m * c * (m * c) + n * 65536 * (n * 65536)
 whole-lon m n c = omega arith

@@ -121,7 +121,9 @@ module _ (limit : ℕ) (a b : Point) where
 
   -- points that are passed over
   pub keeps-many : (points : List Point) (k n most : ℕ) (o : Option ℕ) → IsFarthestSoFar limit a b (take k points) most o → ((i : ℕ) (q : Point) → k ≤ i → i < k + n → slice_get points i ≡ Some q → offset_of a b q ≤ most) → IsFarthestSoFar limit a b (take (k + n) points) most o
-  keeps-many points k zero most o h near = h
+  keeps-many points k zero most o h near =
+      let m : k ≡ k + 0 = omega arith in
+      subst (λ j. IsFarthestSoFar limit a b (take j points) most o) m h
   keeps-many points k (suc n) most o h near =
       let before : IsFarthestSoFar limit a b (take (k + n) points) most o = keeps-many points k n most o h (λ i q low high at. near i q low (omega (arith, high)) at) in
       elim (cases_lt (k + n) (length points)) as (λ _. IsFarthestSoFar limit a b (take (k + suc n) points) most o) [

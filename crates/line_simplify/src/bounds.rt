@@ -48,7 +48,7 @@ pub(crate) fn most_within(line: Chord, extent: Extent) -> u128
 
 // The corners of an extent that lie farthest off on either side of a line, the western one first.
 fn outermost(line: Chord, extent: Extent) -> (Point, Point)
-    ensures { AreOutermost line extent result.field-0 result.field-1 }
+    ensures { AreOutermost line extent result.0 result.1 }
 {
     if (line.from.lon <= line.to.lon) == (line.from.lat <= line.to.lat) {
         let north_west = Point {

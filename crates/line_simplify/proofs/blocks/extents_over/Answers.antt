@@ -1,4 +1,4 @@
-use Rattle.std.proofs.Common.{◌≡◌, ◌/◌, inl, inr, arith, subst, sym}
+use Rattle.std.proofs.Common.{◌≡◌, ◌/◌, ◌∙◌, inl, inr, arith, subst, sym}
 use Rattle.std.proofs.lemmas.Bool.{cases_lt}
 use Rattle.std.proofs.lemmas.Option.{slice_get_within, get_or_from_slice_get}
 use Rattle.line_simplify.specs.Blocks.{HasAt, HasPoint}
@@ -14,7 +14,7 @@ loop-i-preserved c = record {
         let same : c.loop-i.i ≡ k = omega (arith, ge, lt) in
         let here : HasAt c.args.parts.now c.loop-i.i p = subst (λ n. HasAt c.args.parts.now n p) (sym same) has in
         subst (λ n. HasAt c.add.new.extents.items (n / 16) p) same
-        (c.in_ok-add.ensures.added p (subst (λ (e : Extent). HasPoint e p) (sym (get_or_from_slice_get c.args.parts.now c.loop-i.i here.0 _ here.1)) here.2))
+        (c.in_ok-add.ensures.added p (subst (λ (e : Extent). HasPoint e p) (sym (get_or_from_slice_get c.args.parts.now c.loop-i.i here.0 c.index-parts-i.result here.1) ∙ sym c.index-parts-i.is) here.2))
   ];
 }
 

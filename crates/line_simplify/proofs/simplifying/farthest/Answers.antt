@@ -7,26 +7,26 @@ use Rattle.line_simplify.proofs.simplifying.farthest.Goals as goal
 use Rattle.line_simplify.proofs.simplifying.farthest.Goals.{then-offset-most, else-offset-most}
 
 -- one point more was looked at
-pub loop-farthest-preserved : goal.loop-farthest-preserved
-loop-farthest-preserved c =
+pub loop-at-preserved : goal.loop-at-preserved
+loop-at-preserved c =
     let q = c.index-between-at.result in
     let off : c.offset-offset.result ≡ offset_of c.args.line.from c.args.line.to q = c.offset-offset.ensures in
     elim c.if-offset-most.branch [
       | then-offset-most w ↦
-          takes-next c.args.limit c.args.line.from c.args.line.to c.args.between.now c.loop-farthest.at c.loop-farthest.most c.if-offset-most.most c.loop-farthest.farthest c.if-offset-most.farthest q c.loop-farthest-test.true c.index-between-at.is c.loop-farthest.invariant
+          takes-next c.args.limit c.args.line.from c.args.line.to c.args.between.now c.loop-at.at c.loop-at.most c.if-offset-most.most c.loop-at.farthest c.if-offset-most.farthest q c.loop-at-test.true c.index-between-at.is c.loop-at.invariant
           (let lt = w.if-offset-most.true in omega (arith, lt, off)) (w.most-is ∙ off) w.farthest-is
       | else-offset-most w ↦
-          keeps-next c.args.limit c.args.line.from c.args.line.to c.args.between.now c.loop-farthest.at c.loop-farthest.most c.if-offset-most.most c.loop-farthest.farthest c.if-offset-most.farthest q c.loop-farthest-test.true c.index-between-at.is c.loop-farthest.invariant
+          keeps-next c.args.limit c.args.line.from c.args.line.to c.args.between.now c.loop-at.at c.loop-at.most c.if-offset-most.most c.loop-at.farthest c.if-offset-most.farthest q c.loop-at-test.true c.index-between-at.is c.loop-at.invariant
           (let le = w.if-offset-most.false in omega (arith, le, off)) w.most-is w.farthest-is
     ]
 
 -- all were
 pub returns-clause-value : goal.returns-clause-value
 returns-clause-value c =
-    farthest-all c.args.limit c.args.line.from c.args.line.to c.args.between.now c.loop-farthest.most c.loop-farthest.farthest
-    (subst (λ (xs : List Point). IsFarthestSoFar c.args.limit c.args.line.from c.args.line.to xs c.loop-farthest.most c.loop-farthest.farthest) (take_all c.loop-farthest.at c.args.between.now c.loop-farthest-test.false) c.loop-farthest.invariant)
+    farthest-all c.args.limit c.args.line.from c.args.line.to c.args.between.now c.loop-at.most c.loop-at.farthest
+    (subst (λ (xs : List Point). IsFarthestSoFar c.args.limit c.args.line.from c.args.line.to xs c.loop-at.most c.loop-at.farthest) (take_all c.loop-at.at c.args.between.now c.loop-at-test.false) c.loop-at.invariant)
 
 pub returns-clause-within : goal.returns-clause-within
 returns-clause-within c =
-    farthest-inside c.args.limit c.args.line.from c.args.line.to c.args.between.now c.loop-farthest.most c.loop-farthest.farthest
-    (subst (λ (xs : List Point). IsFarthestSoFar c.args.limit c.args.line.from c.args.line.to xs c.loop-farthest.most c.loop-farthest.farthest) (take_all c.loop-farthest.at c.args.between.now c.loop-farthest-test.false) c.loop-farthest.invariant)
+    farthest-inside c.args.limit c.args.line.from c.args.line.to c.args.between.now c.loop-at.most c.loop-at.farthest
+    (subst (λ (xs : List Point). IsFarthestSoFar c.args.limit c.args.line.from c.args.line.to xs c.loop-at.most c.loop-at.farthest) (take_all c.loop-at.at c.args.between.now c.loop-at-test.false) c.loop-at.invariant)

@@ -1,8 +1,8 @@
-use Rattle.std.proofs.Common.{◌≡◌, ℕ, ◌/◌, ◌∙◌, arith, subst}
+use Rattle.std.proofs.Common.{◌≡◌, ℕ, ◌+◌, ◌/◌, ◌∙◌, arith, subst}
 use Rattle.std.specs.Prelude.{Some}
 use Rattle.std.specs.List.{slice_get}
 use Rattle.road_base.specs.declared.coordinates.Point.{Point}
-use Rattle.line_simplify.specs.Blocks.{HasAt}
+use Rattle.line_simplify.specs.Blocks.{HasAt, IsCovered}
 use Rattle.line_simplify.proofs.blocks.Blocks.of.Goals as goal
 
 -- an extent of 256 has 16 of 16, and one of 4096 has 16 of 256
@@ -15,4 +15,6 @@ returns c = λ i p at.
     let group : HasAt c.in_ok-groups.groups.items (i / 4096) p =
     let same : i / 256 / 16 ≡ i / 4096 = omega arith in
     subst (λ k. HasAt c.in_ok-groups.groups.items k p) same (c.in_ok-groups.ensures (i / 256) p (rw c.deref-2.ensures.value block)) in
-    record { leaf = leaf; block = block; group = group }
+    let all : IsCovered (record { leaves = c.in_ok-leaves.leaves; blocks = c.in_ok-blocks.blocks; groups = c.in_ok-groups.groups }) i p = record { leaf = leaf; block = block; group = group } in
+    let first : i ≡ 0 + i = omega arith in
+    subst (λ n. IsCovered (record { leaves = c.in_ok-leaves.leaves; blocks = c.in_ok-blocks.blocks; groups = c.in_ok-groups.groups }) n p) first all
