@@ -1,7 +1,7 @@
 -- What lies within an extent is no farther off a line than the bound says.
 use Rattle.std.proofs.Common.{◌≡◌, ℕ, zero, suc, ◌+◌, ◌-◌, ◌*◌, ◌/◌, ◌<◌, ◌≤◌, ◌⊎◌, inl, inr, refl, sym, ap, ◌∙◌, subst, arith}
 use borrow.Author.Differences.{down, product_is, same_in, sum_is_lem, up}
-use Rattle.std.specs.Prelude.{ℤ, pos, negsuc, ◌+ℤ◌, ◌-ℤ◌, ◌*ℤ◌, ◌≤ℤ◌, max, unsigned_abs}
+use Rattle.std.specs.Prelude.{ℤ, pos, negsuc, ◌+ℤ◌, ◌-ℤ◌, ◌*ℤ◌, ◌≤ℤ◌, ◌<ℤ◌, max, unsigned_abs}
 use Rattle.std.specs.Int.{int_div_euclid}
 use Rattle.std.proofs.Math.Nat.{mul-le-mul}
 use Rattle.std.proofs.lemmas.Int.{ints}
@@ -185,7 +185,7 @@ gap-between x y z u v w s d e i j high low = between-two (x -ℤ u) (y -ℤ v) (
 steps-up : (x y : ℤ) → x ≤ℤ y → y ≡ x +ℤ pos (unsigned_abs (y -ℤ x))
 steps-up x y le = omega (arith, ints, le)
 
-same_max : (a b x y n s : ℕ) → x ≡ a → y ≡ b → n ≤ max a b + s → n ≤ max x y + s
+pub same_max : (a b x y n s : ℕ) → x ≡ a → y ≡ b → n ≤ max a b + s → n ≤ max x y + s
 same_max a b x y n s e f h = omega (arith, e, f, h)
 
 swap_max : (a b n s : ℕ) → n ≤ max a b + s → n ≤ max b a + s
@@ -332,3 +332,27 @@ cosine-south p spot least h = cosine-falls least (unsigned_abs (middle_latitude 
 
 pub cosine-most : (p spot : Position) → cosine_between p spot ≤ cosine_of (pos 0)
 cosine-most p spot = cosine-falls 0 (unsigned_abs (middle_latitude p.lat spot.lat)) (omega arith)
+
+from-abs : (z : ℤ) → pos 0 ≤ℤ z → z ≡ pos (unsigned_abs z)
+from-abs z le = omega (arith, ints, le)
+
+-- the latitude that is used lies no farther off the equator than any half-way
+abbrev pub IsLeast : ℤ → ℤ → ℕ → ℤ → Type 0
+IsLeast low high half least = ((pos half <ℤ low) × (least ≡ low -ℤ pos half)) ⊎ (((high <ℤ (pos 0 -ℤ pos half)) × (least ≡ (pos 0 -ℤ pos half) -ℤ high)) ⊎ (least ≡ pos 0))
+
+pub cosine-within : (p spot : Position) (low high least : ℤ) (half width : ℕ) → low ≤ℤ p.lat → p.lat ≤ℤ high → unsigned_abs (spot.lat -ℤ p.lat) ≤ width → width ≤ 2 * half → IsLeast low high half least → cosine_between p spot ≤ cosine_of least
+cosine-within p spot low high least half width south north near wide is = elim is as (λ _. cosine_between p spot ≤ cosine_of least) [
+  | inl up ↦
+      let lt = up.0 in
+      let e = up.1 in
+      let same = from-abs least (omega (arith, ints, lt, e)) in
+      subst (λ (z : ℤ). cosine_between p spot ≤ cosine_of z) (sym same) (cosine-north p spot (unsigned_abs least) (omega (arith, ints, lt, e, south, near, wide)))
+  | inr other ↦ elim other as (λ _. cosine_between p spot ≤ cosine_of least) [
+    | inl down ↦
+        let lt = down.0 in
+        let e = down.1 in
+        let same = from-abs least (omega (arith, ints, lt, e)) in
+        subst (λ (z : ℤ). cosine_between p spot ≤ cosine_of z) (sym same) (cosine-south p spot (unsigned_abs least) (omega (arith, ints, lt, e, north, near, wide)))
+    | inr none ↦ subst (λ (z : ℤ). cosine_between p spot ≤ cosine_of z) (sym none) (cosine-most p spot)
+  ]
+]

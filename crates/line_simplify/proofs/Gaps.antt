@@ -1,5 +1,6 @@
 -- How the way from a point to its nearest place on a line changes from point to point, along one axis.
 use Rattle.std.proofs.Common.{◌≡◌, ℕ, zero, suc, ◌+◌, ◌-◌, ◌*◌, ◌/◌, ◌<◌, ◌≤◌, ◌⊎◌, inl, inr, refl, sym, ap, ◌∙◌, subst, mod-lt, arith}
+use borrow.Author.Differences.{product_is}
 use Rattle.std.specs.Prelude.{ℤ, pos, negsuc, ◌+ℤ◌, ◌-ℤ◌, ◌*ℤ◌, ◌≤ℤ◌, ◌<ℤ◌, max, unsigned_abs}
 use Rattle.std.specs.Int.{int_div_euclid}
 use Rattle.std.proofs.Math.Nat.{mul-le-mul}
@@ -17,7 +18,7 @@ quotient-low : (n m : ℕ) → n / m * m ≤ n
 quotient-low n m = let e = div-add-mod' n m in omega (arith, e)
 
 quotient-high : (n m : ℕ) → 0 < m → n < n / m * m + m
-quotient-high n m h = let e = div-add-mod' n m in let l = mod-lt n m h in omega (arith, e, l)
+quotient-high n m h = let e = div-add-mod' n m in let l = mod-lt n h in omega (arith, e, l)
 
 -- a share of 1024ths by its cases
 share-none : (x : ℕ) → share_of (pos x) 0 ≡ 0
@@ -102,6 +103,12 @@ shares-grow (pos x) (pos y) (suc w) m k d near whole = elim (share-low y (suc w)
 shares-grow (pos x) (negsuc y) (suc w) m k d near whole =
     places-grow x 0 (suc w) m k d (share_of (pos x) (suc w)) 0 (omega (arith, ints, near)) whole (share-high x (suc w) (omega arith)) (omega arith)
 
+goes-down : (m k d : ℕ) (u v r : ℤ) → u ≡ (v +ℤ (negsuc m *ℤ pos k *ℤ pos d)) +ℤ r → pos 0 ≤ℤ r → v ≤ℤ (u +ℤ pos (suc m * k * d))
+goes-down m k d u v r e up =
+    let parts = product_is (negsuc m) (pos k) in
+    let whole = product_is (negsuc m *ℤ pos k) (pos d) in
+    omega (arith, ints, e, up, whole.0, whole.1, ap (λ (n : ℕ). n * d) parts.0, ap (λ (n : ℕ). n * d) parts.1)
+
 -- the same of a line that goes either way along the axis
 turned : (g u v r : ℤ) (w k d : ℕ) → unsigned_abs g * unsigned_abs g * k ≤ w → u ≡ (v +ℤ (g *ℤ pos k *ℤ pos d)) +ℤ r
     → ((pos 0 ≤ℤ g) × (r ≤ℤ pos 0)) ⊎ ((g ≤ℤ pos 0) × (pos 0 ≤ℤ r)) → (g *ℤ pos (share_of u w)) ≤ℤ ((g *ℤ pos (share_of v w)) +ℤ pos (1024 * d + unsigned_abs g))
@@ -114,9 +121,8 @@ turned (pos zero) u v r w k d whole e (inr h) = omega (arith, ints)
 turned (pos (suc m)) u v r w k d whole e (inr h) = let le = h.0 in absurd (omega (arith, ints, le))
 turned (negsuc m) u v r w k d whole e (inl h) = let le = h.0 in absurd (omega (arith, ints, le))
 turned (negsuc m) u v r w k d whole e (inr h) =
-    let up = h.1 in
-    let near : v ≤ℤ (u +ℤ pos ((m + 1) * k * d)) = omega (arith, ints, e, up) in
-    let grow = shares-grow v u w (m + 1) k d near whole in
+    let near = goes-down m k d u v r e h.1 in
+    let grow = shares-grow v u w (suc m) k d near whole in
     omega (arith, ints, grow)
 
 -- a quotient of a whole number

@@ -1,10 +1,16 @@
-use Rattle.std.proofs.Common.{◌≡◌, ◌∙◌, List, subst, arith}
+use Rattle.std.proofs.Common.{◌≡◌, ◌∙◌, ◌+◌, List, subst, arith}
 use Rattle.std.proofs.lemmas.List.{take_all}
 use Rattle.road_base.specs.declared.coordinates.Point.{Point}
 use Rattle.line_simplify.specs.Simplified.{offset_of}
-use Rattle.line_simplify.proofs.Farthest.{IsFarthestSoFar, farthest-all, farthest-inside, keeps-next, takes-next}
+use Rattle.line_simplify.proofs.Farthest.{IsFarthestSoFar, farthest-all, farthest-inside, keeps-many, keeps-next, takes-next}
 use Rattle.line_simplify.proofs.simplifying.farthest.Goals as goal
 use Rattle.line_simplify.proofs.simplifying.farthest.Goals.{then-offset-most, else-offset-most}
+
+-- points were passed over
+pub loop-at-preserved-then-passed-gt0 : goal.loop-at-preserved-then-passed-gt0
+loop-at-preserved-then-passed-gt0 c =
+    keeps-many c.args.limit c.args.line.from c.args.line.to c.args.between.now c.loop-at.at c.passed_by-passed.result c.loop-at.most c.loop-at.farthest c.loop-at.invariant
+    (λ i q low high at. c.passed_by-passed.ensures.passed (c.args.first + i) q (omega (arith, low)) (omega (arith, high)) (c.requires.covered i q at))
 
 -- one point more was looked at
 pub loop-at-preserved : goal.loop-at-preserved
