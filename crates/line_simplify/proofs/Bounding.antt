@@ -1,5 +1,5 @@
 -- What lies within an extent is no farther off a line than the bound says.
-use Rattle.std.proofs.Common.{◌≡◌, ℕ, zero, suc, ◌+◌, ◌-◌, ◌*◌, ◌/◌, ◌<◌, ◌≤◌, ◌⊎◌, inl, inr, refl, sym, ap, ◌∙◌, subst, arith}
+use Rattle.std.proofs.Common.{◌≡◌, ℕ, zero, suc, ◌+◌, ◌-◌, ◌*◌, ◌/◌, ◌<◌, ◌≤◌, ◌⊎◌, inl, inr, sym, ap, ◌∙◌, subst, arith}
 use borrow.Author.Differences.{down, product_is, same_in, sum_is_lem, up}
 use Rattle.std.specs.Prelude.{ℤ, pos, negsuc, ◌+ℤ◌, ◌-ℤ◌, ◌*ℤ◌, ◌≤ℤ◌, ◌<ℤ◌, max, unsigned_abs}
 use Rattle.std.specs.Int.{int_div_euclid}
@@ -13,10 +13,9 @@ use Rattle.list_lemmas.proofs.Between.{LiesBetween, between-add, between-part}
 use Rattle.road_base.specs.Earth.{IsOnEarth}
 use Rattle.road_base.specs.declared.coordinates.Point.{Point}
 use Rattle.line_simplify.specs.Blocks.{HasPoint}
-use Rattle.line_simplify.specs.Bounds.{AreOutermost, GoAlike, GoApart, IsGapOf}
+use Rattle.line_simplify.specs.Bounds.{AreOutermost, GoAlike, GoApart}
 use Rattle.line_simplify.specs.Simplified.{offset_of}
 use Rattle.line_simplify.specs.declared.bounds.Chord.{Chord}
-use Rattle.line_simplify.specs.declared.bounds.Gap.{Gap}
 use Rattle.line_simplify.specs.declared.extents.Extent.{Extent}
 use Rattle.line_simplify.proofs.Gaps.{axis-grows, share-bound, slack_of}
 

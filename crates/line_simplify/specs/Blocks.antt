@@ -1,6 +1,6 @@
 -- The crate's own: extents of points that stand one behind another, and how far off a line what lies within them
 -- may be.
-use Rattle.std.specs.Prelude.{◌≡◌, ℕ, ◌+◌, ◌/◌, ◌≤◌, ◌≤ℤ◌, List, Some}
+use Rattle.std.specs.Prelude.{◌≡◌, ℕ, ◌+◌, ◌/◌, ◌≤ℤ◌, List, Some}
 use Rattle.std.specs.List.{slice_get}
 use Rattle.road_base.specs.declared.coordinates.Point.{Point}
 use Rattle.line_simplify.specs.declared.blocks.Blocks.{Blocks}

@@ -1,5 +1,5 @@
 -- The crate's own: how the corners of an extent lie to a line, and how far a point is from its nearest place on it.
-use Rattle.std.specs.Prelude.{◌≡◌, ℕ, ℤ, pos, ◌≤ℤ◌, ◌-ℤ◌, ◌*ℤ◌, ◌⊎◌, unsigned_abs}
+use Rattle.std.specs.Prelude.{◌≡◌, ℤ, pos, ◌≤ℤ◌, ◌-ℤ◌, ◌⊎◌, unsigned_abs}
 use Rattle.road_base.specs.declared.coordinates.Point.{Point}
 use Rattle.geo_integer.specs.Position.{position_of}
 use Rattle.geo_integer.specs.Project.{coordinate_at, place_of}

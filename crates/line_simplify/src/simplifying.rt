@@ -27,7 +27,7 @@ pub fn simplify(alloc: Global, points: &[Point], tolerance: u32) -> Result<Vec<P
         return Vec::from_slice(alloc, points);
     }
     let limit = limit(tolerance);
-    let blocks = Blocks::of(alloc, points)?;
+    let runs = Blocks::of(alloc, points)?;
     let mut kept = vec![in alloc; points[0]]?;
     let mut from = 0;
     // the points that stay behind `from`, as far as they are known: the last of them is the next one
@@ -37,7 +37,7 @@ pub fn simplify(alloc: Global, points: &[Point], tolerance: u32) -> Result<Vec<P
             from: points[from],
             to: points[to],
         };
-        let split = farthest(&blocks, line, &points[from + 1..to], from + 1, limit);
+        let split = farthest(&runs, line, &points[from + 1..to], from + 1, limit);
         from = step(&mut kept, &mut ends, from, to, line.to, split)?;
     }
     Ok(kept)

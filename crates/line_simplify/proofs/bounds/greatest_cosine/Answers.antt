@@ -1,8 +1,8 @@
-use Rattle.std.proofs.Common.{◌≡◌, ℕ, ◌+◌, ◌*◌, ◌/◌, ◌≤◌, inl, inr, ap, sym, subst, to_z, w32, arith}
-use Rattle.std.specs.Prelude.{ℤ, pos, ◌-ℤ◌, ◌<ℤ◌, unsigned_abs}
+use Rattle.std.proofs.Common.{◌≡◌, ℕ, ◌*◌, ◌≤◌, inl, inr, sym, subst, to_z, w32, arith}
+use Rattle.std.specs.Prelude.{ℤ, unsigned_abs}
 use Rattle.std.specs.Int.{div_ceil}
 use Rattle.std.proofs.lemmas.Int.{ints}
-use Rattle.geo_integer.specs.Plane.{cosine_between, cosine_of}
+use Rattle.geo_integer.specs.Plane.{cosine_between}
 use Rattle.geo_integer.specs.Position.{position_of}
 use Rattle.line_simplify.proofs.Bounding.{IsLeast, cosine-within}
 use Rattle.line_simplify.proofs.bounds.greatest_cosine.Goals as goal

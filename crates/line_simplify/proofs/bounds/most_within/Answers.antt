@@ -1,7 +1,7 @@
 use Rattle.std.proofs.Common.{◌≡◌, ℕ, ◌+◌, ◌≤◌, arith, ap, subst, sym, ◌∙◌, to_z, of_z, w32, w64}
 use Rattle.std.specs.Prelude.{ℤ, ◌-ℤ◌, ◌≤ℤ◌, max, min, pos, unsigned_abs}
 use Rattle.std.proofs.lemmas.Int.{ints}
-use Rattle.geo_integer.specs.Plane.{cosine_between, plane_of}
+use Rattle.geo_integer.specs.Plane.{plane_of}
 use Rattle.geo_integer.specs.Position.{position_of}
 use Rattle.geo_integer.specs.Project.{place_of, position_at}
 use Rattle.line_simplify.specs.Simplified.{offset_of}

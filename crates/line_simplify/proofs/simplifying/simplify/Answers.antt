@@ -37,7 +37,7 @@ farthest-split-requires-clause-covered c = λ i p at.
     let next = next-end c.args.tolerance c.args.points.now c.loop-to.kept.items c.loop-to.from c.loop-to.ends.items c.pop.new.self.items c.in-Some.to c.loop-to.invariant c.in-Some.ensures.items in
     let there = get_part c.args.points.now (c.loop-to.from + 1) c.in-Some.to i p (omega (arith, next.1)) at in
     let whole : 0 + (c.loop-to.from + 1 + i) ≡ c.loop-to.from + 1 + i = omega arith in
-    subst (λ n. IsCovered c.in_ok-blocks.blocks n p) whole (c.in_ok-blocks.ensures (c.loop-to.from + 1 + i) p there.1)
+    subst (λ n. IsCovered c.in_ok-runs.runs n p) whole (c.in_ok-runs.ensures (c.loop-to.from + 1 + i) p there.1)
 
 -- one step more
 pub loop-to-smaller : goal.loop-to-smaller

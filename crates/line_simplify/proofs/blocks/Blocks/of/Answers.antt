@@ -1,7 +1,4 @@
-use Rattle.std.proofs.Common.{◌≡◌, ℕ, ◌+◌, ◌/◌, ◌∙◌, arith, subst}
-use Rattle.std.specs.Prelude.{Some}
-use Rattle.std.specs.List.{slice_get}
-use Rattle.road_base.specs.declared.coordinates.Point.{Point}
+use Rattle.std.proofs.Common.{◌≡◌, ◌+◌, ◌/◌, arith, subst}
 use Rattle.line_simplify.specs.Blocks.{HasAt, IsCovered}
 use Rattle.line_simplify.proofs.blocks.Blocks.of.Goals as goal
 
