@@ -1,6 +1,9 @@
 -- The farthest point off a line, of more and more points.
-use Rattle.std.proofs.Common.{◌≡◌, ℕ, ◌+◌, ◌<◌, ◌≤◌, inl, inr, List, [], ◌∷◌, ◌++◌, length, take, get_or, Option, Some, None, All, refl, sym, ap, ◌∙◌, subst, arith, append_assoc, length-append}
-use Rattle.std.proofs.lemmas.List.{append-nil, length-take-le, take_more}
+use Rattle.std.proofs.Common.{◌≡◌, ℕ, zero, suc, ◌+◌, ◌<◌, ◌≤◌, inl, inr, List, [], ◌∷◌, ◌++◌, length, take, get_or, Option, Some, None, All, refl, sym, ap, ◌∙◌, subst, arith, append_assoc, length-append}
+use Rattle.std.proofs.lemmas.List.{append-nil, length-take-le, take_all, take_more}
+use Rattle.std.specs.List.{slice_get}
+use Rattle.std.proofs.lemmas.Option.{get_or_from_slice_get}
+use Rattle.list_lemmas.proofs.Gets.{get_some}
 use Rattle.std.specs.Prelude.{IfSome, MatchOption}
 use Rattle.std.proofs.lemmas.Bool.{cases_lt}
 use Rattle.std.proofs.lemmas.List.Elements.{All-append, All-cons, All-nil, All-push, All-same, All-weaker}
@@ -115,6 +118,26 @@ module _ (limit : ℕ) (a b : Point) where
       let there : IsFarthestSoFar limit a b (take (k + 1) points) most o = subst (λ (xs : List Point). IsFarthestSoFar limit a b xs most o) front (farthest-keeps (take k points) most o q h near) in
       let far : IsFarthestSoFar limit a b (take (k + 1) points) more o = subst (λ (m : ℕ). IsFarthestSoFar limit a b (take (k + 1) points) m o) (sym e) there in
       subst (λ (r : Option ℕ). IsFarthestSoFar limit a b (take (k + 1) points) more r) (sym f) far
+
+  -- points that are passed over
+  pub keeps-many : (points : List Point) (k n most : ℕ) (o : Option ℕ) → IsFarthestSoFar limit a b (take k points) most o → ((i : ℕ) (q : Point) → k ≤ i → i < k + n → slice_get points i ≡ Some q → offset_of a b q ≤ most) → IsFarthestSoFar limit a b (take (k + n) points) most o
+  keeps-many points k zero most o h near =
+      let m : k ≡ k + 0 = omega arith in
+      subst (λ j. IsFarthestSoFar limit a b (take j points) most o) m h
+  keeps-many points k (suc n) most o h near =
+      let before : IsFarthestSoFar limit a b (take (k + n) points) most o = keeps-many points k n most o h (λ i q low high at. near i q low (omega (arith, high)) at) in
+      elim (cases_lt (k + n) (length points)) as (λ _. IsFarthestSoFar limit a b (take (k + suc n) points) most o) [
+        | inl lt ↦
+            let there = get_some points (k + n) lt in
+            let is : there.0 ≡ get_or points (k + n) there.0 = sym (get_or_from_slice_get points (k + n) there.0 there.0 there.1) in
+            let next : IsFarthestSoFar limit a b (take (k + n + 1) points) most o =
+            keeps-next points (k + n) most most o o there.0 lt is before (near (k + n) there.0 (omega arith) (omega arith) there.1) refl refl in
+            let m : k + n + 1 ≡ k + suc n = omega arith in
+            subst (λ j. IsFarthestSoFar limit a b (take j points) most o) m next
+        | inr le ↦
+            let all : take (k + n) points ≡ take (k + suc n) points = take_all (k + n) points le ∙ sym (take_all (k + suc n) points (omega (arith, le))) in
+            subst (λ (xs : List Point). IsFarthestSoFar limit a b xs most o) all before
+      ]
 
   -- after the last
   pub farthest-all : (points : List Point) (most : ℕ) (o : Option ℕ) → IsFarthestSoFar limit a b points most o → MatchOption o (All (λ q. offset_of a b q ≤ limit) points) (IsFarthestAt limit a b points)

@@ -1,2 +1,4 @@
+pub mod Blocks
+pub mod Bounds
 pub mod Simplified
 pub mod Steps

@@ -5,6 +5,9 @@
 //! how near that is where a whole line is to be seen at once.
 #![tactic(auto)]
 
+mod blocks;
+mod bounds;
+mod extents;
 mod simplifying;
 mod tolerances;
 

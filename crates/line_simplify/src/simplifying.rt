@@ -1,10 +1,13 @@
 //! Which points of a line stay.
 
-ghost use Rattle.std.specs.Prelude.{◌≡◌, ◌+◌, ◌<◌, ◌≤◌, All, IfOk, IfSome, List, MatchOption, length};
+ghost use Rattle.std.specs.Prelude.{◌≡◌, ◌+◌, ◌<◌, ◌≤◌, ◌^◌, All, IfOk, IfSome, List, MatchOption, length};
 ghost use Rattle.road_base.specs.declared.coordinates.Point.{Point};
+ghost use Rattle.line_simplify.specs.Blocks.{AreCovered};
 ghost use Rattle.line_simplify.specs.Steps.{IsFarthestAt, IsStep};
 ghost use Rattle.line_simplify.specs.Simplified.{IsSimplified, limit_of, offset_of, simplified};
 
+use crate::blocks::{Blocks, passed_by};
+use crate::bounds::Chord;
 use geo_integer::{plane_distance, point_at, project};
 use road_base::Point;
 use std::alloc::{AllocError, Global};
@@ -12,8 +15,9 @@ use std::alloc::{AllocError, Global};
 /// The points that stay of a line with a tolerance in microdegrees of latitude, in their order. The first and
 /// the last one stay. It answers an error only where memory runs out.
 ///
-/// Each point is looked at once for each part that is split and in which it lies: about n log n looks at n points
-/// on most lines, but half of n squared where each split parts off a single point.
+/// Each point is looked at at most once for each part that is split and in which it lies, and runs of points that
+/// can't lie farther off than one that was found are passed over by their extents. Where the line goes back the way
+/// it came, a part is looked through only near the places that lie farthest off.
 pub fn simplify(alloc: Global, points: &[Point], tolerance: u32) -> Result<Vec<Point>, AllocError>
     ensures value { IfOk result (λ kept. kept.items ≡ simplified tolerance points.now) }
     ensures rule { IfOk result (λ kept. IsSimplified tolerance points.now kept.items) }
@@ -23,14 +27,18 @@ pub fn simplify(alloc: Global, points: &[Point], tolerance: u32) -> Result<Vec<P
         return Vec::from_slice(alloc, points);
     }
     let limit = limit(tolerance);
+    let runs = Blocks::of(alloc, points)?;
     let mut kept = vec![in alloc; points[0]]?;
     let mut from = 0;
     // the points that stay behind `from`, as far as they are known: the last of them is the next one
     let mut ends = vec![in alloc; points.len() - 1]?;
     while let Some(to) = ends.pop() {
-        let end = points[to];
-        let split = farthest(points[from], &points[from + 1..to], end, limit);
-        from = step(&mut kept, &mut ends, from, to, end, split)?;
+        let line = Chord {
+            from: points[from],
+            to: points[to],
+        };
+        let split = farthest(&runs, line, &points[from + 1..to], from + 1, limit);
+        from = step(&mut kept, &mut ends, from, to, line.to, split)?;
     }
     Ok(kept)
 }
@@ -71,20 +79,35 @@ fn limit(tolerance: u32) -> u128
     wide * wide
 }
 
-// Of the points between `a` and `b` the first of those that lie farthest off the line from `a` to `b`, by its
-// index. None where all lie within the limit.
-fn farthest(a: Point, between: &[Point], b: Point, limit: u128) -> Option<usize>
-    ensures value { MatchOption result (All (λ p. offset_of a b p ≤ limit) between.now) (IsFarthestAt limit a b between.now) }
+// Of the points between the ends of a line the first of those that lie farthest off it, by its index. None where
+// all lie within the limit. The points have numbers from `first` on.
+fn farthest(
+    blocks: &Blocks,
+    line: Chord,
+    between: &[Point],
+    first: usize,
+    limit: u128,
+) -> Option<usize>
+    requires covered { AreCovered blocks.now first between.now }
+    requires few { first + length between.now < 2 ^ 62 }
+    ensures value { MatchOption result (All (λ p. offset_of line.from line.to p ≤ limit) between.now) (IsFarthestAt limit line.from line.to between.now) }
     ensures within { IfSome result (λ at. at < length between.now) }
 {
     let mut most = limit;
     let mut farthest = None;
-    for (at, point) in between.iter().enumerate() {
-        let offset = offset(*point, a, b);
+    let mut at = 0;
+    while at < between.len() {
+        let passed = passed_by(blocks, line, most, first + at, between.len() - at);
+        if passed > 0 {
+            at += passed;
+            continue;
+        }
+        let offset = offset(between[at], line.from, line.to);
         if offset > most {
             most = offset;
             farthest = Some(at);
         }
+        at += 1;
     }
     farthest
 }

@@ -25,7 +25,7 @@ pub fn tolerance_of(points: &[Point]) -> u32
 }
 
 // The southern and western end of two points.
-fn lower_corner(a: Point, b: Point) -> Point
+pub(crate) fn lower_corner(a: Point, b: Point) -> Point
     ensures lon { result.lon ≡ int_min a.lon b.lon }
     ensures lat { result.lat ≡ int_min a.lat b.lat }
 {
@@ -36,7 +36,7 @@ fn lower_corner(a: Point, b: Point) -> Point
 }
 
 // The northern and eastern end of two points.
-fn upper_corner(a: Point, b: Point) -> Point
+pub(crate) fn upper_corner(a: Point, b: Point) -> Point
     ensures lon { result.lon ≡ int_max a.lon b.lon }
     ensures lat { result.lat ≡ int_max a.lat b.lat }
 {

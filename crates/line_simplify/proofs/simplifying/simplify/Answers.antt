@@ -1,7 +1,9 @@
-use Rattle.std.proofs.Common.{◌≡◌, ◌∙◌, ℕ, ◌-◌, ◌≤◌, List, [], ◌∷◌, length, All, sym, subst, arith}
+use Rattle.std.proofs.Common.{◌≡◌, ◌∙◌, ℕ, ◌+◌, ◌-◌, ◌≤◌, List, [], ◌∷◌, length, All, sym, subst, arith}
 use Rattle.std.specs.Prelude.{MatchOption}
 use Rattle.std.proofs.lemmas.List.{get_or_read, nil_from_length}
 use Rattle.std.proofs.lemmas.Result.{IfOk-weaker}
+use Rattle.list_lemmas.proofs.Gets.{get_part}
+use Rattle.line_simplify.specs.Blocks.{IsCovered}
 use Rattle.road_base.specs.declared.coordinates.Point.{Point}
 use Rattle.line_simplify.specs.Steps.{IsFarthestAt}
 use Rattle.line_simplify.specs.Simplified.{IsSimplified, few, limit_of, offset_of, simplified}
@@ -28,6 +30,14 @@ loop-to-init c =
     let e : c.in_ok-kept.kept.items ≡ x ∷ [] = c.in_ok-kept.ensures.items in
     let i : c.in_ok-ends.ends.items ≡ (length points - 1) ∷ [] = c.in_ok-ends.ensures.items in
     stands-first c.args.tolerance points c.in_ok-kept.kept.items c.in_ok-ends.ends.items x le (get_or_read points 0 x (omega (arith, le)) c.index-points-0.is) e i
+
+-- the points between two ends have the numbers behind the first
+pub farthest-split-requires-clause-covered : goal.farthest-split-requires-clause-covered
+farthest-split-requires-clause-covered c = λ i p at.
+    let next = next-end c.args.tolerance c.args.points.now c.loop-to.kept.items c.loop-to.from c.loop-to.ends.items c.pop.new.self.items c.in-Some.to c.loop-to.invariant c.in-Some.ensures.items in
+    let there = get_part c.args.points.now (c.loop-to.from + 1) c.in-Some.to i p (omega (arith, next.1)) at in
+    let whole : 0 + (c.loop-to.from + 1 + i) ≡ c.loop-to.from + 1 + i = omega arith in
+    subst (λ n. IsCovered c.in_ok-runs.runs n p) whole (c.in_ok-runs.ensures (c.loop-to.from + 1 + i) p there.1)
 
 -- one step more
 pub loop-to-smaller : goal.loop-to-smaller

@@ -3,7 +3,7 @@ use Rattle.std.specs.Int.{int_max, int_min}
 use Rattle.std.proofs.lemmas.List.{take_all}
 use Rattle.road_base.specs.declared.coordinates.Point.{Point}
 use Rattle.line_simplify.specs.Simplified.{greatest_of, least_of}
-use Rattle.line_simplify.proofs.Extents.{reach-more, tolerance-all, tolerance-none}
+use Rattle.line_simplify.proofs.Reaches.{reach-more, tolerance-all, tolerance-none}
 use Rattle.line_simplify.proofs.tolerances.tolerance_of.Goals as goal
 
 pub returns-in_default-clause-value : goal.returns-in_default-clause-value
