@@ -21,7 +21,9 @@ def bodies_of(name):
 
 def copy_to(room, names):
     """Copies the repository's crates, with the wrong bodies of these in the place of all must-fail edits."""
-    shutil.copytree("crates", f"{room}/crates", ignore=shutil.ignore_patterns("out", "must-fail", "wrong-bodies"))
+    # (right below a crate alone: the proof of a call named `out` stands in a folder `out` too)
+    leave = lambda at, parts: {"out", "must-fail", "wrong-bodies"} & {*parts} if os.path.dirname(at) == "crates" else ()
+    shutil.copytree("crates", f"{room}/crates", ignore=leave)
     for it in ("crates.txt", "HANDLES"):
         shutil.copy(it, room)
     for name in names:
