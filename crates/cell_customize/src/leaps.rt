@@ -20,11 +20,19 @@ pub struct Bundle {
 }
 
 /// Hops that are gathered, of those to one head only the cheapest.
-#[derive(Drop)]
 pub struct Gathering<C: Cost> {
     pub hops: Vec<Hop<C>>,
     // by head: where a hop to it may stand
     places: Vec<u32>,
+}
+
+impl<C: Cost> Drop for Gathering<C> {
+    fn drop(self) {
+        let Gathering {
+            hops: _hops,
+            places: _places,
+        } = self;
+    }
 }
 
 impl<C: Cost> Gathering<C> {
@@ -294,11 +302,20 @@ fn mark_all(goals: &mut [bool], numbers: &Numbering, vertices: &[u32])
 ///
 /// A search over them comes to no vertex to which only rows lead, but the goals. It costs 8 bytes a vertex and the size of a
 /// `Hop` a leap.
-#[derive(Drop)]
 pub struct Leaps<C: Cost> {
     pub bundles: Vec<Bundle>,
     pub gathering: Gathering<C>,
     pub goals: Vec<bool>,
+}
+
+impl<C: Cost> Drop for Leaps<C> {
+    fn drop(self) {
+        let Leaps {
+            bundles: _bundles,
+            gathering: _gathering,
+            goals: _goals,
+        } = self;
+    }
 }
 
 impl<C: Cost> Leaps<C> {

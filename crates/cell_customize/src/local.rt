@@ -25,7 +25,6 @@ pub struct Span {
 /// Neighbours in the space are neighbours here too, so a search over it reads memory that lies together. It costs 20
 /// bytes a vertex, the size of a `Hop` an arc, and four bytes a place of a row, where vertices with the same heads share
 /// them.
-#[derive(Drop)]
 pub struct Local<C: Cost> {
     pub numbers: Numbering,
     pub spans: Vec<Span>,
@@ -33,6 +32,18 @@ pub struct Local<C: Cost> {
     pub heads: Vec<u32>,
     // where in `heads` rows begin
     rows: Vec<u32>,
+}
+
+impl<C: Cost> Drop for Local<C> {
+    fn drop(self) {
+        let Local {
+            numbers: _numbers,
+            spans: _spans,
+            hops: _hops,
+            heads: _heads,
+            rows: _rows,
+        } = self;
+    }
 }
 
 impl<C: Cost> Local<C> {

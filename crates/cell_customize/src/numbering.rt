@@ -10,11 +10,19 @@ use std::marker::Model;
 /// Vertices, of which each has its place as its number. None stands twice.
 ///
 /// It costs four bytes for each vertex, and four for each of all vertices once there is room for them.
-#[derive(Drop)]
 pub struct Numbering {
     names: Vec<u32>,
     // at each vertex that has a number, that number; at others anything
     table: Vec<u32>,
+}
+
+impl Drop for Numbering {
+    fn drop(self) {
+        let Numbering {
+            names: _names,
+            table: _table,
+        } = self;
+    }
 }
 
 impl Model for Numbering {

@@ -8,11 +8,20 @@ use search_graph::Cost;
 use std::alloc::Global;
 
 /// What one worker uses again for each cell, and for each of its entries.
-#[derive(Drop)]
 pub struct Scratch<C: Cost> {
     pub local: Local<C>,
     pub leaps: Leaps<C>,
     pub labels: Labels<C>,
+}
+
+impl<C: Cost> Drop for Scratch<C> {
+    fn drop(self) {
+        let Scratch {
+            local: _local,
+            leaps: _leaps,
+            labels: _labels,
+        } = self;
+    }
 }
 
 impl<C: Cost> Scratch<C> {

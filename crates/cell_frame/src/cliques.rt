@@ -14,10 +14,18 @@ use std::marker::Model;
 ///
 /// It costs eight bytes a cell and eight a value, and the size of a `C` more for each cost that isn't short enough for
 /// a word (see `Narrow`).
-#[derive(Drop)]
 pub struct LevelCliques<C: Narrow> {
     first: Vec<usize>,
     values: CostList<C>,
+}
+
+impl<C: Narrow> Drop for LevelCliques<C> {
+    fn drop(self) {
+        let LevelCliques {
+            first: _first,
+            values: _values,
+        } = self;
+    }
 }
 
 impl<C: Narrow> Model for LevelCliques<C> {
@@ -48,9 +56,14 @@ impl<C: Narrow> LevelCliques<C> {
 }
 
 /// The least costs from the entries to the exits of each cell, level by level.
-#[derive(Drop)]
 pub struct Cliques<C: Narrow> {
     levels: Vec<LevelCliques<C>>,
+}
+
+impl<C: Narrow> Drop for Cliques<C> {
+    fn drop(self) {
+        let Cliques { levels: _levels } = self;
+    }
 }
 
 impl<C: Narrow> Model for Cliques<C> {

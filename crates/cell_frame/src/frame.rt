@@ -16,12 +16,22 @@ use std::alloc::{AllocError, Global};
 use std::marker::Model;
 
 /// A graph, its cells, and the entries and exits of each.
-#[derive(Drop)]
 pub struct Frame {
     graph: Graph,
     cells: Cells,
     entries: Vec<Border>,
     exits: Vec<Border>,
+}
+
+impl Drop for Frame {
+    fn drop(self) {
+        let Frame {
+            graph: _graph,
+            cells: _cells,
+            entries: _entries,
+            exits: _exits,
+        } = self;
+    }
 }
 
 impl Model for Frame {

@@ -51,9 +51,14 @@ pub trait Parts {
 }
 
 /// The inside of a cell, over the cells one level down; inside a cell of level 1 each vertex is alone.
-#[derive(Drop)]
 pub struct Below {
     pub cell: Cell,
+}
+
+impl Drop for Below {
+    fn drop(self) {
+        let Below { cell: _cell } = self;
+    }
 }
 
 impl Below {

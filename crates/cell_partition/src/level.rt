@@ -9,11 +9,20 @@ use std::alloc::{AllocError, Global};
 
 /// The cells of one level: the vertices cell by cell, the bounds of the cells among
 /// them, and the cell of each vertex.
-#[derive(Drop)]
 pub struct Level {
     pub order: Vec<u32>,
     pub bounds: Vec<u32>,
     pub numbers: Vec<u32>,
+}
+
+impl Drop for Level {
+    fn drop(self) {
+        let Level {
+            order: _order,
+            bounds: _bounds,
+            numbers: _numbers,
+        } = self;
+    }
 }
 
 impl Level {

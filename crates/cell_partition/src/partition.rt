@@ -11,10 +11,18 @@ use std::marker::Model;
 ///
 /// Each vertex stands in one cell of each level, and two vertices that share a cell
 /// share one of every level above. A level costs eight bytes a vertex and four a cell.
-#[derive(Drop)]
 pub struct Cells {
     pub(crate) vertices: u32,
     pub(crate) levels: Vec<Level>,
+}
+
+impl Drop for Cells {
+    fn drop(self) {
+        let Cells {
+            vertices: _vertices,
+            levels: _levels,
+        } = self;
+    }
 }
 
 impl Model for Cells {

@@ -24,11 +24,20 @@ use weight_changes::changed;
 /// What the vertices and turns of roads cost, with what cheapest walks cost inside each of their cells for
 /// just these costs. Contracts see the costs and the frame; that its cliques are exact for these costs is true
 /// of each metric.
-#[derive(Drop)]
 pub struct Metric {
     roads: Roads,
     base: BaseMetric,
     cliques: Cliques<DurLen>,
+}
+
+impl Drop for Metric {
+    fn drop(self) {
+        let Metric {
+            roads: _roads,
+            base: _base,
+            cliques: _cliques,
+        } = self;
+    }
 }
 
 impl Model for Metric {

@@ -18,10 +18,18 @@ use std::sync::Arc;
 pub const SERVER_LIMITS: [u32; 4] = [256, 4096, 65536, 1048576];
 
 /// A road network with the frame of its graph. Contracts see both.
-#[derive(Drop)]
 pub struct Roads {
     network: Arc<Network>,
     frame: Arc<Frame>,
+}
+
+impl Drop for Roads {
+    fn drop(self) {
+        let Roads {
+            network: _network,
+            frame: _frame,
+        } = self;
+    }
 }
 
 impl Model for Roads {

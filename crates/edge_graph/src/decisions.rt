@@ -17,7 +17,6 @@ use turn_rules::{Rules, Sense};
 pub type Passage = (i64, i64, i64);
 
 /// What the restrictions at the nodes decide: an entry or two for each of their ways.
-#[derive(Drop)]
 pub struct Decisions {
     /// the passages that are forbidden
     pub forbidden: HashSet<Passage>,
@@ -25,6 +24,16 @@ pub struct Decisions {
     pub no_u_turn: HashSet<Passage>,
     /// by node and way, onto which ways all `only_` restrictions there allow to pass it
     pub only: HashMap<(i64, i64), Vec<i64>>,
+}
+
+impl Drop for Decisions {
+    fn drop(self) {
+        let Decisions {
+            forbidden: _forbidden,
+            no_u_turn: _no_u_turn,
+            only: _only,
+        } = self;
+    }
 }
 
 /// Onto which ways a node may be passed from a way.

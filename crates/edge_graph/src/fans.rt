@@ -17,10 +17,18 @@ pub struct Fan {
 
 /// The fans of all nodes. Each vertex has the next one that leaves the same node, in ascending order, or
 /// the number of vertices behind the last.
-#[derive(Drop)]
 pub struct Fans {
     pub next: Vec<u32>,
     pub by_node: HashMap<i64, Fan>,
+}
+
+impl Drop for Fans {
+    fn drop(self) {
+        let Fans {
+            next: _next,
+            by_node: _by_node,
+        } = self;
+    }
 }
 
 /// The fan of a node.

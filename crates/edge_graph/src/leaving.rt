@@ -16,19 +16,35 @@ use std::alloc::{AllocError, Global};
 use std::collections::HashMap;
 
 /// Vertices of one way that leave a node one after the other.
-#[derive(Drop)]
 pub struct Run {
     pub way: i64,
     pub vertices: Vec<u32>,
 }
 
+impl Drop for Run {
+    fn drop(self) {
+        let Run {
+            way: _way,
+            vertices: _vertices,
+        } = self;
+    }
+}
+
 /// The permitted vertices that leave the nodes where restrictions apply, in ascending order.
-#[derive(Drop)]
 pub struct Leaving {
     /// by node, all of them
     pub runs: HashMap<i64, Vec<Run>>,
     /// by node and way, those of the way
     pub groups: HashMap<(i64, i64), Vec<u32>>,
+}
+
+impl Drop for Leaving {
+    fn drop(self) {
+        let Leaving {
+            runs: _runs,
+            groups: _groups,
+        } = self;
+    }
 }
 
 // The last run if it is of this way, taken off, or else a new one.

@@ -35,7 +35,6 @@ use way_profile::Profile;
 
 /// The road network of one vehicle. Contracts see the segments, the turns, the vehicle's profile, and how
 /// many turn restrictions apply and how many are ignored.
-#[derive(Drop)]
 pub struct Network {
     roads: Roads,
     exits: Vec<u32>,
@@ -43,6 +42,19 @@ pub struct Network {
     profile: Profile,
     applied: u64,
     ignored: u64,
+}
+
+impl Drop for Network {
+    fn drop(self) {
+        let Network {
+            roads: _roads,
+            exits: _exits,
+            graph: _graph,
+            profile: _profile,
+            applied: _applied,
+            ignored: _ignored,
+        } = self;
+    }
 }
 
 impl Model for Network {

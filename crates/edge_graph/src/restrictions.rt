@@ -18,13 +18,24 @@ use turn_rules::Rules;
 
 /// The turn restrictions that apply in a network: an entry or two for each of their ways beside the
 /// restrictions of the map. Contracts see the rules that apply, and how many others are ignored.
-#[derive(Drop)]
 pub struct Restrictions {
     rules: Rules,
     applies: Vec<bool>,
     nodes: HashSet<i64>,
     decisions: Decisions,
     ignored: u64,
+}
+
+impl Drop for Restrictions {
+    fn drop(self) {
+        let Restrictions {
+            rules: _rules,
+            applies: _applies,
+            nodes: _nodes,
+            decisions: _decisions,
+            ignored: _ignored,
+        } = self;
+    }
 }
 
 impl Model for Restrictions {

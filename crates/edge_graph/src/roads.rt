@@ -27,10 +27,18 @@ pub struct Row {
 
 /// The segments of a network: 40 bytes each, and those of a street its name and its use once.
 /// Contracts see the list of segments.
-#[derive(Drop)]
 pub struct Roads {
     streets: Vec<Street>,
     rows: Vec<Row>,
+}
+
+impl Drop for Roads {
+    fn drop(self) {
+        let Roads {
+            streets: _streets,
+            rows: _rows,
+        } = self;
+    }
 }
 
 impl Model for Roads {

@@ -3,7 +3,6 @@
 use road_base::Text;
 
 /// A way that the vehicle may use in some direction, as its segments know it.
-#[derive(Drop)]
 pub struct Street {
     /// the way's id
     pub way: i64,
@@ -15,4 +14,16 @@ pub struct Street {
     pub forward: bool,
     /// against it
     pub backward: bool,
+}
+
+impl Drop for Street {
+    fn drop(self) {
+        let Street {
+            way: _way,
+            name: _name,
+            speed: _speed,
+            forward: _forward,
+            backward: _backward,
+        } = self;
+    }
 }

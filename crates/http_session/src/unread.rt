@@ -8,10 +8,18 @@ use std::marker::Model;
 
 /// Bytes that were taken and are not yet read: at most 8192, as many as a head may have. Contracts see the
 /// list of them. It takes no memory but its own.
-#[derive(Drop)]
 pub struct Unread {
     bytes: [u8; 8192],
     held: usize,
+}
+
+impl Drop for Unread {
+    fn drop(self) {
+        let Unread {
+            bytes: _bytes,
+            held: _held,
+        } = self;
+    }
 }
 
 impl Model for Unread {

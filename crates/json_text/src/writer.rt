@@ -18,13 +18,23 @@ use std::marker::Model;
 /// A legal order of calls: one value comes first of all; in a list any values; in an object, keys
 /// with one value behind each; an end only where its own container is the innermost open one, and
 /// not behind a key. An `Err` is want of memory and leaves the text as it was.
-#[derive(Drop)]
 pub struct Json {
     alloc: Global,
     out: String,
     // the innermost container is the last
     containers: Vec<Container>,
     latest: Last,
+}
+
+impl Drop for Json {
+    fn drop(self) {
+        let Json {
+            alloc: _alloc,
+            out: _out,
+            containers: _containers,
+            latest: _latest,
+        } = self;
+    }
 }
 
 impl Model for Json {
@@ -74,8 +84,13 @@ impl Json {
         ensures value { string_bytes result ≡ self.bytes }
         ensures finished { IsFinished self → (v : JsonValue) × (string_bytes result ≡ compact_text v) }
     {
-        let Json { out, .. } = self;
-        out
+        let Json {
+            alloc: _alloc,
+            out: text,
+            containers: _containers,
+            latest: _latest,
+        } = self;
+        text
     }
 
     /// Begins an object.

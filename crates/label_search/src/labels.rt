@@ -16,11 +16,19 @@ use step_search::{Queue, Steps};
 ///
 /// A label only falls. An entry of the queue whose vertex's label has fallen since is passed over. It costs the size of
 /// an `Option<C>` a vertex, and that of a `C` and eight bytes more an entry of the queue.
-#[derive(Drop)]
 pub struct Labels<C: Cost> {
     /// By vertex: its label, if a way to it was found.
     pub costs: Vec<Option<C>>,
     queue: Queue<C>,
+}
+
+impl<C: Cost> Drop for Labels<C> {
+    fn drop(self) {
+        let Labels {
+            costs: _costs,
+            queue: _queue,
+        } = self;
+    }
 }
 
 impl<C: Cost> Labels<C> {

@@ -1,8 +1,8 @@
 //! Answers the lines of an input, one reply a line: a target under the last published metric, traffic files by
 //! publishing their metric. How the input is cut into pieces makes no difference. `specs/` is to be read in this
 //! order: `Publication` (what is published, and what comes of traffic files), `Traffic` (which lines name them),
-//! `Told` (what is told of an input), `Growing` and `Stopping` (what a call leaves). The tests are those of
-//! `road_router`.
+//! `Told` (what is told of an input), `Growing` and `Stopping` (what a call leaves). The tests are in
+//! `worked_runs`.
 #![tactic(auto)]
 
 mod asking;

@@ -14,11 +14,20 @@ use road_base::Point;
 use std::alloc::{AllocError, Global};
 
 /// The extents of each 16, 256 and 4096 points: 1.07 bytes a point.
-#[derive(Drop)]
 pub(crate) struct Blocks {
     pub(crate) leaves: Vec<Extent>,
     pub(crate) blocks: Vec<Extent>,
     pub(crate) groups: Vec<Extent>,
+}
+
+impl Drop for Blocks {
+    fn drop(self) {
+        let Blocks {
+            leaves: _leaves,
+            blocks: _blocks,
+            groups: _groups,
+        } = self;
+    }
 }
 
 impl Blocks {

@@ -19,10 +19,18 @@ use traffic_files::{SpeedRow, TurnRow};
 
 /// What each vertex and each turn of a network costs: 8 bytes a vertex and 8 bytes a turn, as long as a
 /// duration is below 2^31 deciseconds and a length below 2^32 decimetres. Each cost is within one unit, 2^32 of both.
-#[derive(Drop)]
 pub struct BaseMetric {
     weights: Weights<DurLen>,
     unmatched: u64,
+}
+
+impl Drop for BaseMetric {
+    fn drop(self) {
+        let BaseMetric {
+            weights: _weights,
+            unmatched: _unmatched,
+        } = self;
+    }
 }
 
 impl Model for BaseMetric {

@@ -102,11 +102,20 @@ impl KindIds {
 }
 
 // The ids seen so far, by kind.
-#[derive(Drop)]
 pub(crate) struct SeenIds {
     nodes: KindIds,
     ways: KindIds,
     relations: KindIds,
+}
+
+impl Drop for SeenIds {
+    fn drop(self) {
+        let SeenIds {
+            nodes: _nodes,
+            ways: _ways,
+            relations: _relations,
+        } = self;
+    }
 }
 
 impl SeenIds {

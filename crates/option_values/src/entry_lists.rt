@@ -8,9 +8,15 @@ use std::marker::Model;
 
 /// How far from each coordinate a road may be at most, in decimetres, `None` where it may be at any distance.
 /// Contracts see a list.
-#[derive(Drop, Debug)]
+#[derive(Debug)]
 pub struct Radiuses {
     inner: Vec<Option<u64>>,
+}
+
+impl Drop for Radiuses {
+    fn drop(self) {
+        let Radiuses { inner: _inner } = self;
+    }
 }
 
 impl Model for Radiuses {
@@ -38,9 +44,15 @@ impl Radiuses {
 }
 
 /// From where each coordinate is to be passed, `None` where from anywhere. Contracts see a list.
-#[derive(Drop, Debug)]
+#[derive(Debug)]
 pub struct Bearings {
     inner: Vec<Option<Bearing>>,
+}
+
+impl Drop for Bearings {
+    fn drop(self) {
+        let Bearings { inner: _inner } = self;
+    }
 }
 
 impl Model for Bearings {
@@ -70,9 +82,15 @@ impl Bearings {
 
 /// On which side of the road each coordinate is to be reached, `None` where nothing is asked. Contracts see a
 /// list.
-#[derive(Drop, Debug)]
+#[derive(Debug)]
 pub struct Approaches {
     inner: Vec<Option<Approach>>,
+}
+
+impl Drop for Approaches {
+    fn drop(self) {
+        let Approaches { inner: _inner } = self;
+    }
 }
 
 impl Model for Approaches {
@@ -101,9 +119,15 @@ impl Approaches {
 }
 
 /// A text for each coordinate, empty where none is given; nothing reads them. Contracts see a list of texts.
-#[derive(Drop, Debug)]
+#[derive(Debug)]
 pub struct Hints {
     inner: Vec<Text>,
+}
+
+impl Drop for Hints {
+    fn drop(self) {
+        let Hints { inner: _inner } = self;
+    }
 }
 
 impl Model for Hints {
@@ -131,9 +155,15 @@ impl Hints {
 }
 
 /// Numbers of coordinates, from 0, in the order in which they stand. Contracts see a list.
-#[derive(Drop, Debug)]
+#[derive(Debug)]
 pub struct Indexes {
     inner: Vec<u32>,
+}
+
+impl Drop for Indexes {
+    fn drop(self) {
+        let Indexes { inner: _inner } = self;
+    }
 }
 
 impl Model for Indexes {

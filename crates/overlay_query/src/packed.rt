@@ -15,9 +15,14 @@ pub struct Hop {
 }
 
 /// A list of hops, which contracts see as that list.
-#[derive(Drop)]
 pub struct Hops {
     hops: Vec<Hop>,
+}
+
+impl Drop for Hops {
+    fn drop(self) {
+        let Hops { hops: _hops } = self;
+    }
 }
 
 impl Model for Hops {
@@ -46,12 +51,20 @@ impl Hops {
 }
 
 /// A walk whose hops are arcs and shortcuts. A shortcut stands for a cheapest walk inside its cell.
-#[derive(Drop)]
 pub struct PackedWalk {
     /// the vertex at which it begins
     pub first: u32,
     /// the hops from there, one or more; the last is an arc
     pub hops: Hops,
+}
+
+impl Drop for PackedWalk {
+    fn drop(self) {
+        let PackedWalk {
+            first: _first,
+            hops: _hops,
+        } = self;
+    }
 }
 
 /// A cheapest walk to a target, packed.

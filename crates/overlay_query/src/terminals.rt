@@ -12,7 +12,6 @@ use std::marker::Model;
 /// The parts of a query, as `cell_frame::Terminals` has them: at each vertex its highest cell that holds no terminal, or
 /// else the vertex alone. A search asks for them at each vertex and arc that it meets, so the cells that hold a terminal
 /// are marked once, before it begins: a byte for each cell.
-#[derive(Drop)]
 pub struct TerminalCells {
     /// the terminals
     pub vertices: Vec<u32>,
@@ -20,10 +19,24 @@ pub struct TerminalCells {
     pub levels: Vec<CellMarks>,
 }
 
+impl Drop for TerminalCells {
+    fn drop(self) {
+        let TerminalCells {
+            vertices: _vertices,
+            levels: _levels,
+        } = self;
+    }
+}
+
 /// Whether each cell of a level holds a terminal. Contracts see the list, by the cells' numbers.
-#[derive(Drop)]
 pub struct CellMarks {
     marks: Vec<bool>,
+}
+
+impl Drop for CellMarks {
+    fn drop(self) {
+        let CellMarks { marks: _marks } = self;
+    }
 }
 
 impl Model for CellMarks {

@@ -28,9 +28,15 @@ impl<T: Drop> From<AllocFailed<T>> for ReplyFault {
 }
 
 /// A list of places.
-#[derive(Drop, Debug)]
+#[derive(Debug)]
 pub struct Places {
     inner: Vec<Place>,
+}
+
+impl Drop for Places {
+    fn drop(self) {
+        let Places { inner: _inner } = self;
+    }
 }
 
 impl Model for Places {
@@ -59,9 +65,14 @@ impl Places {
 }
 
 /// A list of walks.
-#[derive(Drop)]
 pub struct Walks {
     inner: Vec<Walk>,
+}
+
+impl Drop for Walks {
+    fn drop(self) {
+        let Walks { inner: _inner } = self;
+    }
 }
 
 impl Model for Walks {

@@ -77,10 +77,18 @@ pub(crate) fn table_answer(
 }
 
 // The chosen coordinates of a request, and their places.
-#[derive(Drop)]
 struct Ends {
     coordinates: Vec<Point>,
     places: Vec<Place>,
+}
+
+impl Drop for Ends {
+    fn drop(self) {
+        let Ends {
+            coordinates: _coordinates,
+            places: _places,
+        } = self;
+    }
 }
 
 // Those that are chosen of the coordinates of a request, which have these places.

@@ -5,9 +5,15 @@ ghost use Rattle.std.specs.Prelude.{◌≡◌};
 use std::marker::Model;
 
 /// Ids of OpenStreetMap objects in order, which contracts see as a list.
-#[derive(Drop, Debug)]
+#[derive(Debug)]
 pub struct Ids {
     inner: Vec<i64>,
+}
+
+impl Drop for Ids {
+    fn drop(self) {
+        let Ids { inner: _inner } = self;
+    }
 }
 
 impl Model for Ids {
@@ -37,6 +43,7 @@ impl Ids {
     pub fn into_vec(self) -> Vec<i64>
         ensures { result.items ≡ self }
     {
-        self.inner
+        let Ids { inner } = self;
+        inner
     }
 }

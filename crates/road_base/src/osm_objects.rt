@@ -26,9 +26,15 @@ pub struct Member {
 }
 
 /// The members of a relation in order, which contracts see as a list.
-#[derive(Drop, Debug)]
+#[derive(Debug)]
 pub struct Members {
     inner: Vec<Member>,
+}
+
+impl Drop for Members {
+    fn drop(self) {
+        let Members { inner: _inner } = self;
+    }
 }
 
 impl Model for Members {
@@ -59,7 +65,8 @@ impl Members {
     pub fn into_vec(self) -> Vec<Member>
         ensures { result.items ≡ self }
     {
-        self.inner
+        let Members { inner } = self;
+        inner
     }
 }
 

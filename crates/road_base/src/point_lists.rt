@@ -6,9 +6,15 @@ use crate::coordinates::Point;
 use std::marker::Model;
 
 /// Points on the Earth in order, which contracts see as a list.
-#[derive(Drop, Debug)]
+#[derive(Debug)]
 pub struct Points {
     inner: Vec<Point>,
+}
+
+impl Drop for Points {
+    fn drop(self) {
+        let Points { inner: _inner } = self;
+    }
 }
 
 impl Model for Points {
@@ -39,6 +45,7 @@ impl Points {
     pub fn into_vec(self) -> Vec<Point>
         ensures { result.items ≡ self }
     {
-        self.inner
+        let Points { inner } = self;
+        inner
     }
 }

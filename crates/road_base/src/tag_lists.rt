@@ -14,11 +14,17 @@ const END: u8 = 255;
 
 /// The tags of an object, each a key and a value, in the order in which they were written. Contracts
 /// see the list of the pairs of their bytes.
-#[derive(Drop, Debug)]
+#[derive(Debug)]
 pub struct Tags {
     // The keys and values in turn, an `END` behind each: most objects have few and short ones, and
     // a map has many objects.
     bytes: Vec<u8>,
+}
+
+impl Drop for Tags {
+    fn drop(self) {
+        let Tags { bytes: _bytes } = self;
+    }
 }
 
 impl Model for Tags {

@@ -6,9 +6,15 @@ use std::alloc::{AllocError, Global};
 use std::marker::Model;
 
 /// A text of its own, which contracts see as its bytes in UTF-8.
-#[derive(Drop, Debug)]
+#[derive(Debug)]
 pub struct Text {
     inner: String,
+}
+
+impl Drop for Text {
+    fn drop(self) {
+        let Text { inner: _inner } = self;
+    }
 }
 
 impl Model for Text {
@@ -53,6 +59,7 @@ impl Text {
     pub fn into_string(self) -> String
         ensures { string_bytes result ≡ self }
     {
-        self.inner
+        let Text { inner } = self;
+        inner
     }
 }

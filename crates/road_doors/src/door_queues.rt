@@ -10,7 +10,6 @@ use std::marker::Model;
 
 /// A door in memory: the connections that it was made with come through it in order, and it has the room to
 /// take all of them back. It ends by itself once they are used up.
-#[derive(Drop)]
 pub struct QueueDoor<C: Conn> {
     // the connections to come, the last one first
     waiting: Vec<C>,
@@ -20,6 +19,20 @@ pub struct QueueDoor<C: Conn> {
     given: usize,
     ended: bool,
     faults: u64,
+}
+
+impl<C: Conn + Drop> Drop for QueueDoor<C> {
+    fn drop(self) {
+        let QueueDoor {
+            waiting: _waiting,
+            done: _done,
+            failing: _failing,
+            calls: _calls,
+            given: _given,
+            ended: _ended,
+            faults: _faults,
+        } = self;
+    }
 }
 
 impl<C: Conn> Model for QueueDoor<C> {

@@ -46,10 +46,18 @@ impl Asking {
 }
 
 /// The doors of one opening, as they came back.
-#[derive(Drop)]
 pub struct Returned<C: Conn> {
     queries: Vec<QueueDoor<C>>,
     control: QueueDoor<C>,
+}
+
+impl<C: Conn + Drop> Drop for Returned<C> {
+    fn drop(self) {
+        let Returned {
+            queries: _queries,
+            control: _control,
+        } = self;
+    }
 }
 
 impl<C: Conn> Model for Returned<C> {
@@ -98,7 +106,6 @@ fn any_fault<C: Conn>(doors: &[QueueDoor<C>]) -> bool
 /// Doors in memory, which were made beforehand: an opening gives as many of the query doors as it asks for,
 /// the first ones first, and the control door. Where too few are left, doors that no connection comes through
 /// stand in their places. It has the room for all that come back.
-#[derive(Drop)]
 pub struct MemDoors<C: Conn> {
     queries: Vec<QueueDoor<C>>,
     control: Option<QueueDoor<C>>,
@@ -109,6 +116,22 @@ pub struct MemDoors<C: Conn> {
     out: usize,
     back: Vec<Returned<C>>,
     faults: u64,
+}
+
+impl<C: Conn + Drop> Drop for MemDoors<C> {
+    fn drop(self) {
+        let MemDoors {
+            queries: _queries,
+            control: _control,
+            failing: _failing,
+            calls: _calls,
+            opened: _opened,
+            failed: _failed,
+            out: _out,
+            back: _back,
+            faults: _faults,
+        } = self;
+    }
 }
 
 impl<C: Conn> Model for MemDoors<C> {

@@ -6,9 +6,16 @@ use search_graph::DurLen;
 use std::marker::Model;
 
 /// The vertices of a walk, in their order: each is a segment in one direction. Contracts see the list.
-#[derive(Drop)]
 pub struct Walk {
     vertices: Vec<u32>,
+}
+
+impl Drop for Walk {
+    fn drop(self) {
+        let Walk {
+            vertices: _vertices,
+        } = self;
+    }
 }
 
 impl Model for Walk {

@@ -9,9 +9,14 @@ use table_query::Row;
 
 /// A table of costs: a row for each source, and in it a cost for each destination, or None. Contracts see the
 /// list of the rows, each as the list of its values.
-#[derive(Drop)]
 pub struct Rows {
     rows: Vec<Row<DurLen>>,
+}
+
+impl Drop for Rows {
+    fn drop(self) {
+        let Rows { rows: _rows } = self;
+    }
 }
 
 impl Model for Rows {

@@ -9,11 +9,19 @@ use road_base::Text;
 use std::alloc::{AllocError, Global};
 
 /// The status and the body of a reply.
-#[derive(Drop)]
 pub struct Said {
     /// 200, 400 or 503
     pub status: u32,
     pub body: Text,
+}
+
+impl Drop for Said {
+    fn drop(self) {
+        let Said {
+            status: _status,
+            body: _body,
+        } = self;
+    }
 }
 
 /// What answers targets under a publication.

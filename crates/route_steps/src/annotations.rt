@@ -15,12 +15,20 @@ use road_base::{Ids, Place};
 use std::alloc::{AllocError, Global};
 
 /// What a walk pays and which nodes it passes.
-#[derive(Drop)]
 pub struct Annotation {
     /// for each vertex what the walk pays of it, turns not counted
     pub paid: Costs,
     /// the id of the node where the first vertex begins, and of that where each vertex ends
     pub nodes: Ids,
+}
+
+impl Drop for Annotation {
+    fn drop(self) {
+        let Annotation {
+            paid: _paid,
+            nodes: _nodes,
+        } = self;
+    }
 }
 
 /// What a permitted walk from one place to another pays at each of its vertices, and the nodes along it. With

@@ -29,6 +29,3 @@ pub use speeds::speed;
 pub use step_lists::{Step, Steps};
 pub use walk_points::leg_points;
 pub use walk_steps::steps;
-
-#[cfg(test)]
-mod tests;

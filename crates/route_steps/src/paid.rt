@@ -13,9 +13,14 @@ use std::alloc::{AllocError, Global};
 use std::marker::Model;
 
 /// Costs in their order, which contracts see as a list.
-#[derive(Drop)]
 pub struct Costs {
     costs: Vec<DurLen>,
+}
+
+impl Drop for Costs {
+    fn drop(self) {
+        let Costs { costs: _costs } = self;
+    }
 }
 
 impl Model for Costs {

@@ -9,7 +9,6 @@ use std::marker::Model;
 
 /// A part of a walk, from where the driver is told what to do to where that comes next: what it costs, the points
 /// along it, the name of the road (empty where it has none), and what is told at its begin.
-#[derive(Drop)]
 pub struct Step {
     pub cost: DurLen,
     pub points: Points,
@@ -17,10 +16,26 @@ pub struct Step {
     pub maneuver: Maneuver,
 }
 
+impl Drop for Step {
+    fn drop(self) {
+        let Step {
+            cost: _cost,
+            points: _points,
+            name: _name,
+            maneuver: _maneuver,
+        } = self;
+    }
+}
+
 /// Steps in their order, which contracts see as a list.
-#[derive(Drop)]
 pub struct Steps {
     inner: Vec<Step>,
+}
+
+impl Drop for Steps {
+    fn drop(self) {
+        let Steps { inner: _inner } = self;
+    }
 }
 
 impl Model for Steps {

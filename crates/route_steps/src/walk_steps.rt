@@ -27,11 +27,20 @@ use search_graph::{Cost, DurLen};
 use std::alloc::{AllocError, Global};
 
 // The points of a walk, and what it pays at its vertices and at its turns.
-#[derive(Drop)]
 struct Course {
     points: Points,
     paid: Costs,
     turns: Costs,
+}
+
+impl Drop for Course {
+    fn drop(self) {
+        let Course {
+            points: _points,
+            paid: _paid,
+            turns: _turns,
+        } = self;
+    }
 }
 
 // All these costs together.

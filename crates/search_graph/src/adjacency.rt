@@ -44,7 +44,6 @@ impl<T: Drop> From<AllocFailed<T>> for GraphFault {
 }
 
 // The arcs, and the index of their tails.
-#[derive(Drop)]
 struct Adjacency {
     arcs: Vec<(u32, u32)>,
     first: Vec<u32>,
@@ -52,14 +51,32 @@ struct Adjacency {
     order: Vec<u32>,
 }
 
+impl Drop for Adjacency {
+    fn drop(self) {
+        let Adjacency {
+            arcs: _arcs,
+            first: _first,
+            order: _order,
+        } = self;
+    }
+}
+
 /// A directed graph whose vertices are numbered from 0: the arcs that it was made of, in their order.
 ///
 /// It costs 4 bytes a vertex and 8 bytes an arc, and 4 bytes an arc more where the arcs don't come sorted by
 /// their tails. Copies share one memory.
-#[derive(Drop)]
 pub struct Graph {
     vertices: u32,
     shared: Arc<Adjacency>,
+}
+
+impl Drop for Graph {
+    fn drop(self) {
+        let Graph {
+            vertices: _vertices,
+            shared: _shared,
+        } = self;
+    }
 }
 
 impl Model for Graph {

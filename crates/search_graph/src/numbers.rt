@@ -5,9 +5,14 @@ ghost use Rattle.std.specs.Prelude.{◌≡◌};
 use std::marker::Model;
 
 /// A list of vertices, which contracts see as that list.
-#[derive(Drop)]
 pub struct Numbers {
     numbers: Vec<u32>,
+}
+
+impl Drop for Numbers {
+    fn drop(self) {
+        let Numbers { numbers: _numbers } = self;
+    }
 }
 
 impl Model for Numbers {
@@ -37,6 +42,7 @@ impl Numbers {
     pub fn into_vec(self) -> Vec<u32>
         ensures { result.items ≡ self }
     {
-        self.numbers
+        let Numbers { numbers } = self;
+        numbers
     }
 }

@@ -14,10 +14,18 @@ use std::marker::Model;
 ///
 /// It costs eight bytes a vertex and eight an arc, and the size of a `C` more for each cost that isn't short
 /// enough for a word (see `Narrow`).
-#[derive(Drop)]
 pub struct Weights<C: Narrow> {
     vertex: CostList<C>,
     arc: FullCostList<C>,
+}
+
+impl<C: Narrow> Drop for Weights<C> {
+    fn drop(self) {
+        let Weights {
+            vertex: _vertex,
+            arc: _arc,
+        } = self;
+    }
 }
 
 impl<C: Narrow> Model for Weights<C> {

@@ -19,10 +19,18 @@ pub struct SegmentEnds {
 
 /// Where the segments of a network lie, and an index of them: 21.1 bytes a segment, and 16 more while it is made.
 /// Contracts see the list of their ends.
-#[derive(Drop)]
 pub struct Grid {
     ends: Vec<SegmentEnds>,
     index: Index,
+}
+
+impl Drop for Grid {
+    fn drop(self) {
+        let Grid {
+            ends: _ends,
+            index: _index,
+        } = self;
+    }
 }
 
 impl Model for Grid {

@@ -18,12 +18,22 @@ use std::alloc::{AllocError, Global};
 
 /// The segments in an order, and the extents of 16, of 256 and of 4096 that stand in it one behind another: 5.07 bytes
 /// a segment.
-#[derive(Drop)]
 pub(crate) struct Index {
     pub(crate) order: Vec<u32>,
     pub(crate) leaves: Vec<Extent>,
     pub(crate) blocks: Vec<Extent>,
     pub(crate) groups: Vec<Extent>,
+}
+
+impl Drop for Index {
+    fn drop(self) {
+        let Index {
+            order: _order,
+            leaves: _leaves,
+            blocks: _blocks,
+            groups: _groups,
+        } = self;
+    }
 }
 
 impl Index {

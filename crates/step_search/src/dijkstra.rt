@@ -36,12 +36,22 @@ pub struct Node<C> {
 }
 
 /// A search under way.
-#[derive(Drop)]
 pub struct Search<C: Cost> {
     tree: Vec<Node<C>>,
     labels: Labels<C>,
     queue: Queue<C>,
     rows: RowLabels<C>,
+}
+
+impl<C: Cost> Drop for Search<C> {
+    fn drop(self) {
+        let Search {
+            tree: _tree,
+            labels: _labels,
+            queue: _queue,
+            rows: _rows,
+        } = self;
+    }
 }
 
 impl<C: Cost> Search<C> {

@@ -25,9 +25,14 @@ pub enum Slot<C> {
 }
 
 /// The labels by vertex.
-#[derive(Drop)]
 pub struct Labels<C> {
     pages: Pages<C>,
+}
+
+impl<C: Drop> Drop for Labels<C> {
+    fn drop(self) {
+        let Labels { pages: _pages } = self;
+    }
 }
 
 impl<C> Model for Labels<C> {

@@ -17,7 +17,6 @@ const PAGE: usize = 64;
 const UNMADE: u32 = u32::MAX;
 
 /// The slots by vertex.
-#[derive(Drop)]
 pub struct Pages<C> {
     // the place of each page among those that are made, by the page's number
     table: Vec<u32>,
@@ -25,6 +24,16 @@ pub struct Pages<C> {
     arena: Vec<Slot<C>>,
     // the numbers of the pages that are made, by their places; a number comes before its page
     touched: Vec<u32>,
+}
+
+impl<C: Drop> Drop for Pages<C> {
+    fn drop(self) {
+        let Pages {
+            table: _table,
+            arena: _arena,
+            touched: _touched,
+        } = self;
+    }
 }
 
 impl<C> Model for Pages<C> {

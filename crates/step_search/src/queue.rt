@@ -13,11 +13,16 @@ use std::collections::BinaryHeap;
 use std::marker::Model;
 
 /// Entries of a key and a vertex, a vertex perhaps in several of them.
-#[derive(Drop)]
 pub struct Queue<C: Cost> {
     // A vertex takes eight bytes, so that an entry is read back as it was written: with four unused ones that were written
     // apart, a processor would wait for them at each push.
     heap: BinaryHeap<(Reverse<C>, u64)>,
+}
+
+impl<C: Cost> Drop for Queue<C> {
+    fn drop(self) {
+        let Queue { heap: _heap } = self;
+    }
 }
 
 impl<C: Cost> Model for Queue<C> {

@@ -12,9 +12,14 @@ use std::alloc::{AllocError, Global};
 use std::marker::Model;
 
 /// The values of a row's places, or none until an offer goes along the row.
-#[derive(Drop)]
 pub struct Block<C> {
     values: Vec<Option<C>>,
+}
+
+impl<C: Drop> Drop for Block<C> {
+    fn drop(self) {
+        let Block { values: _values } = self;
+    }
 }
 
 impl<C> Model for Block<C> {
@@ -26,9 +31,14 @@ impl<C> Model for Block<C> {
 }
 
 /// The blocks of a level, by the numbers of its rows.
-#[derive(Drop)]
 pub struct Level<C> {
     blocks: Vec<Block<C>>,
+}
+
+impl<C: Drop> Drop for Level<C> {
+    fn drop(self) {
+        let Level { blocks: _blocks } = self;
+    }
 }
 
 impl<C> Model for Level<C> {
@@ -40,12 +50,21 @@ impl<C> Model for Level<C> {
 }
 
 /// The blocks of all levels.
-#[derive(Drop)]
 pub struct Rows<C> {
     alloc: Global,
     levels: Vec<Level<C>>,
     // the names of the rows whose blocks have values; a name comes before its block
     touched: Vec<(u32, u32)>,
+}
+
+impl<C: Drop> Drop for Rows<C> {
+    fn drop(self) {
+        let Rows {
+            alloc: _alloc,
+            levels: _levels,
+            touched: _touched,
+        } = self;
+    }
 }
 
 impl<C> Model for Rows<C> {
@@ -60,10 +79,18 @@ impl<C> Model for Rows<C> {
 }
 
 /// What the offers along each row have cost so far, and the places where the last offers improved that.
-#[derive(Drop)]
 pub struct RowLabels<C> {
     pub rows: Rows<C>,
     pub improved: Vec<usize>,
+}
+
+impl<C: Drop> Drop for RowLabels<C> {
+    fn drop(self) {
+        let RowLabels {
+            rows: _rows,
+            improved: _improved,
+        } = self;
+    }
 }
 
 impl<C: Copy> Block<C> {

@@ -6,9 +6,14 @@ use search_graph::{Start, Target};
 use std::marker::Model;
 
 /// Where the walks of a row may begin. Contracts see the list.
-#[derive(Drop)]
 pub struct Starts<C> {
     starts: Vec<Start<C>>,
+}
+
+impl<C: Drop> Drop for Starts<C> {
+    fn drop(self) {
+        let Starts { starts: _starts } = self;
+    }
 }
 
 impl<C> Model for Starts<C> {
@@ -37,9 +42,14 @@ impl<C> Starts<C> {
 }
 
 /// Where the walks of a column may end. Contracts see the list.
-#[derive(Drop)]
 pub struct Targets<C> {
     targets: Vec<Target<C>>,
+}
+
+impl<C: Drop> Drop for Targets<C> {
+    fn drop(self) {
+        let Targets { targets: _targets } = self;
+    }
 }
 
 impl<C> Model for Targets<C> {
@@ -68,9 +78,14 @@ impl<C> Targets<C> {
 }
 
 /// A row of a table: a cost for each column, or None. Contracts see the list.
-#[derive(Drop)]
 pub struct Row<C> {
     values: Vec<Option<C>>,
+}
+
+impl<C: Drop> Drop for Row<C> {
+    fn drop(self) {
+        let Row { values: _values } = self;
+    }
 }
 
 impl<C> Model for Row<C> {

@@ -10,7 +10,7 @@ use std::alloc::{AllocError, Global};
 use std::marker::Model;
 
 /// A turn restriction: 48 bytes, and 8 for each way. Contracts see the rule.
-#[derive(Drop, Debug)]
+#[derive(Debug)]
 pub struct Restriction {
     via: i64,
     /// the `from` ways, and behind them the `to` ways
@@ -18,6 +18,17 @@ pub struct Restriction {
     /// how many of the ways are `from` ways
     entries: usize,
     sense: Sense,
+}
+
+impl Drop for Restriction {
+    fn drop(self) {
+        let Restriction {
+            via: _via,
+            ways: _ways,
+            entries: _entries,
+            sense: _sense,
+        } = self;
+    }
 }
 
 impl Model for Restriction {

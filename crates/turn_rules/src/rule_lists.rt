@@ -10,10 +10,19 @@ use std::marker::Model;
 
 /// The turn restrictions of a map that one vehicle has to obey, and how many others are ignored. Contracts
 /// see the rules and that number.
-#[derive(Drop, Debug)]
+#[derive(Debug)]
 pub struct Rules {
     kept: Vec<Restriction>,
     ignored: u64,
+}
+
+impl Drop for Rules {
+    fn drop(self) {
+        let Rules {
+            kept: _kept,
+            ignored: _ignored,
+        } = self;
+    }
 }
 
 impl Model for Rules {

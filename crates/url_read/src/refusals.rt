@@ -27,10 +27,19 @@ pub enum RefusalCode {
 
 /// A refusal: its code, and a message that names the place of the fault. A name in it stands as the
 /// target has it, whatever its characters are.
-#[derive(Drop, Debug)]
+#[derive(Debug)]
 pub struct Refusal {
     pub code: RefusalCode,
     pub message: Text,
+}
+
+impl Drop for Refusal {
+    fn drop(self) {
+        let Refusal {
+            code: _code,
+            message: _message,
+        } = self;
+    }
 }
 
 /// Why there is no request.

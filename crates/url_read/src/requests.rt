@@ -8,7 +8,7 @@ use road_base::Points;
 
 /// A request: its coordinates, and the value of each option that a target of its service may have, the default
 /// where the target has none.
-#[derive(Drop, Debug)]
+#[derive(Debug)]
 pub struct Request {
     pub points: Points,
     /// The service that is asked, with its own options.
@@ -28,6 +28,23 @@ pub struct Request {
     pub snapping: Snapping,
     /// The least number that the metric of the reply may have.
     pub since: u32,
+}
+
+impl Drop for Request {
+    fn drop(self) {
+        let Request {
+            points: _points,
+            service: _service,
+            radiuses: _radiuses,
+            bearings: _bearings,
+            approaches: _approaches,
+            hints: _hints,
+            generate_hints: _generate_hints,
+            skip_waypoints: _skip_waypoints,
+            snapping: _snapping,
+            since: _since,
+        } = self;
+    }
 }
 
 /// A service with the options that it alone has.
@@ -53,11 +70,21 @@ pub struct RouteOptions {
 }
 
 /// The options of `table`.
-#[derive(Drop, Debug)]
+#[derive(Debug)]
 pub struct TableOptions {
     pub sources: Chosen,
     pub destinations: Chosen,
     pub annotations: TableAnnotations,
+}
+
+impl Drop for TableOptions {
+    fn drop(self) {
+        let TableOptions {
+            sources: _sources,
+            destinations: _destinations,
+            annotations: _annotations,
+        } = self;
+    }
 }
 
 /// The options of `nearest`.

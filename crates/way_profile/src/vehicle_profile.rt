@@ -24,7 +24,7 @@ use toml::Table;
 /// What a settings file says of one vehicle. Contracts see its name, its vehicle word, its speeds by
 /// value of `highway` in thousandths of km/h, its access keys and the values that they deny, the values of
 /// `barrier` that close a node, its penalties in deciseconds, and its side of the road.
-#[derive(Debug, Drop)]
+#[derive(Debug)]
 pub struct Profile {
     name: Text,
     vehicle: Text,
@@ -36,6 +36,23 @@ pub struct Profile {
     u_turn_penalty: u32,
     signal_penalty: u32,
     left_side: bool,
+}
+
+impl Drop for Profile {
+    fn drop(self) {
+        let Profile {
+            name: _name,
+            vehicle: _vehicle,
+            speeds: _speeds,
+            access_keys: _access_keys,
+            denied: _denied,
+            barriers: _barriers,
+            turn_penalties: _turn_penalties,
+            u_turn_penalty: _u_turn_penalty,
+            signal_penalty: _signal_penalty,
+            left_side: _left_side,
+        } = self;
+    }
 }
 
 impl Model for Profile {

@@ -12,10 +12,19 @@ use std::marker::Model;
 
 /// A connection in memory: a source and a sink. It was given with all of the source's bytes, and with no
 /// fault.
-#[derive(Drop, Debug)]
+#[derive(Debug)]
 pub struct MemConn {
     source: MemSource,
     sink: MemSink,
+}
+
+impl Drop for MemConn {
+    fn drop(self) {
+        let MemConn {
+            source: _source,
+            sink: _sink,
+        } = self;
+    }
 }
 
 impl Model for MemConn {

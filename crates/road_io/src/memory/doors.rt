@@ -10,7 +10,7 @@ use std::alloc::{AllocError, Global};
 
 /// A door in memory: it gives the connections that it was made with, and has the room to take all of
 /// them back.
-#[derive(Drop, Debug)]
+#[derive(Debug)]
 pub struct MemDoor {
     waiting: Vec<MemConn>,
     done: Vec<MemConn>,
@@ -21,6 +21,20 @@ pub struct MemDoor {
     faults: u64,
     ghost room: { given + vec_len waiting ≤ vec_capacity done },
     ghost unused: { All IsUnused waiting.items },
+}
+
+impl Drop for MemDoor {
+    fn drop(self) {
+        let MemDoor {
+            waiting: _waiting,
+            done: _done,
+            failing: _failing,
+            calls: _calls,
+            given: _given,
+            ended: _ended,
+            faults: _faults,
+        } = self;
+    }
 }
 
 impl MemDoor {

@@ -13,7 +13,7 @@ use std::alloc::Global;
 use std::marker::Model;
 
 /// Files in memory. A name that none has fails, and so does a read that is told to.
-#[derive(Drop, Debug)]
+#[derive(Debug)]
 pub struct MemFiles {
     files: Vec<(Text, Vec<u8>)>,
     failing: Vec<u64>,
@@ -21,6 +21,19 @@ pub struct MemFiles {
     reads: Vec<Text>,
     failed_names: Vec<Text>,
     faults: u64,
+}
+
+impl Drop for MemFiles {
+    fn drop(self) {
+        let MemFiles {
+            files: _files,
+            failing: _failing,
+            calls: _calls,
+            reads: _reads,
+            failed_names: _failed_names,
+            faults: _faults,
+        } = self;
+    }
 }
 
 impl Model for MemFiles {

@@ -6,12 +6,23 @@ use std::marker::Model;
 
 /// Bytes that are given from the front, in pieces of these sizes at most: the sizes come round again
 /// when they are used up, none is no limit, and a size of 0 counts as 1.
-#[derive(Drop, Debug)]
+#[derive(Debug)]
 pub struct PieceReader {
     bytes: Vec<u8>,
     at: usize,
     sizes: Vec<usize>,
     next_size: usize,
+}
+
+impl Drop for PieceReader {
+    fn drop(self) {
+        let PieceReader {
+            bytes: _bytes,
+            at: _at,
+            sizes: _sizes,
+            next_size: _next_size,
+        } = self;
+    }
 }
 
 impl Model for PieceReader {

@@ -11,13 +11,25 @@ use std::alloc::{AllocError, Global};
 use std::marker::Model;
 
 /// A sink of bytes in memory with room for so many, which fails where it is full or told to.
-#[derive(Drop, Debug)]
+#[derive(Debug)]
 pub struct MemSink {
     bytes: Vec<u8>,
     room: usize,
     failing: Vec<u64>,
     calls: u64,
     faults: u64,
+}
+
+impl Drop for MemSink {
+    fn drop(self) {
+        let MemSink {
+            bytes: _bytes,
+            room: _room,
+            failing: _failing,
+            calls: _calls,
+            faults: _faults,
+        } = self;
+    }
 }
 
 impl Model for MemSink {

@@ -12,13 +12,25 @@ use crate::memory::pieces::PieceReader;
 use std::marker::Model;
 
 /// A source of bytes in memory, which gives them in pieces and fails where it is told to.
-#[derive(Drop, Debug)]
+#[derive(Debug)]
 pub struct MemSource {
     reader: PieceReader,
     failing: Vec<u64>,
     calls: u64,
     faults: u64,
     taken: u64,
+}
+
+impl Drop for MemSource {
+    fn drop(self) {
+        let MemSource {
+            reader: _reader,
+            failing: _failing,
+            calls: _calls,
+            faults: _faults,
+            taken: _taken,
+        } = self;
+    }
 }
 
 impl Model for MemSource {

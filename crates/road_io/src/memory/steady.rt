@@ -14,10 +14,19 @@ use std::alloc::Global;
 use std::marker::Model;
 
 /// A source of bytes in memory that never fails.
-#[derive(Drop, Debug)]
+#[derive(Debug)]
 pub struct SteadySource {
     reader: PieceReader,
     taken: u64,
+}
+
+impl Drop for SteadySource {
+    fn drop(self) {
+        let SteadySource {
+            reader: _reader,
+            taken: _taken,
+        } = self;
+    }
 }
 
 impl Model for SteadySource {
@@ -56,9 +65,15 @@ impl Source for SteadySource {
 }
 
 /// A sink that never fails: it counts the bytes that were put, and keeps and tells none of them.
-#[derive(Drop, Debug)]
+#[derive(Debug)]
 pub struct SteadySink {
     count: u64,
+}
+
+impl Drop for SteadySink {
+    fn drop(self) {
+        let SteadySink { count: _count } = self;
+    }
 }
 
 impl Model for SteadySink {
