@@ -64,6 +64,8 @@ def main():
         if not (steps[0].startswith("Depart") and steps[-1] == "Arrive" and " km, " in told):
             sys.exit(f"two_clicks: the page tells {told} and {steps}")
         print(f"two_clicks: {told}; {len(steps)} steps: {'; '.join(steps)}")
+        # until the map stands still
+        time.sleep(1)
         if picture:
             with open(picture[0], "wb") as it:
                 it.write(base64.b64decode(call("GET", f"{session}/screenshot")))
