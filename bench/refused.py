@@ -29,8 +29,8 @@ worker; the control port answered as ever.
 
 Printed are, by row, how many requests were refused and how the runs ended; the status is 1 where a run ended otherwise. The
 program is that of the environment variable ROAD_ROUTER, or else it is proved and built by `rt run` in crates/road_router. It
-needs Linux and a C compiler; where there is none, or the program doesn't load the shim, the status is 2 (`rt try --fail-alloc K`
-in crates/road_router refuses one request then, and builds the program for each)."""
+needs Linux and a C compiler; where there is none, or the program doesn't load the shim, the status is 2. (There `rt try
+--fail-alloc K` in crates/road_router refuses one request, and builds the program each time.)"""
 import argparse
 import collections
 import os
@@ -107,10 +107,10 @@ void *realloc(void *block, size_t bytes) {
     return refuses(FROM, "realloc", bytes) ? NULL : next(block, bytes);
 }
 
-int pthread_create(pthread_t *thread, const pthread_attr_t *with, void *(*work)(void *), void *on) {
+int pthread_create(pthread_t *thread, const pthread_attr_t *with, void *(*work)(void *), void *input) {
     static int (*next)(pthread_t *, const pthread_attr_t *, void *(*)(void *), void *);
     if (!next) next = dlsym(RTLD_NEXT, "pthread_create");
-    return refuses(FROM, "thread", 0) || alone ? EAGAIN : next(thread, with, work, on);
+    return refuses(FROM, "thread", 0) || alone ? EAGAIN : next(thread, with, work, input);
 }
 """
 
@@ -383,8 +383,8 @@ def has_one_thread(running):
 
 
 def visit_all(running, queries, control):
-    """Makes all visits, and the stop once more where it is Busy. Each with its reply, and whether the server is silent, which has
-    to have no worker; the queries behind are then left out."""
+    """Makes all visits, and the stop once more where it is Busy. Each with its reply, and whether the server is silent,
+    which is to have no worker then; the queries behind are left out."""
     visits, silent = [], False
     for line in [*VISITS, STOP, STOP]:
         is_query = line.asked.startswith("GET")
