@@ -4,7 +4,7 @@ use Rattle.std.specs.Io.KnownBytes.{Appends, Consumes, IsAtEnd}
 use Rattle.http_head.specs.Replies.{reply_text}
 use Rattle.road_io.specs.Exchanging.{PutAll, PutPart, Told}
 use Rattle.road_io.specs.Faults.{InputRose, OutputRose}
-use Rattle.road_io.specs.Told.{IsFront}
+use Rattle.road_io.specs.Told.{IsProperFront}
 use Rattle.road_io.specs.Views.{ConnState}
 use Rattle.http_session.specs.Exchanges.{Exchange, AreOpen, HasLast, Follow, requests_of, replies_of}
 use Rattle.http_session.specs.declared.ended.Ended.{Ended}
@@ -24,14 +24,14 @@ pub record SourceRose (before after : ConnState) : Type 0 where
   pub rose : InputRose before.source after.source
   pub sink : after.sink.faults ≡ before.sink.faults
 
--- the first text, and then a front of the second, were put
+-- the first text, and then a proper front of the second, were put
 pub record CutIn (before after : ConnState) (whole cut : List ℕ) : Type 0 where
   pub part : List ℕ
-  pub front : IsFront part cut
+  pub front : IsProperFront part cut
   pub put : Appends before.sink.written after.sink.written (whole ++ part)
 
 module _ {S : Type 0} where
-  -- all replies before the last are whole, and of the last a front was put
+  -- all replies before the last are whole, and of the last a proper front was put
   pub record CutReply (before after : ConnState) (all : List (Exchange S)) : Type 0 where
     pub cut : HasLast all
     pub put : CutIn before after (replies_of cut.front) cut.last.reply
@@ -63,7 +63,7 @@ module _ {S : Type 0} where
     pub ends : Ends Bad Part None how before after exchanges unread
     pub opening : after.opening ≡ before.opening
 
--- `head_bad` was put, or a front of it
+-- `head_bad` was put, or a proper front of it
 abbrev pub Refuses : ConnState → ConnState → Ended → Type 0
 Refuses before after ended.HeadBad = PutAll before after head_bad
 Refuses before after ended.SinkFault = PutPart before after head_bad

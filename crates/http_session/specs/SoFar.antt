@@ -36,7 +36,7 @@ source_steady first mid now steady kept = ap (λ (v : InputView). v.faults) kept
 sink_steady : (first mid now : ConnState) → mid.sink.faults ≡ first.sink.faults → KeepsSink mid now → now.sink.faults ≡ first.sink.faults
 sink_steady first mid now steady kept = ap (λ (v : OutputView). v.faults) kept.sink ∙ steady
 
--- so much was told before a text of which a front was put
+-- so much was told before a text of which a proper front was put
 sink_rose : (first mid now : ConnState) (told text : List ℕ) → Told first mid told → PutPart mid now text → SinkRose first now
 sink_rose first mid now told text so_far part = record {
   source = source_steady first mid now so_far.source part.source;
@@ -195,7 +195,7 @@ module _ {S : Type 0} (Rule : ℕ → S → Exchange S → Type 0) (Bad Part Non
     opening = grows.sink.opening ∙ so_far.opening;
   }
 
-  -- `head_bad` was put, or a front of it
+  -- `head_bad` was put, or a proper front of it
   pub session_refused : (first last : S) (before middle after : ConnState) (unread : List ℕ) (count : ℕ) (how : Ended) → SoFar Rule first last before middle unread count → Bad unread → Refuses middle after how → IsSession Rule Bad Part None first last before after how
   session_refused first last before middle after unread count ended.HeadBad so_far bad puts = record {
     exchanges = so_far.exchanges;
@@ -232,7 +232,7 @@ module _ {S : Type 0} (Rule : ℕ → S → Exchange S → Type 0) (Bad Part Non
     opening = puts.source.opening ∙ so_far.opening;
   }
 
-  -- of one more reply a front was put
+  -- of one more reply a proper front was put
   pub session_cut : (first mid : S) (before middle after : ConnState) (unread rest : List ℕ) (count : ℕ) (x : Exchange S) → SoFar Rule first mid before middle unread count → unread ≡ (print_request x.head ++ x.body) ++ rest → Rule count mid x → PutPart middle after x.reply → IsSession Rule Bad Part None first x.after before after ended.SinkFault
   session_cut first mid before middle after unread rest count x so_far split rule puts = record {
     exchanges = so_far.exchanges ++ x ∷ [];
