@@ -5,7 +5,7 @@ use Rattle.httparse.specs.Grammar.{RequestHead, print_request}
 use Rattle.http_head.specs.Heads.{IsHeadOf}
 use Rattle.http_head.specs.declared.parts.Head.{Head}
 use Rattle.http_session.specs.Bodies.{Holds, Reads, ReadsPart, ReadsWhole}
-use Rattle.http_session.specs.Coming.{Grows, IsNoHead, IsSteady}
+use Rattle.http_session.specs.Coming.{Grows, IsNoHead, IsPartOfHead, IsSteady}
 use Rattle.http_session.specs.Ending.{CutIn, CutReply, head_bad}
 use Rattle.http_session.specs.Exchanges.{AreOpen, Exchange, Follow, replies_of}
 use Rattle.http_session.specs.declared.ended.Ended.TheVariants as ended
@@ -18,7 +18,7 @@ use Rattle.control_port.specs.declared.asking.ControlHead.{ControlHead}
 use Rattle.control_port.specs.declared.asking.ControlHead.TheVariants as asked
 use Rattle.route_server.specs.ControlReading.{BreaksOff, ComesRequest, ReadsRequest}
 use Rattle.route_server.specs.ControlReplying.{KeepsBody}
-use Rattle.route_server.specs.ControlRule.{ControlRule, DeskState, IsControlReply, IsPartOfBody, closes_by, desk_state, is_stop}
+use Rattle.route_server.specs.ControlRule.{ControlRule, DeskState, IsControlReply, IsPartOfBody, IsPartOfRequest, closes_by, desk_state, is_stop}
 use Rattle.route_server.specs.ControlSessions.{IsDeskSession}
 use Rattle.route_server.specs.QueryRule.{closes_at}
 use Rattle.route_server.specs.declared.control_requests.ControlRequest.{ControlRequest}
@@ -73,6 +73,11 @@ read_whole before after unread rest now n head size h request field close count 
   split = head_and_more unread rest reads.reads.got reads.body now head size h is rest_is reads.reads.split ∙ sym (append_assoc (print_request h) reads.body now);
   steady = reads.steady;
 }
+
+-- a part of a head is one of a request
+pub part_of_request : (unread : List ℕ) → (unread ≡ []) ⊎ IsPartOfHead unread → (unread ≡ []) ⊎ IsPartOfRequest unread
+part_of_request unread (inl none) = inl none
+part_of_request unread (inr part) = inr (inl part)
 
 -- less than the body stands behind the head
 pub read_part : (before after : ConnState) (unread rest : List ℕ) (head : Head) (size : ℕ) (h : RequestHead) (request : ControlHead) (count : ℕ) → IsHeadOf unread head size h → rest ≡ drop size unread → request ≡ asked_of h → count ≡ body_length request → (reads : ReadsPart before after rest count) → IsPartOfBody (unread ++ reads.reads.got)
