@@ -34,10 +34,11 @@ pub record Grows (before after : ConnState) (unread now : List ℕ) : Type 0 whe
 abbrev pub IsSteady : ConnState → ConnState → Type 0
 IsSteady before after = after.source.faults ≡ before.source.faults
 
--- what each answer says of the bytes that are not yet read, and of the input
+-- what each answer says of the bytes that are not yet read, and of the input. Where the input failed there is nothing
+-- or a part of a head: to anything else an answer is due, so none is withheld for the fault
 abbrev pub Comes : Coming → ConnState → ConnState → List ℕ → Type 0
 Comes (coming.Whole head size) before after now = ((h : RequestHead) × IsHeadOf now head size h) × IsSteady before after
 Comes coming.NoHead before after now = IsNoHead now × IsSteady before after
 Comes coming.End before after now = (now ≡ []) × IsAtEnd after.source.left × IsSteady before after
 Comes coming.Short before after now = IsPartOfHead now × IsAtEnd after.source.left × IsSteady before after
-Comes coming.Fault before after now = HasNoFront now × InputRose before.source after.source
+Comes coming.Fault before after now = ((now ≡ []) ⊎ IsPartOfHead now) × InputRose before.source after.source

@@ -3,6 +3,7 @@ pub mod Coming
 pub mod Ending
 pub mod Exchanges
 pub mod Filling
+pub mod Finding
 pub mod FrontLaws
 pub mod SoFar
 pub mod Taking

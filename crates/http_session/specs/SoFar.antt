@@ -1,6 +1,6 @@
 -- What the loop of a port goes by, and no clause of a public call: how a connection goes on, request by request,
 -- and that it is a session where it ends. Each law is over any rule of one exchange, so each port may cite it.
-use Rattle.std.specs.Prelude.{◌≡◌, ℕ, ◌+◌, true, false, List, [], ◌∷◌, ◌++◌, length, refl}
+use Rattle.std.specs.Prelude.{◌≡◌, ℕ, ◌+◌, ◌⊎◌, true, false, List, [], ◌∷◌, ◌++◌, length, refl}
 use Rattle.std.proofs.Common.{inl, inr, sym, ap, ◌∙◌, subst, append_assoc, append-nil, add-zero, zero-add, add_assoc, one-add}
 use Rattle.std.proofs.lemmas.List.{length_push}
 use Rattle.std.specs.Io.KnownBytes.{Appends, Consumes, IsAtEnd}
@@ -36,7 +36,7 @@ source_steady first mid now steady kept = ap (λ (v : InputView). v.faults) kept
 sink_steady : (first mid now : ConnState) → mid.sink.faults ≡ first.sink.faults → KeepsSink mid now → now.sink.faults ≡ first.sink.faults
 sink_steady first mid now steady kept = ap (λ (v : OutputView). v.faults) kept.sink ∙ steady
 
--- so much was told before a text of which a front was put
+-- so much was told before a text of which a proper front was put
 sink_rose : (first mid now : ConnState) (told text : List ℕ) → Told first mid told → PutPart mid now text → SinkRose first now
 sink_rose first mid now told text so_far part = record {
   source = source_steady first mid now so_far.source part.source;
@@ -154,9 +154,9 @@ module _ {S : Type 0} (Rule : ℕ → S → Exchange S → Type 0) where
     opening = puts.source.opening ∙ so_far.opening;
   }
 
-module _ {S : Type 0} (Rule : ℕ → S → Exchange S → Type 0) (Bad Part None : List ℕ → Type 0) where
+module _ {S : Type 0} (Rule : ℕ → S → Exchange S → Type 0) (Bad Part : List ℕ → Type 0) where
   -- where all that was taken is whole requests and these bytes
-  session_of : (first last : S) (before after : ConnState) (unread : List ℕ) (count : ℕ) (how : Ended) → (so_far : SoFar Rule first last before after unread count) → Ends Bad Part None how before after so_far.exchanges unread → IsSession Rule Bad Part None first last before after how
+  session_of : (first last : S) (before after : ConnState) (unread : List ℕ) (count : ℕ) (how : Ended) → (so_far : SoFar Rule first last before after unread count) → Ends Bad Part how before after so_far.exchanges unread → IsSession Rule Bad Part first last before after how
   session_of first last before after unread count how so_far ends = record {
     exchanges = so_far.exchanges;
     unread = unread;
@@ -167,25 +167,25 @@ module _ {S : Type 0} (Rule : ℕ → S → Exchange S → Type 0) (Bad Part Non
   }
 
   -- the input ended, and nothing is unread
-  pub session_end : (first last : S) (before after : ConnState) (unread : List ℕ) (count : ℕ) → SoFar Rule first last before after unread count → unread ≡ [] → IsAtEnd after.source.left → IsSession Rule Bad Part None first last before after ended.EndOfInput
+  pub session_end : (first last : S) (before after : ConnState) (unread : List ℕ) (count : ℕ) → SoFar Rule first last before after unread count → unread ≡ [] → IsAtEnd after.source.left → IsSession Rule Bad Part first last before after ended.EndOfInput
   session_end first last before after unread count so_far none at_end =
       session_of first last before after unread count ended.EndOfInput so_far (so_far.stay, none, at_end, so_far.told)
 
   -- the input ended in a part of a request
-  pub session_short : (first last : S) (before after : ConnState) (unread : List ℕ) (count : ℕ) → SoFar Rule first last before after unread count → Part unread → IsAtEnd after.source.left → IsSession Rule Bad Part None first last before after ended.CutShort
+  pub session_short : (first last : S) (before after : ConnState) (unread : List ℕ) (count : ℕ) → SoFar Rule first last before after unread count → Part unread → IsAtEnd after.source.left → IsSession Rule Bad Part first last before after ended.CutShort
   session_short first last before after unread count so_far part at_end =
       session_of first last before after unread count ended.CutShort so_far (so_far.stay, part, at_end, so_far.told)
 
   -- the input failed
-  pub session_fault : (first last : S) (before middle after : ConnState) (unread held : List ℕ) (count : ℕ) → SoFar Rule first last before middle unread count → Grows middle after unread held → None held → InputRose middle.source after.source → IsSession Rule Bad Part None first last before after ended.SourceFault
-  session_fault first last before middle after unread held count so_far grows none rose = record {
+  pub session_fault : (first last : S) (before middle after : ConnState) (unread held : List ℕ) (count : ℕ) → SoFar Rule first last before middle unread count → Grows middle after unread held → (held ≡ []) ⊎ Part held → InputRose middle.source after.source → IsSession Rule Bad Part first last before after ended.SourceFault
+  session_fault first last before middle after unread held count so_far grows begun rose = record {
     exchanges = so_far.exchanges;
     unread = held;
     taken = taken_more before middle after (requests_of so_far.exchanges) unread held so_far.taken grows;
     follow = so_far.follow;
     ends = (
       so_far.stay,
-      none,
+      begun,
       record {
         rose = subst (λ (n : ℕ). Rose n after.source.faults) so_far.told.source rose;
         sink = sink_steady before middle after so_far.told.sink grows.sink;
@@ -195,8 +195,8 @@ module _ {S : Type 0} (Rule : ℕ → S → Exchange S → Type 0) (Bad Part Non
     opening = grows.sink.opening ∙ so_far.opening;
   }
 
-  -- `head_bad` was put, or a front of it
-  pub session_refused : (first last : S) (before middle after : ConnState) (unread : List ℕ) (count : ℕ) (how : Ended) → SoFar Rule first last before middle unread count → Bad unread → Refuses middle after how → IsSession Rule Bad Part None first last before after how
+  -- `head_bad` was put, or a proper front of it
+  pub session_refused : (first last : S) (before middle after : ConnState) (unread : List ℕ) (count : ℕ) (how : Ended) → SoFar Rule first last before middle unread count → Bad unread → Refuses middle after how → IsSession Rule Bad Part first last before after how
   session_refused first last before middle after unread count ended.HeadBad so_far bad puts = record {
     exchanges = so_far.exchanges;
     unread = unread;
@@ -222,7 +222,7 @@ module _ {S : Type 0} (Rule : ℕ → S → Exchange S → Type 0) (Bad Part Non
   session_refused first last before middle after unread count ended.SourceFault so_far bad puts = absurd puts
 
   -- one more was answered, which closes the connection
-  pub session_closed : (first mid : S) (before middle after : ConnState) (unread rest : List ℕ) (count : ℕ) (x : Exchange S) → SoFar Rule first mid before middle unread count → unread ≡ (print_request x.head ++ x.body) ++ rest → Rule count mid x → x.close ≡ true → PutAll middle after x.reply → IsSession Rule Bad Part None first x.after before after ended.Closed
+  pub session_closed : (first mid : S) (before middle after : ConnState) (unread rest : List ℕ) (count : ℕ) (x : Exchange S) → SoFar Rule first mid before middle unread count → unread ≡ (print_request x.head ++ x.body) ++ rest → Rule count mid x → x.close ≡ true → PutAll middle after x.reply → IsSession Rule Bad Part first x.after before after ended.Closed
   session_closed first mid before middle after unread rest count x so_far split rule close_x puts = record {
     exchanges = so_far.exchanges ++ x ∷ [];
     unread = rest;
@@ -232,8 +232,8 @@ module _ {S : Type 0} (Rule : ℕ → S → Exchange S → Type 0) (Bad Part Non
     opening = puts.source.opening ∙ so_far.opening;
   }
 
-  -- of one more reply a front was put
-  pub session_cut : (first mid : S) (before middle after : ConnState) (unread rest : List ℕ) (count : ℕ) (x : Exchange S) → SoFar Rule first mid before middle unread count → unread ≡ (print_request x.head ++ x.body) ++ rest → Rule count mid x → PutPart middle after x.reply → IsSession Rule Bad Part None first x.after before after ended.SinkFault
+  -- of one more reply a proper front was put
+  pub session_cut : (first mid : S) (before middle after : ConnState) (unread rest : List ℕ) (count : ℕ) (x : Exchange S) → SoFar Rule first mid before middle unread count → unread ≡ (print_request x.head ++ x.body) ++ rest → Rule count mid x → PutPart middle after x.reply → IsSession Rule Bad Part first x.after before after ended.SinkFault
   session_cut first mid before middle after unread rest count x so_far split rule puts = record {
     exchanges = so_far.exchanges ++ x ∷ [];
     unread = rest;

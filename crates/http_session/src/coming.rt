@@ -2,6 +2,7 @@
 
 ghost use Rattle.std.specs.Prelude.{◌≡◌, ◌==◌, if◌then◌else◌, length};
 ghost use Rattle.http_session.specs.Coming.{Comes, Grows};
+ghost use Rattle.http_session.specs.Finding.{Finds};
 ghost use Rattle.http_session.specs.declared.coming.Coming.TheVariants as coming;
 
 use crate::unread::Unread;
@@ -20,7 +21,7 @@ pub enum Coming {
     End,
     /// The end of the input behind a part of a head.
     Short,
-    /// A fault of the input, with no whole head.
+    /// A fault of the input, with no bytes or behind a part of a head.
     Fault,
 }
 
@@ -31,13 +32,9 @@ pub fn next_head<C: Conn>(conn: &mut C, unread: &mut Unread) -> Coming
     ensures comes { Comes result (C.state conn.old) (C.state conn.new) unread.new }
 {
     'takes: loop {
-        match head(unread.as_slice()) {
-            Front::Whole { head, size } => return Coming::Whole { head, size },
-            Front::Bad => return Coming::NoHead,
-            Front::More => {}
-        }
-        if unread.len() == HEAD_LIMIT {
-            return Coming::NoHead;
+        match found(unread) {
+            Some(next) => return next,
+            None => {}
         }
         let count = match unread.take_from(conn) {
             Ok(count) => count,
@@ -47,6 +44,22 @@ pub fn next_head<C: Conn>(conn: &mut C, unread: &mut Unread) -> Coming
             return ended_input(unread);
         }
     }
+}
+
+// What stands at the front of these bytes, or None where there are none or a part of a head, so that more bytes are to
+// be taken.
+fn found(unread: &Unread) -> Option<Coming>
+    ensures { Finds result unread.now }
+{
+    match head(unread.as_slice()) {
+        Front::Whole { head, size } => return Some(Coming::Whole { head, size }),
+        Front::Bad => return Some(Coming::NoHead),
+        Front::More => {}
+    }
+    if unread.len() == HEAD_LIMIT {
+        return Some(Coming::NoHead);
+    }
+    None
 }
 
 // The input ended behind these bytes.

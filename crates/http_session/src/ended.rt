@@ -11,7 +11,7 @@ pub enum Ended {
     Closed,
     /// Bytes that are no request that is served were answered by `HEAD_BAD`.
     HeadBad,
-    /// The input failed, and its count of faults rose.
+    /// The input failed between two requests or inside one, and its count of faults rose.
     SourceFault,
     /// The output failed, and its count of faults rose.
     SinkFault,

@@ -38,7 +38,7 @@ pub record Grows (told : Telling) (before after : Sides) : Type 0 where
   pub read : ReadsAll before.files after.files told.reads
   pub steady : after.output.faults ≡ before.output.faults
 
--- the output failed: a front of what is told was put, and its files were read
+-- the output failed: a proper front of what is told was put, and its files were read
 pub record GrowsFront (told : Telling) (before after : Sides) : Type 0 where
   pub put : AppendsFront before.output.written after.output.written told.text
   pub read : ReadsAll before.files after.files told.reads

@@ -40,7 +40,7 @@ pub record Answered (first last : Publication) (all : List (List ℕ)) (before a
   pub is_told : Told before.files.content first all told last
   pub grows : Grows told before after
 
--- the first of the lines were answered, and the output failed: a front of what is told of these was put
+-- the first of the lines were answered, and the output failed: a proper front of what is told of these was put
 pub record CutOff (first last : Publication) (all : List (List ℕ)) (before after : Sides) : Type 0 where
   pub answered : List (List ℕ)
   pub rest : List (List ℕ)

@@ -169,7 +169,7 @@ fn take_piece<R: Threads + Sync, F: Files, O: Sink>(
 /// It stops at the first fault of the input, of the output or of a file, where 2^63 bytes of input or more
 /// were taken, and where there is no memory to begin with, before anything was taken. Each line is answered
 /// once its newline was taken: where the input failed or was too long, the replies to the whole lines among
-/// the bytes taken were put, and nothing else; where the output failed, a front of them; where a file could
+/// the bytes taken were put, and nothing else; where the output failed, a proper front of them; where a file could
 /// not be read, those to the lines before the one that names it. Want of memory for one reply is told in its
 /// place, nothing is published, and the next line is answered.
 pub fn answer_lines<R: Threads + Sync, F: Files, I: Source, O: Sink>(

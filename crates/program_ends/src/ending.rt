@@ -25,7 +25,7 @@ pub fn close<O: Sink>(output: &mut O, line: &[u8])
     }
 }
 
-/// Puts a line of these words and this text, or a front of it where the output failed.
+/// Puts a line of these words and this text, or a proper front of it where the output failed.
 pub fn put_line<O: Sink>(output: &mut O, words: &[u8], text: &str) -> Result<(), Failed>
     ensures all { OnOk result (Appends (O.view output.old).written (O.view output.new).written (words.now ++ (text.now ++ codes "\n"))) }
     ensures part { OnErr result (AppendsFront (O.view output.old).written (O.view output.new).written (words.now ++ (text.now ++ codes "\n"))) }

@@ -29,7 +29,7 @@ pub record PutAll (before after : ConnState) (text : List ℕ) : Type 0 where
   pub steady : after.sink.faults ≡ before.sink.faults
   pub put : Appends before.sink.written after.sink.written text
 
--- the output failed in this
+-- the output failed in this, of which a proper front was put
 pub record PutPart (before after : ConnState) (text : List ℕ) : Type 0 where
   pub source : KeepsSource before after
   pub rose : OutputRose before.sink after.sink

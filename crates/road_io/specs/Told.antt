@@ -1,21 +1,21 @@
--- What is told of bytes: fronts of them, what a sink or a source did where it tells, and the laws by
+-- What is told of bytes: proper fronts of them, what a sink or a source did where it tells, and the laws by
 -- which the calls of a run add up. The words of one call are std's (`Appends`, `Consumes`, `Keeps`).
-use Rattle.std.specs.Prelude.{◌≡◌, ℕ, ◌+◌, ◌-◌, ◌^◌, min, List, [], ◌++◌, Option, None, Some, Result, MatchResult, ⊤, refl}
+use Rattle.std.specs.Prelude.{◌≡◌, ℕ, ◌+◌, ◌-◌, ◌^◌, ◌<◌, min, List, [], ◌++◌, length, Option, None, Some, Result, MatchResult, ⊤, refl}
 use Rattle.std.specs.Io.KnownBytes.{Appends, Consumes, Keeps}
-use Rattle.std.proofs.Common.{append_assoc, append-nil, sym, ◌∙◌, ap}
+use Rattle.std.proofs.Common.{append_assoc, append-nil, sym, ◌∙◌, ap, subst, length-append, lt_of_lt_of_le, le-add_right}
 
 -- these are the bytes, where they are told
 abbrev pub IsContent : Option (List ℕ) → List ℕ → Type 0
 IsContent None bytes = ⊤
 IsContent (Some told) bytes = bytes ≡ told
 
--- the first is a front of the second
-abbrev pub IsFront : List ℕ → List ℕ → Type 0
-IsFront part whole = (rest : List ℕ) × (whole ≡ part ++ rest)
+-- the first is a front of the second, and not all of it
+abbrev pub IsProperFront : List ℕ → List ℕ → Type 0
+IsProperFront part whole = (rest : List ℕ) × (0 < length rest) × (whole ≡ part ++ rest)
 
--- known bytes grow by a front of these
+-- known bytes grow by a proper front of these
 abbrev pub AppendsFront : Option (List ℕ) → Option (List ℕ) → List ℕ → Type 0
-AppendsFront old new bytes = (part : List ℕ) × IsFront part bytes × Appends old new part
+AppendsFront old new bytes = (part : List ℕ) × IsProperFront part bytes × Appends old new part
 
 -- a count of the bytes taken goes on by those of this call, and stands still at 18446744073709551615
 abbrev pub CountsTaken : {E : Type 0} → ℕ → ℕ → Result ℕ E → Type 0
@@ -59,30 +59,28 @@ consumes_then (Some bytes) (Some held) None first second one two = absurd two
 consumes_then (Some bytes) (Some held) (Some now) first second one two =
     one ∙ ap (λ (xs : List ℕ). first ++ xs) two ∙ sym (append_assoc first second now)
 
--- nothing is a front of anything, and all of itself
-pub front_none : (whole : List ℕ) → IsFront [] whole
-front_none whole = (whole, refl)
+-- some bytes with more behind them are some
+some_more : (rest more : List ℕ) → 0 < length rest → 0 < length (rest ++ more)
+some_more rest more some =
+    subst (λ (n : ℕ). 0 < n) (sym (length-append rest more)) (lt_of_lt_of_le some (le-add_right (length rest) (length more)))
 
-pub front_all : (whole : List ℕ) → IsFront whole whole
-front_all whole = ([], sym (append-nil whole))
+-- a proper front of the first part is one of the whole
+pub front_of_first : (part first second : List ℕ) → IsProperFront part first → IsProperFront part (first ++ second)
+front_of_first part first second front = (
+  front.0 ++ second,
+  some_more front.0 second front.1,
+  ap (λ (xs : List ℕ). xs ++ second) front.2 ∙ append_assoc part front.0 second,
+)
 
--- a front of the first part is one of the whole
-pub front_of_first : (part first second : List ℕ) → IsFront part first → IsFront part (first ++ second)
-front_of_first part first second front =
-    (front.0 ++ second, ap (λ (xs : List ℕ). xs ++ second) front.1 ∙ append_assoc part front.0 second)
+-- the first part with a proper front of the second is a proper front of the whole
+pub front_of_second : (part first second : List ℕ) → IsProperFront part second → IsProperFront (first ++ part) (first ++ second)
+front_of_second part first second front = (
+  front.0,
+  front.1,
+  ap (λ (xs : List ℕ). first ++ xs) front.2 ∙ sym (append_assoc first part front.0),
+)
 
--- the first part with a front of the second is a front of the whole
-pub front_of_second : (part first second : List ℕ) → IsFront part second → IsFront (first ++ part) (first ++ second)
-front_of_second part first second front =
-    (front.0, ap (λ (xs : List ℕ). first ++ xs) front.1 ∙ sym (append_assoc first part front.0))
-
--- all of a text, nothing of it, more behind it, and more in front of it
-pub appends_front_all : (old new : Option (List ℕ)) (bytes : List ℕ) → Appends old new bytes → AppendsFront old new bytes
-appends_front_all old new bytes put = (bytes, front_all bytes, put)
-
-pub appends_front_none : (old : Option (List ℕ)) (bytes : List ℕ) → AppendsFront old old bytes
-appends_front_none old bytes = ([], front_none bytes, appends_none old)
-
+-- a text that was cut, with more behind it and with more in front of it
 pub appends_front_first : (old new : Option (List ℕ)) (first second : List ℕ) → AppendsFront old new first → AppendsFront old new (first ++ second)
 appends_front_first old new first second put = (put.0, front_of_first put.0 first second put.1, put.2)
 

@@ -28,7 +28,7 @@ pub trait Sink {
 }
 
 /// Puts all of these bytes, in as many calls of `put` as it takes. Failed where the count of faults
-/// rose; then a front of the bytes was put.
+/// rose; then a front of the bytes was put, and never all of them.
 pub fn put_all<O: Sink>(sink: &mut O, bytes: &[u8]) -> Result<(), Failed>
     ensures all { OnOk result (Appends (O.view sink.old).written (O.view sink.new).written bytes.now) }
     ensures part { OnErr result (AppendsFront (O.view sink.old).written (O.view sink.new).written bytes.now) }

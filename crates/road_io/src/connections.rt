@@ -36,8 +36,8 @@ pub fn take_into<C: Conn>(conn: &mut C, into: &mut [u8]) -> Result<usize, Failed
     conn.take(into)
 }
 
-/// Puts all of these bytes, or a front of them where the output failed. As a source the connection stays
-/// as it was. May wait.
+/// Puts all of these bytes, or a proper front of them where the output failed. As a source the connection
+/// stays as it was. May wait.
 pub fn put_whole<C: Conn>(conn: &mut C, bytes: &[u8]) -> Result<(), Failed>
     ensures { Puts (C.state conn.old) (C.state conn.new) bytes.now result }
 {

@@ -1,12 +1,14 @@
 -- A control request that was read, and its reply.
-use Rattle.std.proofs.Common.{◌≡◌, ◌∙◌, ℕ, ◌+◌, ◌<◌, inl, inr, Bool, true, false, ◌||◌, ◌==◌, List, [], ◌++◌, Option, None, Some, Vec, length, drop, refl, sym, ap, subst, append_assoc, append-nil}
+use Rattle.std.proofs.Common.{◌≡◌, ◌∙◌, ℕ, ◌+◌, ◌<◌, ◌⊎◌, inl, inr, Bool, true, false, true≢false, ◌||◌, ◌==◌, List, [], ◌∷◌, ◌++◌, Option, None, Some, Vec, length, drop, refl, sym, ap, subst, append_assoc, append-nil}
 use Rattle.std.specs.Global.{Global}
 use Rattle.httparse.specs.Grammar.{RequestHead, print_request}
 use Rattle.http_head.specs.Heads.{IsHeadOf}
 use Rattle.http_head.specs.declared.parts.Head.{Head}
 use Rattle.http_session.specs.Bodies.{Holds, Reads, ReadsPart, ReadsWhole}
-use Rattle.http_session.specs.Coming.{Grows, IsSteady}
-use Rattle.http_session.specs.Exchanges.{Exchange}
+use Rattle.http_session.specs.Coming.{Grows, IsNoHead, IsPartOfHead, IsSteady}
+use Rattle.http_session.specs.Ending.{CutIn, CutReply, head_bad}
+use Rattle.http_session.specs.Exchanges.{AreOpen, Exchange, Follow, replies_of}
+use Rattle.http_session.specs.declared.ended.Ended.TheVariants as ended
 use Rattle.metric_publish.specs.declared.entry.Entry.{Entry}
 use Rattle.road_io.specs.Faults.{Rose}
 use Rattle.road_io.specs.Told.{consumes_then}
@@ -16,7 +18,8 @@ use Rattle.control_port.specs.declared.asking.ControlHead.{ControlHead}
 use Rattle.control_port.specs.declared.asking.ControlHead.TheVariants as asked
 use Rattle.route_server.specs.ControlReading.{BreaksOff, ComesRequest, ReadsRequest}
 use Rattle.route_server.specs.ControlReplying.{KeepsBody}
-use Rattle.route_server.specs.ControlRule.{ControlRule, DeskState, IsControlReply, IsPartOfBody, closes_by, desk_state, is_stop}
+use Rattle.route_server.specs.ControlRule.{ControlRule, DeskState, IsControlReply, IsPartOfBody, IsPartOfRequest, closes_by, desk_state, is_stop}
+use Rattle.route_server.specs.ControlSessions.{IsDeskSession}
 use Rattle.route_server.specs.QueryRule.{closes_at}
 use Rattle.route_server.specs.declared.control_requests.ControlRequest.{ControlRequest}
 use Rattle.route_server.specs.declared.control_requests.ControlRequest.TheVariants as request
@@ -71,6 +74,11 @@ read_whole before after unread rest now n head size h request field close count 
   steady = reads.steady;
 }
 
+-- a part of a head is one of a request
+pub part_of_request : (unread : List ℕ) → (unread ≡ []) ⊎ IsPartOfHead unread → (unread ≡ []) ⊎ IsPartOfRequest unread
+part_of_request unread (inl none) = inl none
+part_of_request unread (inr part) = inr (inl part)
+
 -- less than the body stands behind the head
 pub read_part : (before after : ConnState) (unread rest : List ℕ) (head : Head) (size : ℕ) (h : RequestHead) (request : ControlHead) (count : ℕ) → IsHeadOf unread head size h → rest ≡ drop size unread → request ≡ asked_of h → count ≡ body_length request → (reads : ReadsPart before after rest count) → IsPartOfBody (unread ++ reads.reads.got)
 read_part before after unread rest head size h request count is rest_is asks count_is reads =
@@ -119,6 +127,10 @@ pub keeps_body : (request : ControlHead) (kept : Option (Vec ℕ Global)) (body 
 keeps_body request None body holds size speeds = tt
 keeps_body request (Some kept) body holds size speeds = record { size = ap length holds ∙ size; speeds = speeds }
 
+-- no stop was answered
+pub no_stop : {P : Type 0} → false ≡ true → P
+no_stop on = absurd (true≢false (sym on))
+
 module _ {V : Type 0} where
   abbrev pub control_exchange : RequestHead → List ℕ → Bool → List ℕ → List (Entry V) → Bool → Exchange (DeskState V)
   control_exchange h body close reply after stopped = record { head = h; body = body; close = close; reply = reply; after = desk_state after stopped }
@@ -136,3 +148,25 @@ module _ {V : Type 0} where
   pub stopped_closes : (Controls : List (Entry V) → ControlHead → List ℕ → ℕ → List ℕ → List (Entry V) → Type 0) (before after : List (Entry V)) (request : ControlHead) (body : List ℕ) (other close stopped : Bool) (reply : List ℕ) → IsControlReply Controls before after request body close stopped reply → stopped ≡ true → close ≡ closes_by request other → close ≡ true
   stopped_closes Controls before after request body other close stopped reply (inl made) on is = stop_closes request other close is (sym made.1 ∙ on)
   stopped_closes Controls before after request body other close stopped reply (inr busy) on is = absurd (cc)
+
+  -- requests that leave the connection open answer no stop
+  open_unstopped : (Controls : List (Entry V) → ControlHead → List ℕ → ℕ → List ℕ → List (Entry V) → Type 0) (n : ℕ) (first last : DeskState V) (all : List (Exchange (DeskState V))) → Follow (ControlRule Controls) n first all last → AreOpen all → first.stopped ≡ false → last.stopped ≡ false
+  open_unstopped Controls n first last [] same stay none = ap (λ (s : DeskState V). s.stopped) same ∙ none
+  open_unstopped Controls n first last (x ∷ more) follow stay none =
+      open_unstopped Controls (n + 1) x.after last more follow.1 stay.1 (unstopped x.after.stopped refl)
+    where
+      unstopped : (b : Bool) → x.after.stopped ≡ b → b ≡ false
+      unstopped true on =
+          let close : x.close ≡ true = stopped_closes Controls first.list x.after.list (asked_of x.head) x.body (closes_at n x.head) x.close x.after.stopped x.reply follow.0.reply on follow.0.close in
+          absurd (true≢false (sym close ∙ stay.0))
+      unstopped false is = refl
+
+  -- where a stop was answered and the output failed, of the reply to it a proper front was put
+  pub stop_cut : (Controls : List (Entry V) → ControlHead → List ℕ → ℕ → List ℕ → List (Entry V) → Type 0) (first last : List (Entry V)) (before after : ConnState) (stopped : Bool) (session : IsDeskSession Controls (desk_state first false) (desk_state last stopped) before after ended.SinkFault) → stopped ≡ true → CutReply before after session.exchanges
+  stop_cut Controls first last before after stopped session on = go session.ends.1
+    where
+      go : CutReply before after session.exchanges ⊎ (AreOpen session.exchanges × IsNoHead session.unread × CutIn before after (replies_of session.exchanges) head_bad) → CutReply before after session.exchanges
+      go (inl cut) = cut
+      go (inr bad) =
+          let off : stopped ≡ false = open_unstopped Controls 0 (desk_state first false) (desk_state last stopped) session.exchanges session.follow bad.0 refl in
+          absurd (true≢false (sym on ∙ off))

@@ -1,5 +1,5 @@
 -- What serves this crate's own functions, and no clause of a public call: a control request is read.
-use Rattle.std.specs.Prelude.{◌≡◌, ℕ, List, [], ◌++◌, Bool, length, Option, Vec}
+use Rattle.std.specs.Prelude.{◌≡◌, ℕ, ◌⊎◌, List, [], ◌++◌, Bool, length, Option, Vec}
 use Rattle.std.specs.Global.{Global}
 use Rattle.std.specs.Io.KnownBytes.{IsAtEnd}
 use Rattle.httparse.specs.Grammar.{RequestHead, print_request}
@@ -10,7 +10,7 @@ use Rattle.road_io.specs.Faults.{InputRose}
 use Rattle.road_io.specs.Views.{ConnState}
 use Rattle.control_port.specs.Asking.{HasSpeeds, asked_of, body_length}
 use Rattle.control_port.specs.declared.asking.ControlHead.{ControlHead}
-use Rattle.route_server.specs.ControlRule.{HasNoRequest, IsPartOfRequest, closes_by}
+use Rattle.route_server.specs.ControlRule.{IsPartOfRequest, closes_by}
 use Rattle.route_server.specs.QueryRule.{closes_at}
 use Rattle.route_server.specs.declared.control_requests.ControlRequest.{ControlRequest}
 use Rattle.route_server.specs.declared.control_requests.ControlRequest.TheVariants as request
@@ -43,4 +43,5 @@ ComesRequest request.End before after unread now n =
     Grows before after unread now × (now ≡ []) × IsAtEnd after.source.left × IsSteady before after
 ComesRequest request.Short before after unread now n =
     BreaksOff before after unread IsPartOfRequest × IsAtEnd after.source.left × IsSteady before after
-ComesRequest request.Fault before after unread now n = BreaksOff before after unread HasNoRequest × InputRose before.source after.source
+ComesRequest request.Fault before after unread now n =
+    BreaksOff before after unread (λ held. (held ≡ []) ⊎ IsPartOfRequest held) × InputRose before.source after.source

@@ -20,7 +20,7 @@ module _ {V : Type 0} where
   MakesReply Controls before after request body close None = after ≡ before
   MakesReply Controls before after request body close (Some reply) = IsCarriedOut Controls before after request body close reply.items
 
-  -- the reply was put, or a front of it where the output failed
+  -- the reply was put, or a proper front of it where the output failed
   abbrev pub PutsControl : (List (Entry V) → ControlHead → List ℕ → ℕ → List ℕ → List (Entry V) → Type 0) → List (Entry V) → List (Entry V) → ControlHead → List ℕ → Bool → ConnState → ConnState → Result Bool Failed → Type 0
   PutsControl Controls before after request body close first now (Ok stopped) =
       (reply : List ℕ) × IsControlReply Controls before after request body close stopped reply × PutAll first now reply

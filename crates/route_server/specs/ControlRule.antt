@@ -3,7 +3,7 @@
 -- stands then.
 use Rattle.std.specs.Prelude.{◌≡◌, ℕ, ◌<◌, ◌⊎◌, List, Bool, true, false, length}
 use Rattle.httparse.specs.Grammar.{RequestHead}
-use Rattle.http_head.specs.Heads.{HasFront, HasNoFront}
+use Rattle.http_head.specs.Heads.{HasFront}
 use Rattle.http_head.specs.Replies.{reply_text}
 use Rattle.http_session.specs.Coming.{IsPartOfHead}
 use Rattle.http_session.specs.Exchanges.{Exchange, IsWhole}
@@ -69,7 +69,3 @@ pub record IsPartOfBody (unread : List ℕ) : Type 0 where
 -- a part of a request: of its head, or its head and less than its body
 abbrev pub IsPartOfRequest : List ℕ → Type 0
 IsPartOfRequest unread = IsPartOfHead unread ⊎ IsPartOfBody unread
-
--- no whole request
-abbrev pub HasNoRequest : List ℕ → Type 0
-HasNoRequest unread = HasNoFront unread ⊎ IsPartOfBody unread

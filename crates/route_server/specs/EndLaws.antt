@@ -6,7 +6,7 @@ use Rattle.std.specs.Io.KnownBytes.{Consumes, IsAtEnd}
 use Rattle.list_lemmas.proofs.Counts.{none_less}
 use Rattle.httparse.specs.Grammar.{EndsInTarget, RequestHead}
 use Rattle.httparse.specs.Spans.{RequestExceeds}
-use Rattle.http_head.specs.Heads.{HasFront, HasNoFront, IsAlive, IsDead}
+use Rattle.http_head.specs.Heads.{HasFront, IsAlive, IsDead}
 use Rattle.http_session.specs.Coming.{IsPartOfHead}
 use Rattle.http_session.specs.Ending.{Ends}
 use Rattle.http_session.specs.Exchanges.{AreOpen, Exchange, Follow, requests_of}
@@ -167,7 +167,7 @@ module _ {S : Type 0} where
   first_closes how x more rest (inr (closed, inl last)) = inl (last.0, last.1, closed)
   first_closes how x more rest (inr (closed, inr later)) = inr (later.0, inr (closed, later.1))
 
-  stops_of : (how : Ended) (before after : ConnState) (all : List (Exchange S)) (unread left : List ℕ) → IsFaultless how → after.source.left ≡ Some left → Ends IsUnserved IsPartOfHead HasNoFront how before after all unread → Stops how all (unread ++ left)
+  stops_of : (how : Ended) (before after : ConnState) (all : List (Exchange S)) (unread left : List ℕ) → IsFaultless how → after.source.left ≡ Some left → Ends IsUnserved IsPartOfHead how before after all unread → Stops how all (unread ++ left)
   stops_of ended.EndOfInput before after all unread left faultless told ends =
       let nothing : left ≡ [] = subst IsAtEnd told ends.2 in
       inl (ends.0, ap (λ (xs : List ℕ). xs ++ left) ends.1 ∙ nothing)

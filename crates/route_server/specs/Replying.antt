@@ -14,7 +14,7 @@ module _ {V : Type 0} where
   Gives Says before after target close (Ok reply) = IsAnswered Says before after target close reply.items
   Gives Says before after target close (Err e) = ReadsAtMostOne before after
 
-  -- the reply was put, or a front of it where the output failed
+  -- the reply was put, or a proper front of it where the output failed
   abbrev pub PutsReply : {T : Type 0} → (Entry V → List ℕ → ℕ → List ℕ → Type 0) → SeatState V → SeatState V → List ℕ → Bool → ConnState → ConnState → Result T Failed → Type 0
   PutsReply Says before after target close conn_before conn_after result =
       (reply : List ℕ) × IsReplied Says before after target close reply × Puts conn_before conn_after reply result

@@ -5,7 +5,6 @@ use Rattle.std.proofs.Common.{◌∙◌, inl, inr, sym, ap, subst, append_assoc,
 use Rattle.std.proofs.lemmas.List.Elements.{All-cons, All-nil}
 use Rattle.std.proofs.lemmas.Option.{same_Some}
 use mathlib.Core.List.{IsPrefix}
-use Rattle.http_head.specs.Heads.{HasNoFront}
 use Rattle.http_session.specs.Coming.{IsPartOfHead}
 use Rattle.http_session.specs.Ending.{IsSession}
 use Rattle.http_session.specs.Exchanges.{Exchange, Follow}
@@ -58,7 +57,7 @@ module _ {V : Type 0} (Says : Entry V → List ℕ → ℕ → List ℕ → Type
       (reply_rises first x.after x.head.target x.close x.reply follow.0.reply, never_fall (n + 1) x.after last xs follow.1)
 
   -- a session by the rule of its exchanges is a query session
-  pub query_session : (first last : SeatState V) (before after : ConnState) (how : Ended) → IsSession (QueryRule Says) IsUnserved IsPartOfHead HasNoFront first last before after how → IsQuerySession Says first last before after how
+  pub query_session : (first last : SeatState V) (before after : ConnState) (how : Ended) → IsSession (QueryRule Says) IsUnserved IsPartOfHead first last before after how → IsQuerySession Says first last before after how
   query_session first last before after how session = record {
     session = session;
     later = seen_later 0 first last session.exchanges session.follow;

@@ -1,7 +1,6 @@
 -- A whole query connection.
 use Rattle.std.specs.Prelude.{ℕ, ◌≤◌, List, [], ◌∷◌, All, map}
 use mathlib.Core.List.{IsPrefix}
-use Rattle.http_head.specs.Heads.{HasNoFront}
 use Rattle.http_session.specs.Coming.{IsPartOfHead}
 use Rattle.http_session.specs.Ending.{IsSession}
 use Rattle.http_session.specs.declared.ended.Ended.{Ended}
@@ -20,7 +19,7 @@ NeverFall before (number ∷ more) = (before ≤ number) × NeverFall number mor
 -- seat read is a front of the last one, so each reply's number is that of an entry of that list; and from one
 -- reply to a later one these numbers never fall
 pub record IsQuerySession {V : Type 0} (Says : Entry V → List ℕ → ℕ → List ℕ → Type 0) (first last : SeatState V) (before after : ConnState) (how : Ended) : Type 0 where
-  pub session : IsSession (QueryRule Says) IsUnserved IsPartOfHead HasNoFront first last before after how
+  pub session : IsSession (QueryRule Says) IsUnserved IsPartOfHead first last before after how
   pub later : IsPrefix first.seen last.seen
   pub lists : All (λ x. IsPrefix x.after.seen last.seen) session.exchanges
   pub numbers : NeverFall (last_number first.seen) (map (λ x. last_number x.after.seen) session.exchanges)

@@ -29,7 +29,7 @@ pub enum ControlRequest {
     End,
     /// The end of the input inside a request.
     Short,
-    /// A fault of the input, with no whole request.
+    /// A fault of the input, with no bytes or inside a request.
     Fault,
 }
 

@@ -143,7 +143,7 @@ fn control_requests<V: Kindred, R: Threads + Sync, P: Publishing<V, R>, A: Contr
 /// - `Closed` after another reply that closes;
 /// - `EndOfInput` where the input ended between two requests, `CutShort` where it ended inside a head or a body;
 /// - `HeadBad` where `HEAD_BAD` was put: for bytes that can't become a head, or 8192 bytes without a whole one;
-/// - `SourceFault` where the input failed, `SinkFault` where the output did.
+/// - `SourceFault` where the input failed between two requests or inside one, `SinkFault` where the output failed.
 ///
 /// It holds 8192 bytes of input, and one body and one reply at a time. May wait.
 pub fn control_with<V: Kindred, R: Threads + Sync, P: Publishing<V, R>, A: Controlling<V>, C: Conn>(

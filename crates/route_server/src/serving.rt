@@ -4,7 +4,6 @@ ghost use Rattle.std.specs.Prelude.{◌≡◌, ◌≤◌, ◌||◌, ◌==◌, le
 ghost use Rattle.httparse.specs.Grammar.{RequestHead};
 ghost use Rattle.http_head.specs.Heads.{IsHeadOf};
 ghost use Rattle.http_session.specs.Coming.{IsPartOfHead};
-ghost use Rattle.http_head.specs.Heads.{HasNoFront};
 ghost use Rattle.http_session.specs.Ending.{IsSession};
 ghost use Rattle.road_io.specs.Views.{IsFreshConn};
 ghost use Rattle.route_server.specs.QueryRule.{QueryRule, IsUnserved, is_served};
@@ -90,7 +89,7 @@ fn serve_requests<V: Drop, S: Reading<V>, A: Answering<V>, G: Gate, C: Conn>(
     conn: &mut C,
 ) -> Ended
     requires fits { (x : V) → S.kin seat.old x → A.fits answering.now x }
-    ensures session { IsSession (QueryRule (λ e. A.says e.value e.number)) IsUnserved IsPartOfHead HasNoFront (seat_state (S.seen seat.old) (S.learned seat.old) (S.reads seat.old)) (seat_state (S.seen seat.new) (S.learned seat.new) (S.reads seat.new)) (C.state conn.old) (C.state conn.new) result }
+    ensures session { IsSession (QueryRule (λ e. A.says e.value e.number)) IsUnserved IsPartOfHead (seat_state (S.seen seat.old) (S.learned seat.old) (S.reads seat.old)) (seat_state (S.seen seat.new) (S.learned seat.new) (S.reads seat.new)) (C.state conn.old) (C.state conn.new) result }
     ensures kin_stays { (x : V) → S.kin seat.new x → S.kin seat.old x }
 {
     let mut unread = Unread::new();
@@ -133,7 +132,7 @@ fn serve_requests<V: Drop, S: Reading<V>, A: Answering<V>, G: Gate, C: Conn>(
 /// - `Closed` after a reply that closes;
 /// - `HeadBad` where `HEAD_BAD` was put: for a head that isn't served, bytes that can't become one, or 8192
 ///   bytes without a whole one;
-/// - `SourceFault` where the input failed, `SinkFault` where the output did.
+/// - `SourceFault` where the input failed between two requests or inside one, `SinkFault` where the output failed.
 ///
 /// It holds 8192 bytes of input, and one reply at a time. May wait.
 pub fn serve_with<V: Drop, S: Reading<V>, A: Answering<V>, G: Gate, C: Conn>(

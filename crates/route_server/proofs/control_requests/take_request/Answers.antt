@@ -38,7 +38,7 @@ returns-in-Fails g c =
       record {
         held = unread ++ reads.reads.got;
         grows = grows_read first now unread rest _ reads.part reads.reads;
-        is = inr (read_part first now unread rest c.args.head.now c.args.size h c.of-asked.result c.body_length.result is c.consume.ensures asks c.body_length.ensures reads);
+        is = inr (inr (read_part first now unread rest c.args.head.now c.args.size h c.of-asked.result c.body_length.result is c.consume.ensures asks c.body_length.ensures reads));
       },
       c.in-Fails.ensures.came.1,
     )

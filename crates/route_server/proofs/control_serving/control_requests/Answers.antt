@@ -2,9 +2,9 @@ use Rattle.std.proofs.Common.{◌≡◌, Bool, true, false, inl, inr, refl, subs
 use Rattle.http_head.specs.Fields.{closes, fields_of}
 use Rattle.http_session.specs.Coming.{IsNoHead}
 use Rattle.http_session.specs.SoFar.{session_closed, session_cut, session_end, session_fault, session_refused, session_short, so_far_grows, so_far_reply, so_far_start}
-use Rattle.route_server.specs.ControlRule.{ControlRule, HasNoRequest, IsControlReply, IsPartOfRequest, desk_state}
+use Rattle.route_server.specs.ControlRule.{ControlRule, IsControlReply, IsPartOfRequest, desk_state}
 use Rattle.route_server.specs.QueryRule.{closes_at}
-use Rattle.route_server.proofs.ControlLaws.{control_exchange, control_not_last, control_rule_of, keeps_body, stopped_closes}
+use Rattle.route_server.proofs.ControlLaws.{control_exchange, control_not_last, control_rule_of, keeps_body, no_stop, stop_cut, stopped_closes}
 use Rattle.route_server.proofs.control_serving.control_requests.Goals as goal
 
 pub requests-init : goal.requests-init
@@ -43,7 +43,7 @@ returns-then-stopped-clause-session g c =
     let replies = subst (λ (b : Bool). IsControlReply controls list1 list2 asked read.body close b puts.0) c.if-stopped.true puts.1 in
     let x = control_exchange read.head read.body close puts.0 list2 true in
     let follows = control_rule_of controls n list1 list2 false true c1 c2 u1 u2 asked close c.in-Whole.kept puts.0 read replies in
-    session_closed rule IsNoHead IsPartOfRequest HasNoRequest d0 d1 c0 c2 c3 read.held u2 n x so_far read.split follows
+    session_closed rule IsNoHead IsPartOfRequest d0 d1 c0 c2 c3 read.held u2 n x so_far read.split follows
     (stopped_closes controls list1 list2 asked read.body (closes_at n read.head) close c.in-Ok.stopped puts.0 puts.1 c.if-stopped.true read.close_is) puts.2
 
 -- the reply closes the connection
@@ -70,7 +70,7 @@ returns-then-close-clause-session g c =
     let replies = subst (λ (b : Bool). IsControlReply controls list1 list2 asked read.body close b puts.0) c.if-stopped.false puts.1 in
     let x = control_exchange read.head read.body close puts.0 list2 false in
     let follows = control_rule_of controls n list1 list2 false false c1 c2 u1 u2 asked close c.in-Whole.kept puts.0 read replies in
-    (false, λ closed. refl, session_closed rule IsNoHead IsPartOfRequest HasNoRequest d0 d1 c0 c2 c3 read.held u2 n x so_far read.split follows c.if-close.true puts.2)
+    (false, session_closed rule IsNoHead IsPartOfRequest d0 d1 c0 c2 c3 read.held u2 n x so_far read.split follows c.if-close.true puts.2, no_stop)
 
 -- and the next request follows
 pub requests-preserved : goal.requests-preserved
@@ -125,7 +125,8 @@ returns-in-Err-clause-session g c =
     let puts = c.in-Err.ensures.puts read.body read.holds in
     let x = control_exchange read.head read.body close puts.1 list2 puts.0 in
     let follows = control_rule_of controls n list1 list2 false puts.0 c1 c2 u1 u2 asked close c.in-Whole.kept puts.1 read puts.2 in
-    (puts.0, λ closed. (cc), session_cut rule IsNoHead IsPartOfRequest HasNoRequest d0 d1 c0 c2 c3 read.held u2 n x so_far read.split follows puts.3)
+    let session = session_cut rule IsNoHead IsPartOfRequest d0 d1 c0 c2 c3 read.held u2 n x so_far read.split follows puts.3 in
+    (puts.0, session, λ on. (refl, stop_cut controls (g.P.Publishing.list c.args.desk.now) list2 c0 c3 puts.0 session on))
 
 -- no head
 pub returns-in-NoHead-clause-session : goal.returns-in-NoHead-clause-session
@@ -142,7 +143,7 @@ returns-in-NoHead-clause-session g c =
     let n = c.requests.replied in
     let comes = c.in-NoHead.ensures in
     let so_far = so_far_grows rule d0 d1 c0 c1 c2 u1 u2 n c.requests.invariant.so_far comes.0 comes.2 in
-    (false, λ closed. refl, session_refused rule IsNoHead IsPartOfRequest HasNoRequest d0 d1 c0 c2 (g.C.Conn.state c.refuse.new.conn) u2 n c.refuse.result so_far comes.1 c.refuse.ensures)
+    (false, session_refused rule IsNoHead IsPartOfRequest d0 d1 c0 c2 (g.C.Conn.state c.refuse.new.conn) u2 n c.refuse.result so_far comes.1 c.refuse.ensures, no_stop)
 
 -- the end of the input
 pub returns-in-End-clause-session : goal.returns-in-End-clause-session
@@ -159,7 +160,7 @@ returns-in-End-clause-session g c =
     let n = c.requests.replied in
     let comes = c.in-End.ensures in
     let so_far = so_far_grows rule d0 d1 c0 c1 c2 u1 u2 n c.requests.invariant.so_far comes.0 comes.3 in
-    (false, λ closed. refl, session_end rule IsNoHead IsPartOfRequest HasNoRequest d0 d1 c0 c2 u2 n so_far comes.1 comes.2)
+    (false, session_end rule IsNoHead IsPartOfRequest d0 d1 c0 c2 u2 n so_far comes.1 comes.2, no_stop)
 
 -- the end of the input inside a request
 pub returns-in-Short-clause-session : goal.returns-in-Short-clause-session
@@ -176,7 +177,7 @@ returns-in-Short-clause-session g c =
     let n = c.requests.replied in
     let comes = c.in-Short.ensures in
     let so_far = so_far_grows rule d0 d1 c0 c1 c2 u1 comes.0.held n c.requests.invariant.so_far comes.0.grows comes.2 in
-    (false, λ closed. refl, session_short rule IsNoHead IsPartOfRequest HasNoRequest d0 d1 c0 c2 comes.0.held n so_far comes.0.is comes.1)
+    (false, session_short rule IsNoHead IsPartOfRequest d0 d1 c0 c2 comes.0.held n so_far comes.0.is comes.1, no_stop)
 
 -- the input failed
 pub returns-in-Fault-clause-session : goal.returns-in-Fault-clause-session
@@ -192,4 +193,4 @@ returns-in-Fault-clause-session g c =
     let u2 = c.next_request.new.unread in
     let n = c.requests.replied in
     let comes = c.in-Fault.ensures in
-    (false, λ closed. refl, session_fault rule IsNoHead IsPartOfRequest HasNoRequest d0 d1 c0 c1 c2 u1 comes.0.held n c.requests.invariant.so_far comes.0.grows comes.0.is comes.1)
+    (false, session_fault rule IsNoHead IsPartOfRequest d0 d1 c0 c1 c2 u1 comes.0.held n c.requests.invariant.so_far comes.0.grows comes.0.is comes.1, no_stop)

@@ -1,5 +1,4 @@
 use Rattle.std.proofs.Common.{true, false, inr, refl, arith, drop}
-use Rattle.http_head.specs.Heads.{HasNoFront}
 use Rattle.http_session.specs.Coming.{IsPartOfHead}
 use Rattle.route_server.specs.QueryRule.{IsUnserved, QueryRule}
 use Rattle.route_server.specs.Seats.{seat_state}
@@ -34,7 +33,7 @@ returns-then-not-is_served-clause-session g c =
     let so_far = so_far_grows rule s0 s1 c0 c1 c2 c.requests.unread c.next_head.new.unread c.requests.replied c.requests.invariant.so_far c.in-Whole.ensures.grows c.in-Whole.ensures.comes.1 in
     let c3 = g.C.Conn.state c.refuse.new.conn in
     let not_served = served_at c.as_slice.result.now c.next_head.new.unread c.in-Whole.head c.in-Whole.size c.is_served.result false h c.as_slice.ensures is c.is_served.ensures c.if-not-is_served.true in
-    session_refused rule IsUnserved IsPartOfHead HasNoFront s0 s1 c0 c2 c3 c.next_head.new.unread c.requests.replied c.refuse.result so_far
+    session_refused rule IsUnserved IsPartOfHead s0 s1 c0 c2 c3 c.next_head.new.unread c.requests.replied c.refuse.result so_far
     (unserved c.next_head.new.unread c.in-Whole.head c.in-Whole.size h is not_served) c.refuse.ensures
 
 -- the output failed in a reply
@@ -58,7 +57,7 @@ returns-in-Err-clause-session g c =
     let puts = c.in-Err.ensures.puts in
     let x = exchange_of h close puts.0 s2 in
     let follows = rule_of says c.requests.replied s1 s2 c.next_head.new.unread c.in-Whole.head c.in-Whole.size h c.of-target.result.now close puts.0 is served c.closes_at-close.ensures target_is puts.1 in
-    session_cut rule IsUnserved IsPartOfHead HasNoFront s0 s1 c0 c2 c3 c.next_head.new.unread (drop c.in-Whole.size c.next_head.new.unread) c.requests.replied x so_far
+    session_cut rule IsUnserved IsPartOfHead s0 s1 c0 c2 c3 c.next_head.new.unread (drop c.in-Whole.size c.next_head.new.unread) c.requests.replied x so_far
     (split_of c.next_head.new.unread (drop c.in-Whole.size c.next_head.new.unread) c.in-Whole.head c.in-Whole.size h is refl) follows puts.2
 
 -- the reply closes the connection
@@ -82,7 +81,7 @@ returns-then-close-clause-session g c =
     let puts = c.in-Ok.ensures.puts in
     let x = exchange_of h close puts.0 s2 in
     let follows = rule_of says c.requests.replied s1 s2 c.next_head.new.unread c.in-Whole.head c.in-Whole.size h c.of-target.result.now close puts.0 is served c.closes_at-close.ensures target_is puts.1 in
-    session_closed rule IsUnserved IsPartOfHead HasNoFront s0 s1 c0 c2 c3 c.next_head.new.unread (drop c.in-Whole.size c.next_head.new.unread) c.requests.replied x so_far
+    session_closed rule IsUnserved IsPartOfHead s0 s1 c0 c2 c3 c.next_head.new.unread (drop c.in-Whole.size c.next_head.new.unread) c.requests.replied x so_far
     (split_of c.next_head.new.unread (drop c.in-Whole.size c.next_head.new.unread) c.in-Whole.head c.in-Whole.size h is refl) follows c.if-close.true puts.2
 
 -- and the next request follows
@@ -125,7 +124,7 @@ returns-in-NoHead-clause-session g c =
     let c2 = g.C.Conn.state c.next_head.new.conn in
     let so_far = so_far_grows rule s0 s1 c0 c1 c2 c.requests.unread c.next_head.new.unread c.requests.replied c.requests.invariant.so_far c.in-NoHead.ensures.grows c.in-NoHead.ensures.comes.1 in
     let c3 = g.C.Conn.state c.refuse-in-NoHead.new.conn in
-    session_refused rule IsUnserved IsPartOfHead HasNoFront s0 s1 c0 c2 c3 c.next_head.new.unread c.requests.replied c.refuse-in-NoHead.result so_far (inr c.in-NoHead.ensures.comes.0) c.refuse-in-NoHead.ensures
+    session_refused rule IsUnserved IsPartOfHead s0 s1 c0 c2 c3 c.next_head.new.unread c.requests.replied c.refuse-in-NoHead.result so_far (inr c.in-NoHead.ensures.comes.0) c.refuse-in-NoHead.ensures
 
 -- the input failed
 pub returns-in-Fault-clause-session : goal.returns-in-Fault-clause-session
@@ -137,4 +136,4 @@ returns-in-Fault-clause-session g c =
     let c0 = g.C.Conn.state c.args.conn.now in
     let c1 = g.C.Conn.state c.requests.conn in
     let c2 = g.C.Conn.state c.next_head.new.conn in
-    session_fault rule IsUnserved IsPartOfHead HasNoFront s0 s1 c0 c1 c2 c.requests.unread c.next_head.new.unread c.requests.replied c.requests.invariant.so_far c.in-Fault.ensures.grows c.in-Fault.ensures.comes.0 c.in-Fault.ensures.comes.1
+    session_fault rule IsUnserved IsPartOfHead s0 s1 c0 c1 c2 c.requests.unread c.next_head.new.unread c.requests.replied c.requests.invariant.so_far c.in-Fault.ensures.grows c.in-Fault.ensures.comes.0 c.in-Fault.ensures.comes.1
