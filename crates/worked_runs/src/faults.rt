@@ -63,7 +63,11 @@ fn asked(
         ..Case::over_town(LINES)
     };
     let (status, output) = run_case(rt, alloc, case)?;
-    told_asked(alloc, status, std::str::from_utf8(output.as_bytes()).unwrap_or(""))
+    told_asked(
+        alloc,
+        status,
+        std::str::from_utf8(output.as_bytes()).unwrap_or(""),
+    )
 }
 
 // The output of the one connection at the one door for queries, where it came back.
@@ -156,7 +160,11 @@ fn assert_outcomes(
 ) -> Result<(), AllocError> {
     for row in table.split('$') {
         let (kind, want) = pair_of(rt, row);
-        assert_eq!(rt; outcomes(rt, alloc, command, kind)?.as_str(), want, "{kind}");
+        assert_eq!(rt;
+            outcomes(rt, alloc, command, kind)?.as_str(),
+            want,
+            "{kind}"
+        );
     }
     Ok(())
 }

@@ -139,7 +139,13 @@ fn one_is_finished(doors: &MemDoors<MemConn>) -> bool {
 #[test]
 fn a_connection_is_served_under_the_metric_of_the_start(rt: HostRuntime) -> Result<(), AllocError> {
     let mut doors = one_door(rt.alloc(), Fault::none())?;
-    let told = served(&rt, rt.alloc(), over_doors(ONE_WORKER), &mut *doors, &OpenGate)?;
+    let told = served(
+        &rt,
+        rt.alloc(),
+        over_doors(ONE_WORKER),
+        &mut *doors,
+        &OpenGate,
+    )?;
     assert_eq!(rt; told.as_str(), "Ok ready\nconnections 1\nmetric 0\n");
     assert!(rt; one_is_finished(&doors));
     Ok(())
@@ -173,7 +179,13 @@ fn two_doors(alloc: Global) -> Result<Box<MemDoors<MemConn>>, AllocError> {
 #[test]
 fn beside_a_door_that_fails_the_other_goes_on(rt: HostRuntime) -> Result<(), AllocError> {
     let mut doors = two_doors(rt.alloc())?;
-    let told = served(&rt, rt.alloc(), over_doors(TWO_WORKERS), &mut *doors, &OpenGate)?;
+    let told = served(
+        &rt,
+        rt.alloc(),
+        over_doors(TWO_WORKERS),
+        &mut *doors,
+        &OpenGate,
+    )?;
     assert_eq!(rt; told.as_str(), "Outside ready\nconnections 1\nmetric 0\n");
     Ok(())
 }
@@ -189,7 +201,13 @@ fn flag_conn(
     ensures { IfOk result (λ c. IsFreshConn (conn_state c.conn)) }
 {
     let conn = connection(alloc, input, Fault::none())?;
-    Ok(FlagConn::of(conn, Arc::try_clone(wait)?, TURNS, Arc::try_clone(set)?, after))
+    Ok(FlagConn::of(
+        conn,
+        Arc::try_clone(wait)?,
+        TURNS,
+        Arc::try_clone(set)?,
+        after,
+    ))
 }
 
 // A door that such a connection comes through.
@@ -202,7 +220,11 @@ fn flag_door(
 ) -> Result<QueueDoor<FlagConn<MemConn>>, AllocError>
     ensures { IfOk result IsNewDoor }
 {
-    door_of(alloc, flag_conn(alloc, input, wait, set, after)?, Vec::new(alloc))
+    door_of(
+        alloc,
+        flag_conn(alloc, input, wait, set, after)?,
+        Vec::new(alloc),
+    )
 }
 
 // A flag that is not set.
