@@ -9,6 +9,8 @@ mod cases;
 #[cfg(test)]
 mod counting;
 #[cfg(test)]
+mod faults;
+#[cfg(test)]
 mod generated;
 #[cfg(test)]
 mod large;
