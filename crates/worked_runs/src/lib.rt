@@ -23,6 +23,8 @@ mod rows;
 #[cfg(test)]
 mod served;
 #[cfg(test)]
+mod steady;
+#[cfg(test)]
 mod steps;
 #[cfg(test)]
 mod traffic;
