@@ -66,7 +66,7 @@ else
 fi
 try targets.py 'reading of targets' '' --lines 50 "$car" town.opl
 try snapping.sh 'snapping by a scan, a grid and an index' rustc town.opl 100
-try serve.sh 'serving over loopback beside a plain server' "rustc $plain" --seconds 0.1 "$car" town.opl
+try serve.sh 'serving over loopback beside a plain server' "rustc $plain" --seconds 0.1
 try hostile.sh 'maps made to stall the reader' "$time" 500
 try hostile.sh 'streets that meet at one node' "$time" --stars 50
 try refused.py 'requests for memory refused in turn' cc --step 40 restriction refused table serve
