@@ -6,7 +6,7 @@
 # Each has a line that says what it is, and how long it took by the clock or why it is left out; what one that fails has
 # said stands below its line, and the status is then 1. The figures are of no use at such sizes, and aren't shown. Left
 # out is what isn't there (rustc, a C compiler, GNU time, a baseline of overlays), what proves or builds crates by rt,
-# which takes longer than all others together, and the client in Qt. It takes a minute or two.
+# which takes longer than all others together, and the client in Qt.
 set -eu
 
 bench=$(cd "$(dirname "$0")" && pwd)

@@ -11,8 +11,9 @@ rows and one more, the last of the turns, that is faulty. SETTINGS are those of 
 The program customizes the cells that hold a change from the metric before, which the baseline has no use for, in
 threads, and the thread that reads lines waits for them; so what is told of a line is the processor time of the first
 thread alone, as the kernel counts it (/proc, Linux only), and that of all threads. Reading and applying is then what a
-line with rows takes of the first thread beyond one without. The refused line is read and judged, and nothing else is
-done: reading alone. Each figure is the least of the repeats.
+line with rows takes of the first thread beyond one without, with what this thread customizes itself, which is most of
+it where the map is large. The refused line is read and judged, and nothing else is done: reading alone. Each figure is
+the least of the repeats.
 
 For memory the peak is begun anew before each line (/proc/PID/clear_refs). It needs rustc for the baseline.
 """
