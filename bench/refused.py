@@ -27,9 +27,8 @@ before: each other line has its own text under the number of the last publicatio
 raise. `silent` are runs of `serve` that answered no query until they were stopped, since no thread could be started for the
 worker; the control port answered as ever.
 
-Printed are, by row, how many requests were refused and how the runs ended; the status is 1 where a run ended otherwise. The
-program is that of the environment variable ROAD_ROUTER, or else it is proved and built by `rt run` in crates/road_router. It
-needs Linux and a C compiler; where there is none, or the program doesn't load the shim, the status is 2. (There `rt try
+Printed are, by row, how many requests were refused and how the runs ended; the status is 1 where a run ended otherwise.
+It needs Linux and a C compiler; where there is none, or the program doesn't load the shim, the status is 2. (There `rt try
 --fail-alloc K` in crates/road_router refuses one request, and builds the program each time.)"""
 import argparse
 import collections
@@ -42,9 +41,7 @@ import tempfile
 import threading
 from typing import NamedTuple
 
-TOP = os.path.dirname(os.path.dirname(os.path.abspath(__file__)))
-CRATE = os.path.join(TOP, "crates", "road_router")
-PROGRAM = os.environ.get("ROAD_ROUTER", os.path.join(CRATE, "out", "road_router"))
+import common
 
 # Seconds by the clock: after which a run hangs, and after which a request to `serve` has no reply.
 LIMIT, SILENCE = 60, 5
@@ -274,11 +271,12 @@ def compiled(folder):
 
 
 class Place:
-    """A folder with the files of runs, the shim, and whether it refuses all requests behind the first that it refuses."""
+    """A folder with the files of runs, the program, the shim, and whether it refuses all requests behind the first that it
+    refuses."""
 
-    def __init__(self, folder, shim, on):
-        self.folder, self.shim, self.on = folder, shim, on
-        shutil.copy(os.path.join(CRATE, "data", "settings.toml"), folder)
+    def __init__(self, folder, program, shim, on):
+        self.folder, self.program, self.shim, self.on = folder, program, shim, on
+        shutil.copy(os.path.join(common.CRATE, "data", "settings.toml"), folder)
         for name, rows in TRAFFIC.items():
             self.write(name, rows)
 
@@ -291,7 +289,7 @@ class Place:
         own = {"LD_PRELOAD": self.shim, "REFUSED_NUMBER": str(number), "REFUSED_TELL": str(told.fileno())}
         flags = {"REFUSED_ON": self.on, "REFUSED_ALONE": alone}
         return subprocess.Popen(
-            [PROGRAM, *words],
+            [self.program, *words],
             cwd=self.folder,
             env={**os.environ, **own, **{name: "" for name, is_set in flags.items() if is_set}},
             pass_fds=[told.fileno()],
@@ -467,15 +465,13 @@ def words_read():
 
 
 def main():
-    words = words_read()
-    if not os.access(PROGRAM, os.X_OK):
-        subprocess.run(["rt", "run"], cwd=CRATE, stdout=subprocess.DEVNULL, check=True)
+    words, program = words_read(), common.program()
     os.sched_setaffinity(0, [min(os.sched_getaffinity(0))])
     kinds = ("own", "Busy", "status 4", "silent", None)
     print(f"{'':14}{'refused':>10}" + "".join(f"{kind or 'other':>10}" for kind in kinds), flush=True)
     fine = True
     with tempfile.TemporaryDirectory(prefix="refused-") as folder:
-        place = Place(folder, compiled(folder), words.on)
+        place = Place(folder, program, compiled(folder), words.on)
         for name in words.names:
             row = ROWS.get(name)
             run = (lambda number: ask(place, row, number)) if row else (lambda number: serve(place, number))
