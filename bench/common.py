@@ -7,7 +7,7 @@
     bench/common.py routes SETTINGS OPL COUNT     prints the targets of so many random routes, one a line
 
 The program is that of the environment variable ROAD_ROUTER, or else crates/road_router/out/road_router below the
-repository. Where none is there a script says so and fails: proving it takes most of an hour, so none does that. The
+repository. Where none is there a script says so and fails: proving it takes 20 minutes or more, so none does that. The
 baseline is that of BASELINE, or else baseline.rs, compiled by rustc.
 """
 import os
