@@ -25,3 +25,6 @@ mod trips;
 pub use best_trips::best;
 pub use rules::{Destination, Rule, Source};
 pub use trips::Trip;
+
+#[cfg(test)]
+mod tests;
