@@ -1,0 +1,15 @@
+pub mod ArcLaws
+pub mod Costing
+pub mod Ending
+pub mod Expanding
+pub mod Falling
+pub mod Fanning
+pub mod Growing
+pub mod Holding
+pub mod Laying
+pub mod Lifting
+pub mod Outgoing
+pub mod Prefixes
+pub mod States
+pub mod Turning
+pub mod Words

@@ -1,0 +1,8 @@
+use Rattle.std.proofs.Common.{◌≡◌, ℕ, List, ◌++◌, take}
+use Rattle.via_paths.specs.Expansion.{copy_arcs}
+use Rattle.via_paths.specs.Tries.{IsAutomaton, AreFans}
+use Rattle.via_paths.proofs.arcs.push_copies.Given as goal
+
+abbrev pub invariant-loop-k : goal.invariant-loop-k
+invariant-loop-k l = (sequences copies : List (List ℕ)) (turns : List (ℕ × ℕ)) → IsAutomaton l.trie.vertices sequences copies l.trie.next l.trie.copied.items l.ends →
+    AreFans l.trie.copied.items turns l.fans → l.arcs.items ≡ l.fn.arcs.items ++ copy_arcs l.trie.vertices sequences copies turns l.trie.vertices (take l.k copies)
