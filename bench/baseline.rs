@@ -12,6 +12,10 @@
 //!                                     kept by their nodes, and each vertex and each turn looks for its own
 //!     baseline check OPL SETTINGS     prints the counts of the program's `check`
 //!     baseline serve OPL SETTINGS LISTEN CONTROL WORKERS      serves over HTTP (`serve_plain.rs`)
+//!
+//! `mirror` copies the rows of `metric_make` (`speed_rows.rt`, `turn_rows.rt`) by hand, as they stood when rows by their
+//! nodes were first proved: before their maps were made with their room at once. It has Rust's own hasher, and copies
+//! what the settings say in place of making it anew. Nothing keeps it like the crate.
 
 mod serve_plain;
 

@@ -19,7 +19,7 @@ TICK = os.sysconf("SC_CLK_TCK")
 KINDS = ("proof", "tests", "seed", "wrong bodies", "other")
 # The most processor seconds that one check may take; the seed's has the look at it behind its wrong bodies too. A wrong body
 # with no seed is tried from nothing, as long as a proof.
-BARS = {"proof": 300, "tests": 150, "seed": 350, "wrong body": 60, "wrong body alone": 300}
+BARS = {"proof": 270, "tests": 500, "seed": 280, "wrong body": 60, "wrong body alone": 180}
 
 
 def stat_of(pid):

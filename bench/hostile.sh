@@ -16,15 +16,12 @@
 # It prints processor seconds and the peak in megabytes of `check`, of `ask` over one route, whose
 # start customizes the cells, and of `ask` over a route and a line of TRAFFIC, each run once.
 #
-# The program is that of the environment variable ROAD_ROUTER, or else it is proved and built by
-# `rt run` in crates/road_router. It needs GNU time and python3.
+# It needs GNU time and python3.
 set -eu
 
-top=$(cd "$(dirname "$0")/.." && pwd)
-program=${ROAD_ROUTER:-$top/crates/road_router/out/road_router}
-if [ ! -x "$program" ]; then
-    (cd "$top/crates/road_router" && rt run > /dev/null)
-fi
+bench=$(cd "$(dirname "$0")" && pwd)
+car=$bench/car.toml
+program=$("$bench/common.py" program)
 scratch=$(mktemp -d)
 trap 'rm -rf "$scratch"' EXIT
 
@@ -59,10 +56,16 @@ for street in range(streets):
 END
 }
 
-# spent COMMAND LINES: processor seconds and megabytes of a command over these lines of input
+# spent COMMAND LINES: processor seconds and megabytes of a command over these lines of input, which may refuse the map
 spent() {
-    printf "$2" | /usr/bin/time -o "$scratch/used" -f '%U %S %M' "$program" "$1" "$scratch/map.opl" "$top/bench/car.toml" > "$scratch/out" 2>&1 || true
-    awk '/^[0-9.]+ [0-9.]+ [0-9]+$/ { printf "%.2f %d", $1 + $2, $3 / 1024 }' "$scratch/used"
+    status=0
+    printf "$2" | /usr/bin/time -q -o "$scratch/used" -f '%U %S %M' "$program" "$1" "$scratch/map.opl" "$car" \
+        > "$scratch/out" 2>&1 || status=$?
+    if [ "$status" != 0 ] && [ "$status" != 3 ]; then
+        echo "$1 ended with status $status" >&2
+        exit 1
+    fi
+    awk '{ printf "%.2f %d\n", $1 + $2, $3 / 1024 }' "$scratch/used"
 }
 
 if [ "${1-}" = --stars ]; then
@@ -71,18 +74,20 @@ if [ "${1-}" = --stars ]; then
     printf '%8s %8s %6s %8s %6s %8s %6s\n' streets check MB ask MB TRAFFIC MB
     for streets in ${@:-500 1000 2000 4000}; do
         star "$streets" > "$scratch/map.opl"
-        echo "$streets $(spent check '') $(spent ask "$route") $(spent ask "${route}TRAFFIC - -\\n")" |
-            awk '{ printf "%8d %8.2f %6d %8.2f %6d %8.2f %6d\n", $1, $2, $3, $4, $5, $6, $7 }'
+        row="$streets $(spent check '')"
+        row="$row $(spent ask "$route")"
+        row="$row $(spent ask "${route}TRAFFIC - -\\n")"
+        echo "$row" | awk '{ printf "%8d %8.2f %6d %8.2f %6d %8.2f %6d\n", $1, $2, $3, $4, $5, $6, $7 }'
     done
     exit
 fi
 
-# least FILE: the least processor seconds of five runs
+# least: the least processor seconds of five runs of `check`
 least() {
     for run in 1 2 3 4 5; do
-        /usr/bin/time -o "$scratch/used" -f '%U %S' "$program" check "$1" "$top/bench/car.toml" > "$scratch/out" 2>&1 || true
-        awk '/^[0-9.]+ [0-9.]+$/ { print $1 + $2 }' "$scratch/used"
-    done | sort -n | head -n 1
+        spent check ''
+    done > "$scratch/runs"
+    sort -n "$scratch/runs" | head -n 1 | cut -d ' ' -f 1
 }
 
 printf '%10s %8s %8s %8s %8s %8s\n' segments none 1 50 200 ratio
@@ -90,7 +95,7 @@ for segments in ${@:-10000 40000 160000}; do
     row=
     for restrictions in 0 1 50 200; do
         map "$segments" "$restrictions" > "$scratch/map.opl"
-        row="$row $(least "$scratch/map.opl")"
+        row="$row $(least)"
     done
     echo "$segments $row" | awk '{ printf "%10d %8.2f %8.2f %8.2f %8.2f %8.2f\n", $1, $2, $3, $4, $5, $5 / ($2 > 0 ? $2 : 0.01) }'
 done

@@ -1,23 +1,20 @@
 #!/usr/bin/env python3
 """Measures reading, building and routing against the baseline of this folder, in one run.
 
-usage: bench/reading.py [--program FILE] [--settings FILE] [--towns 50,100,200]
-                        [--routes N] [--repeats N] [--tangles N] [OPL ..]
+usage: bench/reading.py [--towns 50,100,200] [--routes N] [--repeats N] [--tangles N] [SETTINGS [OPL ..]]
 
-For each OPL file, and for each generated town of N by N nodes, it prints what the program and `baseline.rs` take from the start to the first reply (reading and building), for reading
-alone (with settings under which no way can be used), in memory, and for N random routes after that, each
-with the ratio of the program to the baseline. Times are processor seconds, the least of the repeats,
-which alternate between the two: other work on the machine disturbs them less than time by the clock.
-What routes take is that of a whole run without its start-up; how much of it is snapping shows in as many
-routes that end where they begin.
+For each OPL file, and for each generated town of N by N nodes, it prints what the program and `baseline.rs` take from
+the start to the first reply (reading and building), for reading alone (with settings under which no way can be used),
+in memory, and for N random routes after that, each with the ratio of the program to the baseline. Times are processor
+seconds, the least of the repeats, which alternate between the two: other work on the machine disturbs them less than
+time by the clock. What routes take is that of a whole run without its start-up; how much of it is snapping shows in as
+many routes that end where they begin.
 
-It also compares the replies of both, byte for byte, on those routes, on lines made to be hard, and on
-small maps made to be hard (tangles), and what both print for `check`; it keeps the lines and the map of a
-difference, and ends with status 1 where there is one.
+It also compares the replies of both, byte for byte, on those routes, on lines made to be hard, and on small maps made
+to be hard (tangles), and what both print for `check`; it keeps the lines and the map of a difference, and ends with
+status 1 where there is one.
 
-The program is the one named, or that of the environment variable ROAD_ROUTER, or else it is proved and
-built by `rt run` in crates/road_router. It needs rustc for the baseline, and GNU time. An extract is made
-by `osmium cat -f opl map.osm.pbf -o map.opl`.
+SETTINGS are those of car.toml where none are named. It needs rustc for the baseline, and GNU time.
 """
 import argparse
 from collections import Counter
@@ -30,8 +27,8 @@ import subprocess
 import sys
 import tempfile
 
-HERE = os.path.dirname(os.path.abspath(__file__))
-CRATE = os.path.join(os.path.dirname(HERE), "crates", "road_router")
+import common
+from common import near
 
 # Settings of the right form under which no way can be used.
 UNUSED = 'name = "none"\nvehicle = "none"\n\n[speeds]\nno_such_road = 1\n'
@@ -40,36 +37,6 @@ FRONT, BACK = "GET /route/v1/car/", "?overview=false"
 
 
 # ---- maps ----
-
-def town(size, target):
-    """Writes a town: a grid of size by size nodes with scattered locations, a street along each row and
-    an avenue along each column; each sixth street is bigger, and of the avenues each fourth is one-way
-    up and each fourth one-way down. Some crossings have signals, a few are closed, and at some a turn is
-    forbidden."""
-    chance = random.Random(size)
-    with open(target, "w", encoding="ascii", newline="\n") as out:
-        for row in range(size):
-            for column in range(size):
-                lon = 13.0 + column * 0.0011 + chance.randint(-2000, 2000) * 1e-7
-                lat = 53.4 + row * 0.0008 + chance.randint(-2000, 2000) * 1e-7
-                kinds = ["highway=crossing", "highway=traffic_signals", "barrier=bollard"]
-                tags = chance.choices(["", *kinds], [900, 50, 40, 10])[0]
-                out.write(f"n{row * size + column + 1} v1 dV T{tags} x{lon:.7f} y{lat:.7f}\n")
-        for row in range(size):
-            kind = "secondary" if row % 6 == 0 else "residential"
-            ids = ",".join(f"n{row * size + column + 1}" for column in range(size))
-            out.write(f"w{row + 1} v1 dV Thighway={kind},name=Street-{row + 1},surface=asphalt N{ids}\n")
-        for column in range(size):
-            way = {1: ",oneway=yes", 3: ",oneway=-1"}.get(column % 4, "")
-            ids = ",".join(f"n{row * size + column + 1}" for row in range(size))
-            out.write(f"w{size + column + 1} v1 dV Thighway=residential,name=Avenue%20%{column + 1}{way} N{ids}\n")
-        for number in range(size * size // 20):
-            row, column = chance.randrange(size), chance.randrange(size)
-            kind = chance.choice(["no_left_turn", "no_right_turn", "no_straight_on", "only_straight_on"])
-            ways = chance.sample([row + 1, size + column + 1], 2)
-            members = f"w{ways[0]}@from,n{row * size + column + 1}@via,w{ways[1]}@to"
-            out.write(f"r{number + 1} v1 dV Ttype=restriction,restriction={kind} M{members}\n")
-
 
 NODE_TAGS = ["Tbarrier=bollard", "Tbarrier=wall,highway=traffic_signals", "Thighway=traffic_signals", "Thighway=traffic%5f%signals"]
 
@@ -152,35 +119,9 @@ def tangle(seed, target):
 
 # ---- requests ----
 
-def locations(path, settings):
-    """The locations of the nodes of the ways whose kind the settings name."""
-    with open(settings, encoding="utf-8") as lines:
-        kinds = set(re.findall(r"^(\w+) *=", lines.read().split("[speeds]")[-1], re.M))
-    used, nodes = set(), {}
-    with open(path, encoding="utf-8") as lines:
-        for line in lines:
-            if line.startswith("n"):
-                found = re.match(r"n(-?\d+) .*\bx(-?[\d.]+) y(-?[\d.]+)", line)
-                if found:
-                    nodes[found[1]] = (float(found[2]), float(found[3]))
-            elif line.startswith("w"):
-                kind = re.search(r"[T,]highway=(\w+)", line)
-                if kind and kind[1] in kinds:
-                    used.update(re.findall(r"[N,]n(-?\d+)", "N" + line.split(" N")[-1]))
-    return [nodes[id] for id in sorted(used) if id in nodes]
-
-
-def near(chance, point, reach, digits=6):
-    lon = point[0] + chance.uniform(-reach, reach)
-    lat = point[1] + chance.uniform(-reach, reach)
-    return f"{lon:.{digits}f},{lat:.{digits}f}"
-
-
 def random_routes(points, count, seed):
-    """Routes between random nodes, each coordinate moved by up to 200 metres."""
-    chance = random.Random(seed)
-    pairs = [(near(chance, chance.choice(points), 0.002), near(chance, chance.choice(points), 0.002)) for _ in range(count)]
-    return [f"{FRONT}{a};{b}{BACK}" for a, b in pairs]
+    """Routes between random nodes."""
+    return [f"GET {target}" for target in common.random_targets(points, count, seed)]
 
 
 def long_routes(points, count, seed):
@@ -251,27 +192,12 @@ REFUSED = [f"GET {target}" for target in (
 
 # ---- runs ----
 
-def timed(command, lines):
-    """One run: its processor seconds and its output. The status must be 0."""
-    with tempfile.TemporaryFile() as given, tempfile.TemporaryFile() as told:
-        given.write("".join(line + "\n" for line in lines).encode())
-        given.seek(0)
-        child = subprocess.Popen(command, stdin=given, stdout=told)
-        _, status, usage = os.wait4(child.pid, 0)
-        child.returncode = os.waitstatus_to_exitcode(status)
-        told.seek(0)
-        output = told.read()
-    if child.returncode != 0:
-        sys.exit(f"{command[0]} ended with status {child.returncode}: {output[-200:]!r}")
-    return usage.ru_utime + usage.ru_stime, output
-
-
 def least(both, repeats, lines, *words):
     """The least time of each of both commands, in turns, and their last outputs."""
     times, outputs = ([], []), [b"", b""]
     for _ in range(repeats):
         for which, command in enumerate(both):
-            seconds, outputs[which] = timed([command, "ask", *words], lines)
+            seconds, outputs[which] = common.run([command, "ask", *words], lines)
             times[which].append(seconds)
     return [min(all_of) for all_of in times], outputs
 
@@ -354,7 +280,7 @@ def measure(name, path, both, arguments, scratch):
     memory = [peak(command, [], path, settings) for command in both]
     row("peak memory at start-up", *memory, "MB")
     row("  for each segment", *[m * 1048576 / segments for m in memory], "bytes")
-    points = locations(path, settings)
+    points = common.locations(path, settings)
     routes = random_routes(points, arguments.routes, 1)
     times, outputs = least(both, max(1, repeats // 2), routes, path, settings)
     spent = [max(t - s, 1e-6) for t, s in zip(times, start)]
@@ -394,37 +320,25 @@ def compare_tangles(count, both, settings, scratch):
     return wrong
 
 
-def built_program():
-    """Proves and builds the program where no built one is named."""
-    command = ["rt", "run", "--", "ask", "data/town.opl", "data/settings.toml"]
-    if subprocess.run(command, cwd=CRATE, stdin=subprocess.DEVNULL, stdout=sys.stderr).returncode != 0:
-        sys.exit("the program was not built; cd crates/road_router && rt run says why")
-    return os.path.join(CRATE, "out", "road_router")
-
-
 def main():
     parser = argparse.ArgumentParser(usage=__doc__.split("usage: ")[1].split("\n\n")[0])
-    parser.add_argument("--program", default=os.environ.get("ROAD_ROUTER"))
-    parser.add_argument("--settings", default=os.path.join(HERE, "car.toml"))
     parser.add_argument("--towns", default="50,100,200")
     parser.add_argument("--routes", type=int, default=200)
     parser.add_argument("--repeats", type=int, default=5)
     parser.add_argument("--tangles", type=int, default=50)
+    parser.add_argument("settings", nargs="?", default=common.CAR)
     parser.add_argument("maps", nargs="*")
     arguments = parser.parse_args()
-    program = arguments.program or built_program()
-    wrong = 0
+    program, wrong = common.program(), 0
     with tempfile.TemporaryDirectory() as scratch:
-        baseline = os.path.join(scratch, "baseline")
-        source = os.path.join(HERE, "baseline.rs")
-        subprocess.run(["rustc", "--edition", "2024", "-C", "opt-level=3", "-o", baseline, source], check=True)
-        both = [os.path.abspath(program), baseline]
+        both = [program, common.baseline(scratch)]
         wrong += compare_tangles(arguments.tangles, both, arguments.settings, scratch)
         for source in arguments.maps:
             wrong += measure(os.path.basename(source), source, both, arguments, scratch)
         path = os.path.join(scratch, "map.opl")
         for size in filter(None, arguments.towns.split(",")):
-            town(int(size), path)
+            with open(path, "w", encoding="ascii") as out:
+                common.town(int(size), out)
             wrong += measure(f"town {size} by {size}", path, both, arguments, scratch)
     sys.exit(1 if wrong else 0)
 

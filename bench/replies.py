@@ -1,14 +1,13 @@
 #!/usr/bin/env python3
 """Measures and compares replies of all services against the baseline of this folder, in one run.
 
-    bench/replies.py [--traffic SPEEDS,TURNS] [--tangles N] [--only-compare] [--baseline FILE] PROGRAM SETTINGS OPL [OPL ..]
+    bench/replies.py [--traffic SPEEDS,TURNS] [--tangles N] [--roads 1000,..] [--only-compare] [SETTINGS [OPL ..]]
 
-PROGRAM is the built road_router, or a command of several words that runs it, `ask` and what follows left out. On each
-map random places are asked for: `nearest` with one and with ten results, tables of 100 by 100, routes without a
-line, with a simplified line, with a full one and all annotations, and with steps, and one route of 500 places that
-goes to and fro between two far ones, without a line and with a simplified one. Then come long roads, of 1,000 to
-10,000 segments: one way, whose whole line and annotations are asked for, and a chain of ways of other names, whose
-steps are asked for.
+On each map random places are asked for: `nearest` with one and with ten results, tables of 100 by 100, routes without
+a line, with a simplified line, with a full one and all annotations, and with steps, and one route of 500 places that
+goes to and fro between two far ones, without a line and with a simplified one. Then come long roads, of so many
+segments (1000,2000,5000,10000): one way, whose whole line and annotations are asked for, and a chain of ways of other
+names, whose steps are asked for. SETTINGS are those of car.toml where none are named. It needs rustc for the baseline.
 
 Then traffic: on each map, and on N small maps made to be hard (20), lines of TRAFFIC with drawn files, good ones in
 all forms of CSV and faulty ones, and with the files that are named, stand between requests of all services. What is
@@ -24,28 +23,14 @@ import json
 import os
 import random
 import re
-import resource
-import shlex
 import subprocess
 import sys
 import tempfile
 
+import common
+from common import asked, start_of
 from reading import tangle
 import traffic_rows
-
-HERE = os.path.dirname(os.path.abspath(__file__))
-
-
-def seconds(words, lines):
-    """Processor seconds of a run over these lines, and its replies."""
-    before = resource.getrusage(resource.RUSAGE_CHILDREN)
-    done = subprocess.run(words, input="".join(line + "\n" for line in lines).encode(), stdout=subprocess.PIPE, check=True)
-    after = resource.getrusage(resource.RUSAGE_CHILDREN)
-    spent = after.ru_utime - before.ru_utime + after.ru_stime - before.ru_stime
-    replies = done.stdout.decode().splitlines()
-    if len(replies) != len(lines):
-        sys.exit(f"{words[0]}: {len(replies)} replies to {len(lines)} lines")
-    return spent, replies
 
 
 def without_walks(reply):
@@ -89,7 +74,7 @@ def compare(ours, theirs):
 def measure(name, runs, start, lines, repeats=3):
     spent, replies = [], []
     for words, began in zip(runs, start):
-        tries = [seconds(words, lines) for _ in range(repeats)]
+        tries = [asked(words, lines) for _ in range(repeats)]
         spent.append((min(least for least, _ in tries) - began) / len(lines))
         replies.append(tries[0][1])
     equal, ties, wrong = compare(*replies)
@@ -121,7 +106,7 @@ def on_map(runs, opl):
     chance = random.Random(17)
     (west, east), (south, north) = extent(opl)
     place = lambda: f"{chance.uniform(west, east):.6f},{chance.uniform(south, north):.6f}"
-    start = [min(seconds(words, [])[0] for _ in range(3)) for words in runs]
+    start = [start_of(words) for words in runs]
     pairs = [f"{place()};{place()}" for _ in range(200)]
     near = [place() for _ in range(500)]
     tables = [";".join(place() for _ in range(100)) for _ in range(2)]
@@ -179,15 +164,15 @@ def chain(segments, folder):
     return opl
 
 
-def on_roads(programs, settings, folder):
+def on_roads(programs, settings, lengths, folder):
     fine = []
-    for segments in (1000, 2000, 5000, 10000):
+    for segments in lengths:
         for opl, kinds in (
             (road(segments, folder), [("road", "without a line", "overview=false"), ("road", "simplified", ""), ("road", "with all", "overview=full&annotations=true")]),
             (chain(segments, folder), [("chain", "without a line", "overview=false"), ("chain", "with steps", "overview=false&steps=true"), ("chain", "with steps in geojson", "overview=false&steps=true&geometries=geojson")]),
         ):
-            runs = [[*program, "ask", opl, settings] for program in programs]
-            start = [min(seconds(words, [])[0] for _ in range(3)) for words in runs]
+            runs = [[program, "ask", opl, settings] for program in programs]
+            start = [start_of(words) for words in runs]
             ends = f"13,40;13,{40 + segments * 0.001:.3f}"
             for what, name, query in kinds:
                 target = f"GET /route/v1/car/{ends}" + ("?" + query if query else "")
@@ -256,7 +241,7 @@ def on_traffic(name, runs, opl, place, rows, each, seed, named=()):
         for line, told in traffic_lines(chance, opl, rows, folder, named):
             known[len(lines)] = told
             lines += [line, *requests(chance, place, each)]
-        replies = [seconds(words, lines)[1] for words in runs]
+        replies = [asked(words, lines)[1] for words in runs]
         equal, ties, wrong = compare(*replies)
         for at, told in known.items():
             if not re.fullmatch(told.decode(), replies[0][at]):
@@ -286,7 +271,7 @@ def on_tangles(programs, settings, count, folder):
     fine, opl = [], os.path.join(folder, "tangle.opl")
     for seed in range(count):
         points = tangle(seed, opl)
-        runs = [[*program, "ask", opl, settings] for program in programs]
+        runs = [[program, "ask", opl, settings] for program in programs]
         fine.append(on_traffic(f"tangle {seed}", runs, opl, near_nodes(random.Random(seed), points), 40, 8, seed))
     return fine
 
@@ -295,22 +280,18 @@ def main():
     parser = argparse.ArgumentParser(usage=__doc__.split("\n\n")[1])
     parser.add_argument("--traffic", action="append", default=[])
     parser.add_argument("--tangles", type=int, default=20)
+    parser.add_argument("--roads", default="1000,2000,5000,10000")
     parser.add_argument("--only-compare", action="store_true")
-    parser.add_argument("--baseline")
-    parser.add_argument("program")
-    parser.add_argument("settings")
+    parser.add_argument("settings", nargs="?", default=common.CAR)
     parser.add_argument("maps", nargs="*")
     given = parser.parse_args()
-    program, settings = shlex.split(given.program), os.path.abspath(given.settings)
+    program, settings, fine = common.program(), os.path.abspath(given.settings), []
     named = [[os.path.abspath(name) for name in files.split(",")] for files in given.traffic]
     with tempfile.TemporaryDirectory() as folder:
-        baseline = given.baseline or os.path.join(folder, "baseline")
-        if not given.baseline:
-            subprocess.run(["rustc", "--edition", "2024", "-C", "opt-level=3", os.path.join(HERE, "baseline.rs"), "-o", baseline], check=True)
-        programs, fine = (program, [baseline]), []
+        programs = [program, common.baseline(folder)]
         for opl in map(os.path.abspath, given.maps):
             print(f"== {os.path.basename(opl)}")
-            runs = [[*one, "ask", opl, settings] for one in programs]
+            runs = [[one, "ask", opl, settings] for one in programs]
             if not given.only_compare:
                 fine += on_map(runs, opl)
             (west, east), (south, north) = extent(opl)
@@ -319,7 +300,7 @@ def main():
             fine.append(on_traffic("traffic", runs, opl, place, 2000, 20, 1, named))
         if not given.only_compare:
             print("== roads")
-            fine += on_roads(programs, settings, folder)
+            fine += on_roads(programs, settings, map(int, given.roads.split(",")), folder)
         print("== small maps made to be hard")
         fine += on_tangles(programs, settings, given.tangles, folder)
     sys.exit(0 if all(fine) else 1)

@@ -1,14 +1,13 @@
 #!/bin/sh
 # How many requests a second are answered over loopback, and how long they take, beside a plain server.
 #
-#     bench/serve.sh [PROGRAM [OPL [SECONDS]]]
+#     bench/serve.sh [--plain] [--seconds N] [SETTINGS [OPL]]
 #
-# PROGRAM is the built road_router, or else it is that of the environment variable ROAD_ROUTER, or proved and
-# built by `rt run` in crates/road_router; `-` measures the plain server alone. OPL is a map, or else a town of
-# 40 by 40 nodes (that of `reading.py`) is made. The plain server is `serve_plain.rs` over the search of
-# `baseline.rs`, in threads, with the standard library alone.
+# SETTINGS are those of car.toml where none are named. OPL is a map, or else a town of 40 by 40 nodes (that of
+# `common.py`) is made. The plain server is `serve_plain.rs` over the search of `baseline.rs`, in threads, with the
+# standard library alone; `--plain` measures it alone.
 #
-# Both serve with 1 and with 4 workers, and each is asked by as many clients as it has workers, for SECONDS (3) a
+# Both serve with 1 and with 4 workers, and each is asked by as many clients as it has workers, for N seconds (3) a
 # row and no longer: over connections that are kept (100 requests each), and over a new one for each request (10000
 # at most). `refused` are requests that name an unknown option, so that no map is looked at: what a connection and its
 # replies cost. `routes` are 400 random routes, and `beside` the same while the rows of a traffic file are published
@@ -18,13 +17,23 @@
 # speaks to loopback addresses alone. It needs rustc and python3.
 set -eu
 
-top=$(cd "$(dirname "$0")/.." && pwd)
-program=${1:-${ROAD_ROUTER:-$top/crates/road_router/out/road_router}}
-seconds=${3:-3}
-if [ "$program" != - ] && [ ! -x "$program" ]; then
-    (cd "$top/crates/road_router" && rt run > /dev/null)
+bench=$(cd "$(dirname "$0")" && pwd)
+both='program plain'
+seconds=3
+while :; do
+    case ${1-} in
+        --plain) both=plain; shift ;;
+        --seconds) seconds=$2; shift 2 ;;
+        -*) echo 'usage: bench/serve.sh [--plain] [--seconds N] [SETTINGS [OPL]]' >&2; exit 2 ;;
+        *) break ;;
+    esac
+done
+settings=$(realpath "${1:-$bench/car.toml}")
+if [ "$both" != plain ]; then
+    program=$("$bench/common.py" program)
 fi
 scratch=$(mktemp -d)
+map=$(realpath "${2:-$scratch/town.opl}")
 servers=
 
 # Ends the servers that still run.
@@ -36,26 +45,14 @@ leave() {
 }
 trap leave EXIT
 
-for name in baseline serve_load; do
-    rustc --edition 2024 -C opt-level=3 "$top/bench/$name.rs" -o "$scratch/$name"
-done
-map=${2:-$scratch/town.opl}
-settings=$top/bench/car.toml
-(cd "$scratch" && python3 - "$top/bench" "$map" "$settings" ${2:+given} <<'END'
-import sys
-sys.path.insert(0, sys.argv[1])
-sys.dont_write_bytecode = True
-import reading
-if len(sys.argv) == 4:
-    reading.town(40, sys.argv[2])
-routes = reading.random_routes(reading.locations(sys.argv[2], sys.argv[3]), 400, 1)
-with open("routes", "w", encoding="ascii") as out:
-    out.writelines(line.removeprefix("GET ") + "\n" for line in routes)
-with open("refused", "w", encoding="ascii") as out:
-    out.writelines(line.removeprefix("GET ") + "&step=true\n" for line in routes)
-END
-)
-(cd "$scratch" && python3 -B "$top/bench/traffic_rows.py" "$map" 500 0)
+baseline=$("$bench/common.py" baseline "$scratch")
+rustc --edition 2024 -C opt-level=3 "$bench/serve_load.rs" -o "$scratch/serve_load"
+if [ -z "${2-}" ]; then
+    "$bench/common.py" town 40 > "$map"
+fi
+"$bench/common.py" routes "$settings" "$map" 400 > "$scratch/routes"
+sed 's/$/\&step=true/' "$scratch/routes" > "$scratch/refused"
+(cd "$scratch" && "$bench/traffic_rows.py" "$map" 500 0)
 
 # start NAME WORKERS: starts a server, whose addresses are then $listen and $control and whose process is $server
 start() {
@@ -65,9 +62,10 @@ start() {
     # What a server before it printed is not to be taken for its own.
     : > "$scratch/$1.out"
     if [ "$1" = plain ]; then
-        timeout 600 "$scratch/baseline" serve "$map" "$settings" "$listen" "$control" "$2" > "$scratch/$1.out" &
+        timeout 600 "$baseline" serve "$map" "$settings" "$listen" "$control" "$2" > "$scratch/$1.out" &
     else
-        timeout 600 "$program" serve "$map" "$settings" --listen "$listen" --control "$control" --workers "$2" > "$scratch/$1.out" &
+        timeout 600 "$program" serve "$map" "$settings" --listen "$listen" --control "$control" --workers "$2" \
+            > "$scratch/$1.out" &
     fi
     server=$!
     servers="$servers $server"
@@ -88,10 +86,6 @@ stop() {
     wait "$server"
 }
 
-both='program plain'
-if [ "$program" = - ]; then
-    both=plain
-fi
 for name in $both; do
     start "$name" 1
     for targets in refused routes; do
@@ -99,7 +93,7 @@ for name in $both; do
     done > "$scratch/$name.replies"
     stop
 done
-if [ "$program" != - ]; then
+if [ "$both" != plain ]; then
     cmp "$scratch/program.replies" "$scratch/plain.replies"
     echo "all $(wc -l < "$scratch/plain.replies") replies alike, byte for byte"
 fi

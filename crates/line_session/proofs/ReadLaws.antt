@@ -1,9 +1,9 @@
 -- What reading the files of a traffic line does.
-use Rattle.std.proofs.Common.{◌≡◌, ℕ, ◌⊎◌, inl, inr, Bool, true, false, List, [], ◌∷◌, ◌++◌, Option, Some, None, Result, Ok, Err, OnErr, IsErrOf, refl, sym, ap, ◌∙◌, subst, append_assoc, append-nil}
-use Rattle.std.specs.Prelude.{IfSome, if◌then◌else◌}
+use Rattle.std.proofs.Common.{◌≡◌, ℕ, ◌⊎◌, inl, inr, Bool, true, false, List, [], ◌∷◌, ◌++◌, Some, Result, Ok, Err, OnErr, IsErrOf, refl, sym, ap, ◌∙◌, subst, append_assoc, append-nil}
+use Rattle.std.specs.Prelude.{if◌then◌else◌}
 use Rattle.road_io.specs.FailedNames.{AppendsNames, TellsFailed, TellsRead}
 use Rattle.road_io.specs.Faults.{HasFileCause}
-use Rattle.road_io.specs.Told.{IsContent}
+use Rattle.road_io.specs.FileContent.{IsFileContent}
 use Rattle.road_io.specs.Views.{FilesView}
 use Rattle.road_io.specs.declared.failures.FileFault.{FileFault}
 use Rattle.road_io.specs.declared.failures.FileFault.TheVariants as file
@@ -23,17 +23,13 @@ files_one name other = ap (λ (b : Bool). if b then [] else name ∷ []) other
 
 -- no file is read for `-`, which stands for no bytes
 pub stands_dash : (content : Contents) (name bytes : List ℕ) → is_none_named name ≡ true → bytes ≡ [] → StandsFor content name bytes
-stands_dash content name bytes dash none = subst (λ (b : Bool). IsContent (if b then Some [] else content name) bytes) (sym dash) none
+stands_dash content name bytes dash none = subst (λ (b : Bool). IsFileContent (if b then Some (Some []) else content name) bytes) (sym dash) none
 
 pub reads_dash : (files : FilesView) (name : List ℕ) → is_none_named name ≡ true → ReadsAll files files (files_named name)
 reads_dash files name dash = subst (λ (names : List (List ℕ)). ReadsAll files files names) (sym (files_dash name dash)) (reads_none files)
 
-is_content : (told : Option (List ℕ)) (bytes : List ℕ) → IfSome told (λ b. bytes ≡ b) → IsContent told bytes
-is_content None bytes is = tt
-is_content (Some told) bytes is = is
-
-pub stands_file : (content : Contents) (name bytes : List ℕ) → is_none_named name ≡ false → IfSome (content name) (λ b. bytes ≡ b) → StandsFor content name bytes
-stands_file content name bytes other is = subst (λ (b : Bool). IsContent (if b then Some [] else content name) bytes) (sym other) (is_content (content name) bytes is)
+pub stands_file : (content : Contents) (name bytes : List ℕ) → is_none_named name ≡ false → IsFileContent (content name) bytes → StandsFor content name bytes
+stands_file content name bytes other is = subst (λ (b : Bool). IsFileContent (if b then Some (Some []) else content name) bytes) (sym other) is
 
 pub reads_file : {T : Type 0} (before after : FilesView) (name : List ℕ) (x : T) → is_none_named name ≡ false → after.content ≡ before.content
     → TellsRead {T = T} before.reads after.reads (Ok x) name → TellsFailed {T = T} before.failed_names after.failed_names (Ok x) name → HasFileCause {T = T} before.faults after.faults (Ok x)

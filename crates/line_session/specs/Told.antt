@@ -4,14 +4,15 @@ use Rattle.std.specs.Prelude.{◌≡◌, ℕ, List, [], ◌∷◌, ◌++◌, ◌
 use Rattle.std.specs.List.{slice_split}
 use Rattle.std.specs.Str.Lines.{strip_carriage_return}
 use Rattle.reply_texts.specs.Refusals.{busy_text}
+use Rattle.road_io.specs.FileContent.{FileTold}
 use Rattle.control_port.specs.Telling.{body_of}
 use Rattle.control_port.specs.declared.controlled.Controlled.{Controlled}
 use Rattle.line_session.specs.Publication.{Comes, Publication, IsReplyLine, newline}
 use Rattle.line_session.specs.Traffic.{StandsFor, files_of, traffic_names}
 
--- what files hold, by their names, where they tell it
+-- what is told of files, by their names
 abbrev pub Contents : Type 0
-Contents = List ℕ → Option (List ℕ)
+Contents = List ℕ → FileTold
 
 -- what some lines add: the bytes that are put, and the names of the files that are read, in order
 pub record Telling : Type 0 where

@@ -3,7 +3,7 @@
 use Rattle.std.specs.Prelude.{◌≡◌, ℕ, Bool, not, ◌&&◌, ◌==◌, List, [], ◌∷◌, ◌++◌, ◌⊎◌, length, codes, bytes_eq, nat_le, Option, Some, None, if◌then◌else◌}
 use Rattle.std.specs.List.{list_any, slice_split}
 use Rattle.std.specs.Str.{is_utf8}
-use Rattle.road_io.specs.Told.{IsContent}
+use Rattle.road_io.specs.FileContent.{FileTold, IsFileContent}
 
 -- one byte at least, and no tab; that there is no blank is known of what stands between blanks
 abbrev pub is_name : List ℕ → Bool
@@ -34,13 +34,13 @@ files_named name = if is_none_named name then [] else name ∷ []
 abbrev pub files_of : List ℕ × List ℕ → List (List ℕ)
 files_of names = files_named names.0 ++ files_named names.1
 
--- the bytes that a name stands for, where files tell their bytes: none where it names no file
-abbrev pub bytes_named : (List ℕ → Option (List ℕ)) → List ℕ → Option (List ℕ)
-bytes_named content name = if is_none_named name then Some [] else content name
+-- what is told of the bytes that a name stands for: those of its file, and none where it names no file
+abbrev pub told_named : (List ℕ → FileTold) → List ℕ → FileTold
+told_named content name = if is_none_named name then Some (Some []) else content name
 
--- the bytes are those that the name stands for
-abbrev pub StandsFor : (List ℕ → Option (List ℕ)) → List ℕ → List ℕ → Type 0
-StandsFor content name bytes = IsContent (bytes_named content name) bytes
+-- the bytes are those that the name stands for; a file that is told to be missing stands for none
+abbrev pub StandsFor : (List ℕ → FileTold) → List ℕ → List ℕ → Type 0
+StandsFor content name bytes = IsFileContent (told_named content name) bytes
 
 -- the file of this name is one of the line's, and these are the reads up to it
 abbrev pub IsUpTo : List ℕ × List ℕ → List ℕ → List (List ℕ) → Type 0

@@ -2,7 +2,7 @@
 use Rattle.std.specs.Prelude.{◌≡◌, ℕ, List, [], ◌∷◌, ◌++◌, map, Option, Some, None, ⊤}
 use Rattle.road_io.specs.Faults.{FilesRose}
 use Rattle.road_io.specs.FailedNames.{AppendsNames}
-use Rattle.road_io.specs.Told.{IsContent}
+use Rattle.road_io.specs.FileContent.{IsFileContent}
 use Rattle.road_io.specs.Views.{FilesView}
 use Rattle.road_io.specs.declared.failures.FileFault.{FileFault}
 use Rattle.road_io.specs.declared.failures.FileFault.TheVariants as file
@@ -28,10 +28,10 @@ abbrev pub IsBare : Option (List ℕ) → List ℕ → Type 0
 IsBare None bytes = bytes ≡ []
 IsBare (Some name) bytes = ⊤
 
--- where they are told, these are the bytes of the files
+-- these are the bytes of the files, where these are told of: none of them is told to be missing
 abbrev pub AreContents : FilesView → List FileBytes → Type 0
 AreContents before [] = ⊤
-AreContents before (file ∷ more) = IsContent (before.content file.0) file.1 × AreContents before more
+AreContents before (file ∷ more) = IsFileContent (before.content file.0) file.1 × AreContents before more
 
 -- these files were read in this order, and no other; no read failed
 pub record AreRead (before after : FilesView) (files : List FileBytes) : Type 0 where

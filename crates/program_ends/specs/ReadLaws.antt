@@ -1,10 +1,10 @@
 -- How the reads of files add up.
-use Rattle.std.specs.Prelude.{◌≡◌, ℕ, List, [], ◌∷◌, ◌++◌, Option, refl}
+use Rattle.std.specs.Prelude.{◌≡◌, ℕ, List, [], ◌∷◌, ◌++◌, refl}
 use Rattle.std.proofs.Common.{sym, ap, subst, ◌∙◌, append_assoc, append-nil}
 use Rattle.road_io.specs.Faults.{Rose}
 use Rattle.road_io.specs.FailedNames.{AppendsNames}
 use Rattle.road_io.specs.NameLaws.{names_then}
-use Rattle.road_io.specs.Told.{IsContent}
+use Rattle.road_io.specs.FileContent.{FileTold, IsFileContent}
 use Rattle.road_io.specs.Views.{FilesView}
 use Rattle.road_io.specs.declared.failures.FileFault.{FileFault}
 use Rattle.program_ends.specs.FileReads.{AreBegun, AreContents, AreRead, FileBytes, IsFailed, IsLeft, names_of}
@@ -22,7 +22,7 @@ contents_then before (x ∷ xs) ys one two = (one.0, contents_then before xs ys 
 contents_same : (before after : FilesView) (xs : List FileBytes) → after.content ≡ before.content → AreContents after xs → AreContents before xs
 contents_same before after [] kept are = tt
 contents_same before after (x ∷ xs) kept are = (
-  subst (λ (content : List ℕ → Option (List ℕ)). IsContent (content x.0) x.1) kept are.0,
+  subst (λ (content : List ℕ → FileTold). IsFileContent (content x.0) x.1) kept are.0,
   contents_same before after xs kept are.1,
 )
 

@@ -1,2 +1,3 @@
 pub mod Preparing
+pub mod SteadyDoors
 pub mod SteadyState

@@ -4,6 +4,7 @@ pub mod Exchanging
 pub mod FailedNames
 pub mod FaultLaws
 pub mod Faults
+pub mod FileContent
 pub mod FileNamed
 pub mod MemoryDoor
 pub mod MemoryStates

@@ -2,6 +2,7 @@
 -- None: then nothing is said of them.
 use Rattle.std.specs.Prelude.{◌≡◌, ℕ, List, Option}
 use Rattle.std.specs.Io.KnownBytes.{IsAtEnd}
+use Rattle.road_io.specs.FileContent.{FileTold}
 
 -- a source: the bytes that are left to take, how many were taken, and its count of faults; both counts
 -- stand still at 18446744073709551615
@@ -15,10 +16,10 @@ pub record OutputView : Type 0 where
   pub written : Option (List ℕ)
   pub faults : ℕ
 
--- files: the bytes of the file of a name, the names of all reads and of those that failed, in order, and
--- the count of faults, which stands still at 18446744073709551615
+-- files: what is told of the file of a name, the names of all reads and of those that failed, in order,
+-- and the count of faults, which stands still at 18446744073709551615
 pub record FilesView : Type 0 where
-  pub content : List ℕ → Option (List ℕ)
+  pub content : List ℕ → FileTold
   pub reads : Option (List (List ℕ))
   pub failed_names : Option (List (List ℕ))
   pub faults : ℕ

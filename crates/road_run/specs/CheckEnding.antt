@@ -28,7 +28,7 @@ pub record IsCounted (before after : FilesView) (map settings text : List ℕ) :
   pub loads : load_of map_bytes settings_bytes ≡ Ok network
   pub is_text : text ≡ check_text (counts_of objects) network
 
--- the counts stand in the output, or a front of them where it failed
+-- the counts stand in the output, or a proper front of them where it failed
 abbrev pub Counted : Outside → Outside → List ℕ → List ℕ → Type 0
 Counted before after map settings = (text : List ℕ) × IsCounted before.files after.files map settings text × Appends before.output.written after.output.written text
 

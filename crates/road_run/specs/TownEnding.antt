@@ -14,7 +14,8 @@ use Rattle.town_drill.specs.Asked.{settings_text}
 use Rattle.town_drill.specs.Drill.{IsDrill}
 use Rattle.town_text.specs.Town.{town_text}
 
--- the end of putting a text: it stands in the output, or a front of it where that failed, or there was no memory for it
+-- the end of putting a text: it stands in the output, or a proper front of it where that failed, or there was no memory
+-- for it
 abbrev pub EndsPut : Status → List ℕ → OutputView → OutputView → Type 0
 EndsPut status.Ok text before after = (after.faults ≡ before.faults) × Appends before.written after.written text
 EndsPut status.Outside text before after = OutputRose before after × AppendsFront before.written after.written text

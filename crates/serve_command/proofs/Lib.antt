@@ -1,4 +1,5 @@
 mod LineLaws
 mod Rounds
 mod StartLaws
+mod SteadyLaws
 mod WholeLaws

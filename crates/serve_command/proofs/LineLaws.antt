@@ -1,4 +1,4 @@
--- The last lines of a run, one behind the other, and what ends it then.
+-- The lines of a run, one behind the other, and what ends it then.
 use Rattle.std.proofs.Common.{◌≡◌, ℕ, List, ◌++◌, Option, Result, Ok, Err, OnOk, OnErr, Bool, true, inl, inr, codes, ap, sym, subst}
 use Rattle.std.proofs.lemmas.Result.{on_err_weaker, on_ok_weaker}
 use Rattle.std.specs.Fmt.{decimal}
@@ -11,12 +11,17 @@ use Rattle.road_io.specs.Putting.{Closes}
 use Rattle.road_io.specs.Told.{AppendsFront, appends_front_first, appends_front_then, appends_then}
 use Rattle.road_io.specs.Views.{OutputView}
 use Rattle.serve_command.specs.InnerEnds.{EndsLines}
-use Rattle.serve_command.specs.ServeEnding.{last_lines}
+use Rattle.serve_command.specs.ServeEnding.{IsReady, last_lines, ready_line}
 
 -- what holds anyhow holds of a failure
 pub on_err_always : {T E P : Type 0} (r : Result T E) → P → OnErr r P
 on_err_always (Ok x) p = tt
 on_err_always (Err e) p = p
+
+-- the first line was put, and no fault was counted
+pub ready_of : {T E : Type 0} (r : Result T E) (before ready : OutputView) → OnOk r (Appends before.written ready.written ready_line) → OnOk r (ready.faults ≡ before.faults) → OnOk r (IsReady before ready)
+ready_of (Ok x) before ready put steady = record { put = put; steady = steady }
+ready_of (Err e) before ready put steady = tt
 
 abbrev line : List ℕ → List ℕ → List ℕ
 line words text = words ++ (text ++ codes "\n")
@@ -59,6 +64,6 @@ pub lines_short : (short rose : Bool) (lines : List ℕ) (code : Status) (before
 lines_short short rose lines code before mid after is is_short put steady closes =
     subst (λ (c : Status). EndsLines short rose lines c before after) (sym is) (is_short, closes_then before mid after lines memory_line put steady closes)
 
--- a front of the last lines, where the output failed
+-- a proper front of the last lines, where the output failed
 pub front_short : (before after : OutputView) (lines : List ℕ) → OutputRose before after → AppendsFront before.written after.written lines → Closes before after (lines ++ memory_line)
 front_short before after lines rose part = inr (rose, appends_front_first before.written after.written lines memory_line part)

@@ -1,7 +1,6 @@
 -- Doors that were opened, served and given back: what is said of each step, put together.
 use Rattle.std.proofs.Common.{◌≡◌, ◌⊎◌, append-nil, ◌<◌, ◌≤◌, ◌+◌, ◌-◌, ◌↔◌, inl, inr, ℕ, Bool, true, false, IsTrue, List, [], ◌∷◌, ◌++◌, All, length, map, option_map, refl, ap, sym, ◌∙◌, subst, arith}
 use Rattle.std.proofs.lemmas.List.Elements.{All-weaker}
-use Rattle.std.specs.Io.KnownBytes.{Appends}
 use mathlib.Core.List.{IsPrefix}
 use Rattle.control_port.specs.Controlling.{Board, IsOn}
 use Rattle.customized.specs.Exact.{Customized}
@@ -11,14 +10,12 @@ use Rattle.program_ends.specs.StoppedEarly.{memory_line}
 use Rattle.road_base.specs.declared.program_status.Status.{Status}
 use Rattle.road_base.specs.declared.program_status.Status.TheVariants as status
 use Rattle.road_io.specs.DoorOpening.{Asked, BackGives, DoorsView, DoorViews, faults_of}
-use Rattle.road_io.specs.Faults.{OutputRose, Rose}
+use Rattle.road_io.specs.Faults.{Rose}
 use Rattle.road_io.specs.Putting.{Closes}
-use Rattle.road_io.specs.Told.{AppendsFront, appends_front_then, appends_then}
 use Rattle.road_io.specs.Views.{OutputView}
 use Rattle.route_doors.specs.RoadDoors.{BeginsOn, IsServed, IsServedApart}
 use Rattle.serve_command.specs.InnerEnds.{CameBack, EndsLines, EndsOpened, EndsStarted, served, unready}
-use Rattle.serve_command.specs.ServeEnding.{ServedFaulty, ServedShort, ServedWhole, Unready, WentRound, connections_of, last_lines, ready_line, serve_text}
-use Rattle.serve_command.proofs.LineLaws.{closes_then}
+use Rattle.serve_command.specs.ServeEnding.{IsReady, WentRound, connections_of, last_lines, last_lines_of}
 
 -- a list that begins with a metric on these roads begins on them
 pub begins_on : (roads : RoadsView) (metric : Customized) (list : Board) → IsOn roads metric → list ≡ entry 0 metric ∷ [] → BeginsOn roads list
@@ -34,12 +31,12 @@ all_begin seats seen first all = All-weaker (λ s. seen s ≡ first) (λ s. IsPr
 
 -- what serving left of the doors decides the end
 pub opened_served : (code : Status) (workers : ℕ) (roads : RoadsView) (first begun last : Board) (before ready after : OutputView) (old new : DoorsView) (given : DoorViews) (connections metric : ℕ) (told short rose : Bool)
-    → length given.queries ≡ workers → BackGives old given new → Appends before.written ready.written ready_line → ready.faults ≡ before.faults → begun ≡ first
+    → length given.queries ≡ workers → BackGives old given new → IsReady before ready → begun ≡ first
     → (told ≡ false → IsServed roads begun last given) → IsServedApart roads first begun last given → short ≡ told → (IsTrue rose ↔ (0 < faults_of given))
     → connections ≡ connections_of given → metric ≡ last_number last → EndsLines short rose (last_lines connections metric) code ready after
     → EndsOpened code workers roads first before after old new
-opened_served code workers roads first begun last before ready after old new given connections metric told short rose count back put steady is_first whole apart is_short faults is_connections is_metric lines =
-    served given last short rose ready count back put steady
+opened_served code workers roads first begun last before ready after old new given connections metric told short rose count back is_ready is_first whole apart is_short faults is_connections is_metric lines =
+    served given last short rose ready count back is_ready
     (record {
       whole = λ e. subst (λ (l : Board). IsServed roads l last given) is_first (whole (sym is_short ∙ e));
       apart = subst (λ (l : Board). IsServedApart roads first l last given) is_first apart;
@@ -76,45 +73,33 @@ none_of rose n faults e = let not : 0 < n → ⊥ = λ some. both_ways rose (fau
 
 -- how it ended that was served, by the status
 started_served : (code : Status) (words : Asked) (roads : RoadsView) (first last : Board) (before ready after : OutputView) (old new : DoorsView) (given : DoorViews) (short rose : Bool)
-    → WentRound words given old new → Appends before.written ready.written ready_line → ready.faults ≡ before.faults → CameBack roads first last given short rose
-    → EndsLines short rose (last_lines (connections_of given) (last_number last)) code ready after → EndsStarted code words roads first before after old new
-started_served status.Ok words roads first last before ready after old new given short rose round put steady came lines = record {
+    → WentRound words given old new → IsReady before ready → CameBack roads first last given short rose → EndsLines short rose (last_lines_of given last) code ready after
+    → EndsStarted code words roads first before after old new
+started_served status.Ok words roads first last before ready after old new given short rose round is_ready came lines = record {
   given = given;
   last = last;
+  ready = ready;
+  is_ready = is_ready;
   round = round;
   served = came.whole lines.0;
   doors_steady = round.kept (none_of rose (faults_of given) came.faults lines.1);
-  output_steady = lines.2 ∙ steady;
-  put = appends_then before.written ready.written after.written ready_line (last_lines (connections_of given) (last_number last)) put lines.3;
+  output_steady = lines.2;
+  put = lines.3;
 }
-started_served status.Outside words roads first last before ready after old new given short rose round put steady came lines =
+started_served status.Outside words roads first last before ready after old new given short rose round is_ready came lines =
     inr (inr (record {
       given = given;
       last = last;
+      ready = ready;
+      is_ready = is_ready;
       round = round;
       served = came.whole lines.0;
-      cause = elim lines.1 [
-        | inl failed ↦ inl (
-          subst (λ (n : ℕ). Rose n after.faults) steady failed.0,
-          appends_front_then before.written ready.written after.written ready_line (last_lines (connections_of given) (last_number last)) put failed.1,
-        )
-        | inr whole ↦ inr (
-          round.rose (came.faults.0 whole.0),
-          whole.1 ∙ steady,
-          appends_then before.written ready.written after.written ready_line (last_lines (connections_of given) (last_number last)) put whole.2,
-        )
-      ];
+      cause = elim lines.1 [ inl failed ↦ inl failed | inr whole ↦ inr (round.rose (came.faults.0 whole.0), whole.1, whole.2) ];
     }))
-started_served status.Words words roads first last before ready after old new given short rose round put steady came lines = absurd lines
-started_served status.Refused words roads first last before ready after old new given short rose round put steady came lines = absurd lines
-started_served status.Memory words roads first last before ready after old new given short rose round put steady came lines =
-    inr (record {
-      given = given;
-      last = last;
-      round = round;
-      served = came.apart;
-      put = closes_then before ready after ready_line (last_lines (connections_of given) (last_number last) ++ memory_line) put steady lines.1;
-    })
+started_served status.Words words roads first last before ready after old new given short rose round is_ready came lines = absurd lines
+started_served status.Refused words roads first last before ready after old new given short rose round is_ready came lines = absurd lines
+started_served status.Memory words roads first last before ready after old new given short rose round is_ready came lines =
+    inr (record { given = given; last = last; ready = ready; is_ready = is_ready; round = round; served = came.apart; put = lines.1 })
 
 -- what was opened was served, or it was not ready
 pub started_opened : (code : Status) (words : Asked) (roads : RoadsView) (first : Board) (before after : OutputView) (old mid new : DoorsView) (count : ℕ)
@@ -122,8 +107,8 @@ pub started_opened : (code : Status) (words : Asked) (roads : RoadsView) (first 
 started_opened code words roads first before after old mid new count is opened (unready given many queries control back outside rose put) =
     subst (λ (c : Status). EndsStarted c words roads first before after old new) (sym outside)
     (inr (inl (record { given = given; queries = queries; control = control; round = went_round words given old mid new (many ∙ is) opened back; rose = rose; put = put })))
-started_opened code words roads first before after old mid new count is opened (served given last short rose ready many back put steady came lines) =
-    started_served code words roads first last before ready after old new given short rose (went_round words given old mid new (many ∙ is) opened back) put steady came lines
+started_opened code words roads first before after old mid new count is opened (served given last short rose ready many back is_ready came lines) =
+    started_served code words roads first last before ready after old new given short rose (went_round words given old mid new (many ∙ is) opened back) is_ready came lines
 
 -- there was no memory, and the doors are as before
 pub started_exhausted : (code : Status) (words : Asked) (roads : RoadsView) (first : Board) (before after : OutputView) (old new : DoorsView)

@@ -76,7 +76,7 @@ faulty_causes : (words : Serving) (files now_files : FilesView) (before after : 
     → EndsFaulty (asked_in words) before after doors now roads list → FilesRose files now_files ⊎ (OutputRose before after ⊎ Rose doors.faults now.faults)
 faulty_causes words files now_files before after doors now roads list (inl unopened) = inr (inr unopened.rose)
 faulty_causes words files now_files before after doors now roads list (inr (inl unready)) = inr (inl unready.rose)
-faulty_causes words files now_files before after doors now roads list (inr (inr faulty)) = elim faulty.cause [ inl failed ↦ inr (inl failed.0) | inr whole ↦ inr (inr whole.0) ]
+faulty_causes words files now_files before after doors now roads list (inr (inr faulty)) = elim faulty.cause [ inl failed ↦ inr (inl (subst (λ (n : ℕ). Rose n after.faults) faulty.is_ready.steady failed.0)) | inr whole ↦ inr (inr whole.0) ]
 
 serve_causes : (words : Serving) (before after : Outside) (doors now : DoorsView) → EndsServe status.Outside words before after doors now
     → FilesRose before.files after.files ⊎ (OutputRose before.output after.output ⊎ Rose doors.faults now.faults)

@@ -16,10 +16,9 @@ use Rattle.road_io.specs.Putting.{Closes}
 use Rattle.road_io.specs.Told.{AppendsFront}
 use Rattle.road_io.specs.Views.{OutputView}
 use Rattle.route_doors.specs.RoadDoors.{IsServed, IsServedApart}
-use Rattle.serve_command.specs.ServeEnding.{EndsFaulty, ServedShort, ServedWhole, connections_of, last_lines, ready_line}
+use Rattle.serve_command.specs.ServeEnding.{EndsFaulty, IsReady, ServedShort, ServedWhole, last_lines_of, ready_line}
 use Rattle.serve_command.specs.Start.{IsOpening, IsStartRefused, StartBytes, row_line}
 use Rattle.metric_make.specs.MetricOf.{MetricView}
-use Rattle.metric_publish.specs.History.{last_number}
 use Rattle.traffic_files.specs.declared.rows.RowFault.{RowFault}
 
 -- the metric of the rows of two files on these roads
@@ -61,8 +60,8 @@ pub data EndsOpened (code : Status) (workers : ℕ) (roads : RoadsView) (first :
   unready : (given : DoorViews) → length given.queries ≡ workers → All IsNewDoor given.queries → IsNewDoor given.control → BackGives old given new
       → code ≡ status.Outside → OutputRose before after → AppendsFront before.written after.written ready_line → EndsOpened code workers roads first before after old new
   served : (given : DoorViews) (last : Board) (short rose : Bool) (ready : OutputView) → length given.queries ≡ workers → BackGives old given new
-      → Appends before.written ready.written ready_line → ready.faults ≡ before.faults → CameBack roads first last given short rose
-      → EndsLines short rose (last_lines (connections_of given) (last_number last)) code ready after → EndsOpened code workers roads first before after old new
+      → IsReady before ready → CameBack roads first last given short rose → EndsLines short rose (last_lines_of given last) code ready after
+      → EndsOpened code workers roads first before after old new
 
 -- the end of a run from its first list on
 abbrev pub EndsStarted : Status → Asked → RoadsView → Board → OutputView → OutputView → DoorsView → DoorsView → Type 0

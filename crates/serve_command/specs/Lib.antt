@@ -1,3 +1,4 @@
 pub mod InnerEnds
 pub mod ServeEnding
 pub mod Start
+pub mod SteadyLaws

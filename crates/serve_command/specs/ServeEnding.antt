@@ -31,9 +31,14 @@ last_lines connections metric =
 abbrev pub connections_of : DoorViews → ℕ
 connections_of doors = min (sum_by (λ door. door.finished) doors.queries + doors.control.finished) (2 ^ 64 - 1)
 
--- all three lines, where the doors came back with what these tell, and this is the list of publications
-abbrev pub serve_text : DoorViews → Board → List ℕ
-serve_text doors last = ready_line ++ last_lines (connections_of doors) (last_number last)
+-- the last lines, where the doors came back with what these tell, and this is the list of publications
+abbrev pub last_lines_of : DoorViews → Board → List ℕ
+last_lines_of doors last = last_lines (connections_of doors) (last_number last)
+
+-- from the first to the second the line `ready` was put whole, and the output counted no fault
+pub record IsReady (before ready : OutputView) : Type 0 where
+  pub put : Appends before.written ready.written ready_line
+  pub steady : ready.faults ≡ before.faults
 
 -- what the doors were opened for: the addresses and the number of the words
 abbrev pub asked_in : Serving → Asked
@@ -51,16 +56,18 @@ pub record WentRound (words : Asked) (given : DoorViews) (before after : DoorsVi
   pub rose : 0 < faults_of given → Rose before.faults after.faults
   pub kept : faults_of given ≡ 0 → after.faults ≡ before.faults
 
--- all connections were served under one list of publications, which begins with the first and which the control
--- connections lead to; all three lines stand, and no count rose
+-- `ready` stood, and all connections were served under one list of publications, which begins with the first and which
+-- the control connections lead to; then the last lines were put, and no count rose
 pub record ServedWhole (words : Asked) (roads : RoadsView) (first : Board) (before after : OutputView) (doors now : DoorsView) : Type 0 where
   pub given : DoorViews
   pub last : Board
+  pub ready : OutputView
+  pub is_ready : IsReady before ready
   pub round : WentRound words given doors now
   pub served : IsServed roads first last given
   pub doors_steady : now.faults ≡ doors.faults
-  pub output_steady : after.faults ≡ before.faults
-  pub put : Appends before.written after.written (serve_text given last)
+  pub output_steady : after.faults ≡ ready.faults
+  pub put : Appends ready.written after.written (last_lines_of given last)
 
 -- the doors were not opened, since their count rose; nothing was printed
 pub record Unopened (words : Asked) (before after : OutputView) (doors now : DoorsView) : Type 0 where
@@ -68,7 +75,7 @@ pub record Unopened (words : Asked) (before after : OutputView) (doors now : Doo
   pub told : now ≡ record doors { failed = option_map (λ all. all ++ words ∷ []) doors.failed; faults = now.faults }
   pub rose : Rose doors.faults now.faults
 
--- the output failed at the first line, and the doors came back as they were opened
+-- the output failed before `ready` stood whole, and the doors came back as they were opened
 pub record Unready (words : Asked) (before after : OutputView) (doors now : DoorsView) : Type 0 where
   pub given : DoorViews
   pub queries : All IsNewDoor given.queries
@@ -77,24 +84,28 @@ pub record Unready (words : Asked) (before after : OutputView) (doors now : Door
   pub rose : OutputRose before after
   pub put : AppendsFront before.written after.written ready_line
 
--- all connections were served under one list, and the output failed, or a door's count of faults rose; then all three
--- lines stand
+-- `ready` stood, and all connections were served under one list; then the output failed before the last lines stood whole,
+-- or they were put and a door's count of faults rose
 pub record ServedFaulty (words : Asked) (roads : RoadsView) (first : Board) (before after : OutputView) (doors now : DoorsView) : Type 0 where
   pub given : DoorViews
   pub last : Board
+  pub ready : OutputView
+  pub is_ready : IsReady before ready
   pub round : WentRound words given doors now
   pub served : IsServed roads first last given
-  pub cause : (OutputRose before after × AppendsFront before.written after.written (serve_text given last))
-      ⊎ (Rose doors.faults now.faults × (after.faults ≡ before.faults) × Appends before.written after.written (serve_text given last))
+  pub cause : (OutputRose ready after × AppendsFront ready.written after.written (last_lines_of given last))
+      ⊎ (Rose doors.faults now.faults × (after.faults ≡ ready.faults) × Appends ready.written after.written (last_lines_of given last))
 
--- at the end there was no memory to see that all was published under one list: the connections of each query door were
--- served under some list that begins with the first
+-- `ready` stood, and the connections of each query door were served under some list that begins with the first: at the
+-- end there was no memory to see that all was published under one list, which a line behind the last ones tells
 pub record ServedShort (words : Asked) (roads : RoadsView) (first : Board) (before after : OutputView) (doors now : DoorsView) : Type 0 where
   pub given : DoorViews
   pub last : Board
+  pub ready : OutputView
+  pub is_ready : IsReady before ready
   pub round : WentRound words given doors now
   pub served : IsServedApart roads first first last given
-  pub put : Closes before after (serve_text given last ++ memory_line)
+  pub put : Closes ready after (last_lines_of given last ++ memory_line)
 
 -- the files were read and make this first list, and so the run ended from then on; it took nothing of the input
 pub record Started (words : Serving) (before after : Outside) (Ended : RoadsView → Board → Type 0) : Type 0 where

@@ -3,7 +3,7 @@
 ghost use Rattle.std.specs.Prelude.{◌≡◌, ◌+◌, ◌<◌, ◌↔◌, IsTrue, map};
 ghost use Rattle.road_io.specs.DoorOpening.{door_set, faults_of};
 
-use road_doors::{MemDoors, QueueDoor};
+use road_doors::{MemDoors, QueueDoor, SteadyDoor, SteadyDoors};
 use road_io::{Conn, Doors, MemDoor, NoDoors};
 use road_real::{TcpDoor, TcpDoors};
 use std::net::Net;
@@ -24,6 +24,12 @@ impl CountedDoors for NoDoors {
 impl<C: Conn + Drop> CountedDoors for MemDoors<C> {
     fn has_fault(door: &QueueDoor<C>) -> bool {
         door.has_fault()
+    }
+}
+
+impl<C: Conn + Drop> CountedDoors for SteadyDoors<C> {
+    fn has_fault(_door: &SteadyDoor<C>) -> bool {
+        false
     }
 }
 

@@ -1,6 +1,6 @@
 //! All that the command does, over what is handed in.
 
-ghost use Rattle.std.specs.Prelude.{◌≡◌, ◌⊎◌, ◌∷◌, [], ◌<◌, ◌≤◌, ◌+◌, ◌^◌, All, length, map};
+ghost use Rattle.std.specs.Prelude.{◌≡◌, ◌⊎◌, ◌∷◌, [], ◌<◌, ◌≤◌, ◌+◌, ◌^◌, All, OnErr, OnOk, length, map};
 ghost use Rattle.std.specs.Arc.{arc_value};
 ghost use Rattle.std.specs.Vec.{vec_len, vec_capacity};
 ghost use Rattle.command_words.specs.Commands.{serving_seen};
@@ -10,9 +10,10 @@ ghost use Rattle.control_port.specs.Controlling.{IsOn};
 ghost use Rattle.road_io.specs.DoorOpening.{IsNewDoor};
 ghost use Rattle.road_io.specs.Faults.{FilesRose, OutputRose, Rose};
 ghost use Rattle.road_io.specs.Outside.{outside};
+ghost use Rattle.road_io.specs.Told.{AppendsFront};
 ghost use Rattle.road_io.specs.Views.{InputView};
 ghost use Rattle.serve_command.specs.InnerEnds.{EndsOpened, EndsOver, EndsStarted};
-ghost use Rattle.serve_command.specs.ServeEnding.{EndsServe, asked_in};
+ghost use Rattle.serve_command.specs.ServeEnding.{EndsServe, IsReady, asked_in, ready_line};
 ghost use Rattle.serve_command.specs.Start.{IsOpening, start_bytes};
 ghost use Rattle.snap_index.specs.Ends.{all_ends};
 
@@ -29,7 +30,7 @@ use metric_publish::opening::open;
 use metric_publish::seat::Seat;
 use program_ends::{end_exhausted, end_refused, end_unread};
 use road_base::Status;
-use road_io::{Door, Doors, DoorsFault, Files, Gate, Opened, Sink, put_all};
+use road_io::{Door, Doors, DoorsFault, Failed, Files, Gate, Opened, Sink, put_all};
 use route_doors::serve as serve_doors;
 use std::alloc::Global;
 use std::marker::Brand;
@@ -39,6 +40,15 @@ use std::thread::Threads;
 
 /// The line once the doors are open.
 const READY: &[u8] = b"ready\n";
+
+// Puts this line.
+fn put_ready<O: Sink>(output: &mut O) -> Result<(), Failed>
+    ensures ready { OnOk result (IsReady (O.view output.old) (O.view output.new)) }
+    ensures rose { OnErr result (OutputRose (O.view output.old) (O.view output.new)) }
+    ensures part { OnErr result (AppendsFront (O.view output.old).written (O.view output.new).written ready_line) }
+{
+    put_all(output, READY)
+}
 
 // Serves doors that were opened, and gives them back.
 fn serve_opened<
@@ -75,7 +85,7 @@ where
     requires out { length opened.queries.items + 1 ≤ (N.Doors.view doors.old).out }
     ensures { EndsOpened result (length opened.queries.items) start.now.roads (entry 0 (arc_value start.now.metric) ∷ []) (O.view output.old) (O.view output.new) (N.Doors.view doors.old) (N.Doors.view doors.new) }
 {
-    match put_all(output, READY) {
+    match put_ready(output) {
         Ok(()) => {
             let served = serve_doors(
                 rt,
@@ -301,9 +311,10 @@ where
 ///
 /// The files of the words are read first: map, settings, and the rows of speeds and turns where they are named, in this
 /// order. They are judged in the same order, and a refusal is status 3 on its line. Then the metric of the rows is
-/// published under number 0, the doors are opened, and `ready` is printed. It serves until all query doors have ended,
-/// and a control connection asked for that or the control door failed. Then the doors go back, and `connections N` and
-/// `metric M` are printed: how many connections were finished, and the number of the last metric.
+/// published under number 0, the doors are opened, and `ready` is printed; where that fails nothing is served, and the
+/// doors go back at once. It serves until all query doors have ended, and a control connection asked for that or the
+/// control door failed. Then the doors go back, and `connections N` and `metric M` are printed: how many connections
+/// were finished, and the number of the last metric.
 ///
 /// Status 0: no count of faults rose. 1: a file could not be read, the doors could not be opened, the output failed, or
 /// a door counted a fault. 4: want of memory, outside of a reply. May wait.

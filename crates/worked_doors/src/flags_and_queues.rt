@@ -1,13 +1,16 @@
 //! What no clause says: that the calls succeed with ample memory, in which order connections and doors come, and
 //! what the flags hold and set.
 
-ghost use Rattle.std.specs.Prelude.{◌≤◌, IfOk};
+ghost use Rattle.std.specs.Prelude.{◌≤◌, All, IfOk};
 ghost use Rattle.road_io.specs.DoorOpening.{IsNewDoor};
 ghost use Rattle.road_io.specs.MemoryStates.{conn_state};
 ghost use Rattle.road_io.specs.Views.{IsFreshConn};
+ghost use Rattle.road_doors.specs.SteadyState.{steady_state};
 
 use flag_doors::{connection, flag};
-use road_doors::{Flag, FlagConn, FlagGate, MemDoors, QueueDoor, SteadyConn};
+use road_doors::{
+    Flag, FlagConn, FlagGate, MemDoors, QueueDoor, SteadyConn, SteadyDoor, SteadyDoors,
+};
 use road_io::{Closer, Door, Doors, DoorsFault, Gate, MemConn, Opened, Sink, Source};
 use std::alloc::{AllocError, Global};
 use std::net::{Net, TcpListener, TcpStream};
@@ -162,6 +165,25 @@ fn a_steady_connection_goes_on(rt: HostRuntime) -> Result<(), AllocError> {
     Ok(())
 }
 
+// A connection that never fails, with this input.
+fn steady(alloc: Global, input: &[u8]) -> Result<Vec<SteadyConn>, AllocError>
+    ensures { IfOk result (λ v. All (λ c. IsFreshConn (steady_state c)) v.items) }
+{
+    let mut connections = Vec::new(alloc);
+    connections.push(SteadyConn::of(Vec::from_slice(alloc, input)?, Vec::new(alloc)))?;
+    Ok(connections)
+}
+
+#[test]
+fn a_steady_door_ends_without_a_fault(rt: HostRuntime) -> Result<(), AllocError> {
+    let alloc = rt.alloc();
+    let mut door = SteadyDoor::of(alloc, steady(alloc, b"ab")?)?;
+    assert_eq!(rt; echo_one(&mut door), Some(b'a'));
+    assert!(rt; matches!(&door.next(), Ok(None)));
+    assert!(rt; matches!(door.finished(), [conn] if conn.count() == 1));
+    Ok(())
+}
+
 fn door(alloc: Global, input: &[u8]) -> Result<QueueDoor<MemConn>, AllocError>
     ensures { IfOk result IsNewDoor }
 {
@@ -211,5 +233,24 @@ fn doors_are_opened_and_come_back(rt: HostRuntime) -> Result<(), AllocError> {
     assert!(rt;
         matches!(doors.returned(), [set, again] if set.control().finished().len() == 1 && again.queries().len() == 1)
     );
+    Ok(())
+}
+
+// Asserts that an opening gives the connections, and one behind it doors that nothing comes through.
+fn assert_opened_steadily<R: Abort + Net<Listener = TcpListener, Stream = TcpStream>>(
+    rt: &R,
+    alloc: Global,
+    doors: &mut SteadyDoors<SteadyConn>,
+) {
+    assert_eq!(rt; open_once(rt, alloc, doors, 2), Ok((2, Some(b'c'))));
+    assert_eq!(rt; open_once(rt, alloc, doors, 1), Ok((1, None)));
+}
+
+#[test]
+fn steady_doors_are_opened_and_come_back(rt: HostRuntime) -> Result<(), AllocError> {
+    let alloc = rt.alloc();
+    let mut doors = SteadyDoors::of(steady(alloc, b"a")?, steady(alloc, b"c")?);
+    assert_opened_steadily(&rt, alloc, &mut doors);
+    assert_eq!(rt; doors.out(), 0);
     Ok(())
 }

@@ -43,11 +43,12 @@ fn turns_told(alloc: Global, rows: &[TurnRow]) -> Result<String, AllocError> {
     Ok(text)
 }
 
-const TURNS: &[u8] = b"1,2,3,12\n1,2,3,4.59,1\n1,2,-3,-0.5\n1,2,3,100000.09";
+const TURNS: &[u8] = b"1,2,3,12\n1,2,3,4.59,1\n1,2,-3,-0.5\n1,2,3,-0.1\n1,2,3,100000.09";
 
 const TURNS_TOLD: &str = "1 2 3 120
 1 2 3 45
 1 2 -3 0
+1 2 3 0
 1 2 3 1000000
 ";
 

@@ -45,6 +45,7 @@ route/v1/car/0,0;0,0|InvalidUrl|path$\
 /a+b/v1/car/0,0|InvalidService|service a+b$\
 /a%2/v1/car/0,0|InvalidService|service a%2$\
 /match/v1/car/(?overview=false|InvalidService|service match$\
+/match/v1/car/0,0|InvalidService|service match$\
 /match/v2/car/0,0|InvalidService|service match$\
 /table/v1/car/0,0;0,0?overview=false|InvalidOptions|option overview$\
 /nearest/v1/car/0,0?overview=false|InvalidOptions|option overview$\

@@ -33,16 +33,45 @@ const STAR_NODES: &[u8] =
 const STAR_WAYS: &[u8] =
     b"\nw1 Thighway=residential Nn1,n5\nw2 Thighway=residential Nn5,n2\nw3 Thighway=residential Nn5,n3\nw4 Thighway=residential Nn4,n5\n";
 
-// A run on words, over a map, settings and an input that comes in pieces of this size; a size of 0 is no limit. The
-// output has this much room.
+// The call that fails, of a kind that the object is named by whose calls these are; calls count from 1.
+#[derive(Clone, Copy)]
+pub(crate) struct Fault<'a> {
+    pub(crate) kind: &'a str,
+    pub(crate) number: u64,
+}
+
+impl<'a> Fault<'a> {
+    // No call fails.
+    pub(crate) fn none() -> Fault<'a> {
+        Fault {
+            kind: "none",
+            number: 0,
+        }
+    }
+
+    // The numbers of the calls of this kind that fail.
+    pub(crate) fn of(self, alloc: Global, kind: &str) -> Result<Vec<u64>, AllocError> {
+        let mut numbers = Vec::new(alloc);
+        if self.kind == kind {
+            numbers.push(self.number)?;
+        }
+        Ok(numbers)
+    }
+}
+
+// A run on words, over a map, settings, a speeds file of these rows and an input that comes in pieces of this size; a
+// size of 0 is no limit. The output has this much room. A `read` of the files may fail, a `take` of the input or a
+// `put` of the output.
 #[derive(Clone, Copy)]
 pub(crate) struct Case<'a> {
     pub(crate) words: &'a str,
     pub(crate) map: &'a [u8],
     pub(crate) settings: &'a [u8],
+    pub(crate) rows: &'a [u8],
     pub(crate) input: &'a [u8],
     pub(crate) piece: usize,
     pub(crate) room: usize,
+    pub(crate) fault: Fault<'a>,
 }
 
 impl<'a> Case<'a> {
@@ -52,9 +81,11 @@ impl<'a> Case<'a> {
             words: "ask town.opl settings.toml",
             map: TOWN,
             settings: SETTINGS,
+            rows: b"",
             input,
             piece: 0,
             room: 4096,
+            fault: Fault::none(),
         }
     }
 }
@@ -87,22 +118,36 @@ pub(crate) fn pair_of<'a>(rt: &impl Abort, row: &'a str) -> (&'a str, &'a str) {
     pair
 }
 
-// The files of a case's map and settings.
+// The files of a case's map, settings and rows of speeds, and one of no rows of turns.
 pub(crate) fn files_of(alloc: Global, case: Case<'_>) -> Result<Vec<(Text, Vec<u8>)>, AllocError> {
     let mut list = Vec::new(alloc);
     list.push(named(alloc, "town.opl", case.map)?)?;
     list.push(named(alloc, "settings.toml", case.settings)?)?;
+    list.push(named(alloc, "speeds.csv", case.rows)?)?;
+    list.push(named(alloc, "turns.csv", b"")?)?;
     Ok(list)
 }
 
+// The same as a case reads them.
+pub(crate) fn files(alloc: Global, case: Case<'_>) -> Result<MemFiles, AllocError> {
+    let failing = case.fault.of(alloc, "read")?;
+    Ok(MemFiles::of(alloc, files_of(alloc, case)?, failing))
+}
+
 // The input of a case.
-fn input_of(alloc: Global, case: Case<'_>) -> Result<MemSource, AllocError> {
+pub(crate) fn input_of(alloc: Global, case: Case<'_>) -> Result<MemSource, AllocError> {
     let mut pieces = Vec::new(alloc);
     if case.piece > 0 {
         pieces.push(case.piece)?;
     }
+    let failing = case.fault.of(alloc, "take")?;
     let bytes = Vec::from_slice(alloc, case.input)?;
-    Ok(MemSource::of(bytes, pieces, Vec::new(alloc)))
+    Ok(MemSource::of(bytes, pieces, failing))
+}
+
+// The output of a case.
+pub(crate) fn output_of(alloc: Global, case: Case<'_>) -> Result<MemSink, AllocError> {
+    MemSink::of(alloc, case.room, case.fault.of(alloc, "put")?)
 }
 
 // A run of a case over these files: how it ended, and what it put.
@@ -114,7 +159,7 @@ pub(crate) fn run_over(
 ) -> Result<(Status, MemSink), AllocError> {
     let words = words(alloc, case.words)?;
     let mut input = input_of(alloc, case)?;
-    let mut output = MemSink::of(alloc, case.room, Vec::new(alloc))?;
+    let mut output = output_of(alloc, case)?;
     let status = run(
         rt,
         alloc,
@@ -128,13 +173,13 @@ pub(crate) fn run_over(
     Ok((status, output))
 }
 
-// The same over the files of its map and settings.
-fn run_case(
+// The same over its own files.
+pub(crate) fn run_case(
     rt: &(impl Threads + Wait + Net<Listener = TcpListener, Stream = TcpStream> + Sync),
     alloc: Global,
     case: Case<'_>,
 ) -> Result<(Status, MemSink), AllocError> {
-    let mut files = MemFiles::of(alloc, files_of(alloc, case)?, Vec::new(alloc));
+    let mut files = files(alloc, case)?;
     run_over(rt, alloc, case, &mut files)
 }
 

@@ -9,6 +9,8 @@ mod cases;
 #[cfg(test)]
 mod counting;
 #[cfg(test)]
+mod faults;
+#[cfg(test)]
 mod generated;
 #[cfg(test)]
 mod large;
@@ -20,6 +22,8 @@ mod routes;
 mod rows;
 #[cfg(test)]
 mod served;
+#[cfg(test)]
+mod steady;
 #[cfg(test)]
 mod steps;
 #[cfg(test)]

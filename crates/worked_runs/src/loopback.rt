@@ -1,7 +1,7 @@
 //! The command `serve` over TCP, with a client in a thread.
 
 use crate::cases::{Case, files_of, words};
-use crate::served::ASKED;
+use crate::served::{ASKED, REPLIES, STOP};
 use road_base::Status;
 use road_io::{MemFiles, MemSink, MemSource, OpenGate};
 use road_real::TcpDoors;
@@ -15,11 +15,6 @@ use std::sync::Wait;
 use std::test::*;
 use std::thread::{Threads, join, sleep};
 use std::time::Duration;
-
-const STOP: &[u8] = b"POST /control/v1/stop HTTP/1.1\r\nHost: a\r\n\r\n";
-
-const REPLIES: &[u8] =
-    b"HTTP/1.1 200 OK\r\nContent-Type: application/json; charset=utf-8\r\nContent-Length: 118\r\nConnection: keep-alive\r\n\r\n{\"code\":\"Ok\",\"data_version\":\"0\",\"waypoints\":[{\"nodes\":[1,2],\"distance\":0.0,\"name\":\"\",\"location\":[0.000000,0.000000]}]}HTTP/1.1 200 OK\r\nContent-Type: application/json; charset=utf-8\r\nContent-Length: 118\r\nConnection: keep-alive\r\n\r\n{\"code\":\"Ok\",\"data_version\":\"0\",\"waypoints\":[{\"nodes\":[1,2],\"distance\":0.0,\"name\":\"\",\"location\":[0.000000,0.000000]}]}";
 
 // An address of this machine at which nothing listens.
 fn free_address<R: Net<Listener = TcpListener, Stream = TcpStream>>(

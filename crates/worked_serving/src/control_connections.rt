@@ -1,6 +1,6 @@
 //! Control connections in memory over a town. Expected texts are this project's rules.
 
-use crate::connections::{ROOM, in_pieces};
+use crate::connections::{ROOM, failing, front_of, in_pieces};
 use crate::towns::{board, last_number, roads};
 use customized::Roads;
 use http_head::HEAD_BAD;
@@ -74,6 +74,20 @@ fn control_requests_are_answered_in_any_pieces(rt: HostRuntime) -> Result<(), Al
         assert_eq!(rt; number, 1);
     }
     Ok(())
+}
+
+/// How a control connection with these requests ends whose take of the one number fails and whose put of the other, how
+/// many bytes of the replies stand in its output, and the number that was published last. There is no call 0.
+pub fn told_failing(
+    rt: &(impl Threads + Sync),
+    alloc: Global,
+    take: u64,
+    put: u64,
+) -> Result<String, AllocError> {
+    let mut conn = failing(alloc, THREE_REQUESTS, take, put)?;
+    let (ended, output, number) = ended(rt, alloc, &mut conn)?;
+    let part = front_of(output.as_slice(), THREE_REPLIES);
+    format!(in alloc; "{ended:?} {part}/{number};")
 }
 
 // Inputs, each with how its connection ends, and a name for its output. A bar stands between each two parts, and a

@@ -2,7 +2,7 @@
 
 ghost use Rattle.std.specs.Prelude.{◌≤◌};
 
-use crate::connections::{ROOM, in_pieces};
+use crate::connections::{ROOM, front_of, in_pieces};
 use crate::towns::{board, grid, roads};
 use customized::Roads;
 use http_head::HEAD_BAD;
@@ -94,7 +94,7 @@ fn two_requests_are_answered_in_any_pieces(rt: HostRuntime) -> Result<(), AllocE
 }
 
 /// A request for the nearest place, twice.
-const NEAREST_TWICE: &[u8] =
+pub const NEAREST_TWICE: &[u8] =
     b"GET /nearest/v1/car/0,0 HTTP/1.1\r\nHost: a\r\n\r\nGET /nearest/v1/car/0,0 HTTP/1.1\r\nHost: a\r\n\r\n";
 
 /// The replies to both.
@@ -144,7 +144,9 @@ const ENDS: &str = "|EndOfInput|nothing$\
 GET /nea|CutShort|nothing$\
 GET / HTTP/1.1\r\n\r\n|EndOfInput|no path$\
 GET / HTTP/1.0\r\n\r\nGET|Closed|no path, close$\
-POST / HTTP/1.1\r\n\r\n|HeadBad|head bad";
+POST / HTTP/1.1\r\n\r\n|HeadBad|head bad$\
+GET / HTTP/1.1\r\nContent-Length: 1\r\n\r\n|HeadBad|head bad$\
+GET / HTTP/1.1\r\nContent-Length: 00\r\n\r\n|EndOfInput|no path";
 
 fn output_named(rt: &impl Abort, name: &str) -> &'static [u8] {
     match name {
@@ -184,11 +186,43 @@ fn each_input_has_its_end(rt: HostRuntime) -> Result<(), AllocError> {
     Ok(())
 }
 
+// How a connection ends that is served on a board of these roads, behind which the same seat serves another.
+fn ended_before(
+    rt: &(impl Threads + Sync),
+    alloc: Global,
+    roads: &Roads,
+    conn: &mut MemConn,
+    next: &mut MemConn,
+) -> Result<Ended, AllocError> {
+    let grid = grid(alloc, roads)?;
+    let mut board = board(rt, alloc, roads, 0)?;
+    let ended = serve_connection(rt, alloc, 0, &mut *board, &OpenGate, &grid, conn);
+    let _ = serve_connection(rt, alloc, 0, &mut *board, &OpenGate, &grid, next);
+    Ok(ended)
+}
+
+/// How a connection ends that asks for the nearest place twice, how many bytes of the replies stand in its output, and
+/// how many in that of the seat's next connection, which asks for the same.
+pub fn told_with_next(
+    rt: &(impl Threads + Sync),
+    alloc: Global,
+    conn: &mut MemConn,
+) -> Result<String, AllocError> {
+    let mut next = in_pieces(alloc, NEAREST_TWICE, 100, ROOM)?;
+    let roads = roads(alloc)?;
+    let ended = ended_before(rt, alloc, &roads, conn, &mut next)?;
+    let part = front_of(conn.output(), NEAREST_REPLIES);
+    let whole = front_of(next.output(), NEAREST_REPLIES);
+    format!(in alloc; "{ended:?} {part}/{whole};")
+}
+
 #[test]
-fn a_full_output_ends_the_connection(rt: HostRuntime) -> Result<(), AllocError> {
-    let (ended, output) = served(&rt, rt.alloc(), TWO_ROUTES, 100, 10)?;
-    assert_eq!(rt; ended, Ended::SinkFault);
-    assert_eq!(rt; output.as_slice(), b"HTTP/1.1 2".as_slice());
+fn behind_a_full_output_the_next_connection_is_answered_whole(
+    rt: HostRuntime,
+) -> Result<(), AllocError> {
+    let mut full = in_pieces(rt.alloc(), NEAREST_TWICE, 100, 10)?;
+    let told = told_with_next(&rt, rt.alloc(), &mut full)?;
+    assert_eq!(rt; told.as_str(), "SinkFault 10/458;");
     Ok(())
 }
 

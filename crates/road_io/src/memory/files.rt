@@ -3,7 +3,8 @@
 ghost use Rattle.std.specs.Prelude.{◌≡◌, ◌↔◌, ◌⊎◌, [], ◌∷◌, ◌++◌, Contains, IsNone, IsErr, IsErrOf, IfOk, IfErr, IfSome, OnErr, OnOk, option_copied};
 ghost use Rattle.road_io.specs.Faults.{HasFileCause};
 ghost use Rattle.road_io.specs.FailedNames.{TellsFailed, TellsRead};
-ghost use Rattle.road_io.specs.FileNamed.{file_of, named_files};
+ghost use Rattle.road_io.specs.FileContent.{IsFileContent};
+ghost use Rattle.road_io.specs.FileNamed.{file_of, named_files, told_of};
 ghost use Rattle.road_io.specs.MemoryStates.{new_files, next_call, ReadFails};
 
 use crate::failures::FileFault;
@@ -12,7 +13,8 @@ use road_base::Text;
 use std::alloc::Global;
 use std::marker::Model;
 
-/// Files in memory. A name that none has fails, and so does a read that is told to.
+/// Files in memory. A name that none has is told to be missing, and its read fails; so does a read that is
+/// told to.
 #[derive(Debug)]
 pub struct MemFiles {
     files: Vec<(Text, Vec<u8>)>,
@@ -78,12 +80,13 @@ impl MemFiles {
 
 impl Files for MemFiles {
     ghost use Rattle.std.specs.Prelude.{Some};
+    ghost use Rattle.road_io.specs.FileNamed.{told_of};
 
-    ghost view = { λ f. record { content = file_of f.files; reads = Some f.reads; failed_names = Some f.failed_names; faults = f.faults } };
+    ghost view = { λ f. record { content = told_of f.files; reads = Some f.reads; failed_names = Some f.failed_names; faults = f.faults } };
 
     fn read(&mut self, alloc: Global, name: &str) -> Result<Vec<u8>, FileFault>
-        ensures kept { file_of self.new.files ≡ file_of self.old.files }
-        ensures bytes { IfOk result (λ v. IfSome (file_of self.old.files name.now) (λ bytes. v.items ≡ bytes)) }
+        ensures kept { told_of self.new.files ≡ told_of self.old.files }
+        ensures bytes { IfOk result (λ v. IsFileContent (told_of self.old.files name.now) v.items) }
         ensures asked { TellsRead (Some self.old.reads) (Some self.new.reads) result name.now }
         ensures told { TellsFailed (Some self.old.failed_names) (Some self.new.failed_names) result name.now }
         ensures cause { HasFileCause self.old.faults self.new.faults result }

@@ -141,7 +141,7 @@ impl SteadyFiles {
 impl Files for SteadyFiles {
     ghost use Rattle.std.specs.Prelude.{None, Some};
 
-    ghost view = { λ f. record { content = λ name. Some (unwrap_or (file_of f name) []); reads = None; failed_names = Some []; faults = 0 } };
+    ghost view = { λ f. record { content = λ name. Some (Some (unwrap_or (file_of f name) [])); reads = None; failed_names = Some []; faults = 0 } };
 
     fn read(&mut self, alloc: Global, name: &str) -> Result<Vec<u8>, FileFault> {
         match file_in(&self.files, name) {

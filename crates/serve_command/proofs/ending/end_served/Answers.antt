@@ -1,4 +1,4 @@
--- A line behind the last lines, or a front of them.
+-- A line behind the last lines, or a proper front of them.
 use Rattle.serve_command.specs.ServeEnding.{last_lines}
 use Rattle.serve_command.proofs.LineLaws.{front_short, lines_short}
 use Rattle.serve_command.proofs.ending.end_served.Goals as goal

@@ -15,7 +15,7 @@ recustomize_in_threads-requires-clause-old g c κs within =
     let frame = c.args.old.now.frame in
     let before = c.weights-before.result.now in
     let cliques = c.cliques-cliques.result.now in
-    let same : before ≡ c.args.old.now.road.weights = c.weights-before.ensures.value ∙ c.base-2.ensures.value in
+    let same : before ≡ c.args.old.now.road.weights = c.weights-before.ensures.value ∙ c.base.ensures.value in
     let exact : AreExact durlen_ops frame before cliques (length frame.cells.levels) = subst (λ (w : Weighting DurLen). AreExact durlen_ops frame w cliques (length frame.cells.levels)) (sym same) c.cliques-cliques.ensures in
     rw (c.as_slice-vertices.ensures, c.as_slice-arcs.ensures, c.frame-frame.ensures.value)
     (WereExact-changed durlen_ops frame before c.weights-after.result.now cliques c.in_ok-places.places.vertices c.in_ok-places.places.arcs c.in_ok-places.ensures.vertices c.in_ok-places.ensures.arcs exact)
@@ -36,7 +36,7 @@ pub returns-clause-searches : goal.returns-clause-searches
 returns-clause-searches g c = record {
   vertices = c.in_ok-places.places.vertices;
   arcs = c.in_ok-places.places.arcs;
-  in_vertices = rw (c.weights-before.ensures.value, c.base-2.ensures.value, c.weights-after.ensures.value) at c.in_ok-places.ensures.vertices;
-  in_arcs = rw (c.weights-before.ensures.value, c.base-2.ensures.value, c.weights-after.ensures.value) at c.in_ok-places.ensures.arcs;
+  in_vertices = rw (c.weights-before.ensures.value, c.base.ensures.value, c.weights-after.ensures.value) at c.in_ok-places.ensures.vertices;
+  in_arcs = rw (c.weights-before.ensures.value, c.base.ensures.value, c.weights-after.ensures.value) at c.in_ok-places.ensures.arcs;
   touched = rw (c.as_slice-vertices.ensures, c.as_slice-arcs.ensures, c.frame-frame.ensures.value) at c.in_ok-made.ensures.searches;
 }
