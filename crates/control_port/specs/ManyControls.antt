@@ -1,18 +1,14 @@
--- Requests that are carried out one after another: each metric that they publish is the one that its own request's files
--- make from the profile, whatever was published before it and from whatever it was remade.
-use Rattle.std.specs.Prelude.{◌≡◌, ℕ, List, [], ◌∷◌, ◌++◌, take, drop}
-use Rattle.std.proofs.Common.{◌<◌, length, ◌∙◌, sym, ap, append_assoc, inl, inr, arith}
-use Rattle.std.specs.List.{Contains}
-use Rattle.std.proofs.lemmas.List.{append-nil}
-use Rattle.std.proofs.lemmas.List.Elements.{Contains-append_cases, Contains-append_left, Contains-append_right}
-use Rattle.std.proofs.lemmas.Option.{slice_get_within}
-use Rattle.list_lemmas.proofs.Gets.{get_Contains}
-use Rattle.list_lemmas.proofs.Singles.{Contains_one, only_one}
+-- Requests that are carried out one after another: the metrics that they publish are those that the files of the
+-- accepted ones make from the profile, one for one and in order, whatever was published before and from whatever each
+-- was remade.
+use Rattle.std.specs.Prelude.{◌≡◌, ◌⊎◌, ℕ, ◌+◌, Bool, true, false, List, [], ◌∷◌, ◌++◌, filter, take, drop, refl}
+use Rattle.std.proofs.Common.{◌∙◌, sym, ap, subst, cond, append-nil, append_assoc, inl, inr}
+use Rattle.std.specs.List.{AllZip}
 use Rattle.customized.specs.Exact.{Customized, customized_on}
 use Rattle.customized.specs.Framing.{RoadsView}
 use Rattle.edge_graph.specs.NetworkView.{NetworkView}
 use Rattle.metric_make.specs.MetricOf.{MetricView}
-use Rattle.metric_publish.specs.History.{entry}
+use Rattle.metric_publish.specs.History.{IsNumbered, entry, last_from, last_number}
 use Rattle.metric_publish.specs.declared.entry.Entry.{Entry}
 use Rattle.control_port.specs.Controlling.{Board, IsBaseOf, IsControlled}
 use Rattle.control_port.specs.declared.asking.ControlHead.{ControlHead}
@@ -20,15 +16,29 @@ use Rattle.control_port.specs.declared.asking.ControlHead.TheVariants as asked
 use Rattle.control_port.specs.declared.controlled.Controlled.{Controlled}
 use Rattle.control_port.specs.declared.controlled.Controlled.TheVariants as controlled
 
--- a request with its body
-abbrev pub Asked : Type 0
-Asked = ControlHead × List ℕ
+-- a request with its body, and what came of it
+pub record Answered : Type 0 where
+  pub request : ControlHead
+  pub body : List ℕ
+  pub answer : Controlled
 
--- requests are carried out one after another, and this list of publications stands then
-abbrev pub AreControlled : RoadsView → Board → List Asked → Board → Type 0
+-- requests are carried out one after another, with these answers, and this list of publications stands then
+abbrev pub AreControlled : RoadsView → Board → List Answered → Board → Type 0
 AreControlled roads before [] after = after ≡ before
-AreControlled roads before (request ∷ requests) after =
-    (answer : Controlled) × (between : Board) × IsControlled roads before request.0 request.1 answer between × AreControlled roads between requests after
+AreControlled roads before (one ∷ more) after =
+    (between : Board) × IsControlled roads before one.request one.body one.answer between × AreControlled roads between more after
+
+-- it was accepted: a metric was published
+abbrev pub is_accepted : Controlled → Bool
+is_accepted (controlled.Published number unmatched) = true
+is_accepted (controlled.Refused fault) = false
+is_accepted controlled.BadRequest = false
+is_accepted (controlled.Spent number) = false
+is_accepted controlled.Stopping = false
+
+-- the accepted ones of these requests, in their order
+abbrev pub accepted_of : List Answered → List Answered
+accepted_of all = filter (λ (one : Answered). is_accepted one.answer) all
 
 -- the request's files make these costs from the profile
 abbrev pub MakesBase : NetworkView → ControlHead → List ℕ → MetricView → Type 0
@@ -36,68 +46,92 @@ MakesBase network (asked.Metric speeds length) body base = IsBaseOf network (tak
 MakesBase network asked.Stop body base = ⊥
 MakesBase network asked.Bad body base = ⊥
 
--- the publication is the metric that the files of one of the requests make from the profile
-pub record IsFromScratch (roads : RoadsView) (requests : List Asked) (publication : Entry Customized) : Type 0 where
-  pub request : Asked
-  pub among : Contains requests request
+-- the publication is that of the request: its metric is the one that the request's files make from the profile, and its
+-- number was answered, with how many rows of these files match nothing
+pub record IsFromScratch (roads : RoadsView) (one : Answered) (publication : Entry Customized) : Type 0 where
   pub base : MetricView
-  pub made : MakesBase roads.network request.0 request.1 base
+  pub made : MakesBase roads.network one.request one.body base
   pub value : publication.value ≡ customized_on roads base
+  pub answer : one.answer ≡ controlled.Published publication.number base.unmatched
 
--- the list has grown by such publications alone
-pub record GrewFromScratch (roads : RoadsView) (before : Board) (requests : List Asked) (after : Board) : Type 0 where
+-- the list has grown by the publications of the accepted requests alone, one for one and in their order, under the
+-- numbers that follow
+pub record GrewFromScratch (roads : RoadsView) (before : Board) (all : List Answered) (after : Board) : Type 0 where
   pub more : Board
   pub longer : after ≡ before ++ more
-  pub each : (publication : Entry Customized) → Contains more publication → IsFromScratch roads requests publication
+  pub each : AllZip (IsFromScratch roads) (accepted_of all) more
+  pub numbers : IsNumbered (last_number before + 1) more
 
-in_none : {X : Type 0} (x : X) → ¬ Contains [] x
-in_none {X} x h =
-    let g = get_Contains [] x h in
-    let lt : g.0 < length {A = X} [] = slice_get_within [] g.0 x g.1 in
-    absurd (omega arith)
+-- the number of the last publication is that of the one that came last
+last_from-push : (x : Entry Customized) (xs : Board) (e : Entry Customized) → last_from x (xs ++ e ∷ []) ≡ e
+last_from-push x [] e = refl
+last_from-push x (y ∷ ys) e = last_from-push y ys e
+
+last_number-push : (list : Board) (e : Entry Customized) → last_number (list ++ e ∷ []) ≡ e.number
+last_number-push [] e = refl
+last_number-push (x ∷ xs) e = ap (λ (last : Entry Customized). last.number) (last_from-push x xs e)
 
 module _ (roads : RoadsView) where
-  stays : (before : Board) (requests : List Asked) (after : Board) → after ≡ before → GrewFromScratch roads before requests after
-  stays before requests after same = record {
-    more = [];
-    longer = same ∙ sym (append-nil before);
-    each = λ publication h. absurd (in_none publication h);
-  }
+  -- the request was not accepted, and the list is as before
+  record IsKept (before : Board) (one : Answered) (after : Board) : Type 0 where
+    pub refused : is_accepted one.answer ≡ false
+    pub same : after ≡ before
 
-  one_more : (before : Board) (request : ControlHead) (body : List ℕ) (answer : Controlled) (after : Board) → IsControlled roads before request body answer after → GrewFromScratch roads before ((request, body) ∷ []) after
-  one_more before asked.Bad body answer after h = stays before ((asked.Bad, body) ∷ []) after h.1
-  one_more before asked.Stop body answer after h = stays before ((asked.Stop, body) ∷ []) after h.1
-  one_more before (asked.Metric speeds length) body (controlled.Published number unmatched) after h =
-      let new : Entry Customized = entry number (customized_on roads h.base) in record {
-        more = new ∷ [];
-        longer = h.published.longer;
-        each = λ publication inside. record {
-          request = (asked.Metric speeds length, body);
-          among = Contains_one (asked.Metric speeds length, body);
-          base = h.base;
-          made = h.made;
-          value = ap (λ (e : Entry Customized). e.value) (only_one new publication inside);
-        };
-      }
-  one_more before (asked.Metric speeds length) body (controlled.Refused fault) after h = stays before ((asked.Metric speeds length, body) ∷ []) after h.1
-  one_more before (asked.Metric speeds length) body (controlled.Spent number) after h = stays before ((asked.Metric speeds length, body) ∷ []) after h.1
+  -- it was accepted, and the list is longer by its publication
+  record IsAdded (before : Board) (one : Answered) (after : Board) : Type 0 where
+    pub publication : Entry Customized
+    pub accepted : is_accepted one.answer ≡ true
+    pub from : IsFromScratch roads one publication
+    pub next : publication.number ≡ last_number before + 1
+    pub longer : after ≡ before ++ publication ∷ []
+
+  one_more : (before : Board) (request : ControlHead) (body : List ℕ) (answer : Controlled) (after : Board) → IsControlled roads before request body answer after → IsKept before (record { request = request; body = body; answer = answer }) after ⊎ IsAdded before (record { request = request; body = body; answer = answer }) after
+  one_more before asked.Bad body answer after h = inl (record { refused = ap is_accepted h.0; same = h.1 })
+  one_more before asked.Stop body answer after h = inl (record { refused = ap is_accepted h.0; same = h.1 })
+  one_more before (asked.Metric speeds length) body (controlled.Published number unmatched) after h = inr (record {
+    publication = entry number (customized_on roads h.base);
+    accepted = refl;
+    from = record {
+      base = h.base;
+      made = h.made;
+      value = refl;
+      answer = ap (λ (missed : ℕ). controlled.Published number missed) h.published.missed;
+    };
+    next = h.published.next;
+    longer = h.published.longer;
+  })
+  one_more before (asked.Metric speeds length) body (controlled.Refused fault) after h = inl (record { refused = refl; same = h.1 })
+  one_more before (asked.Metric speeds length) body (controlled.Spent number) after h = inl (record { refused = refl; same = h.1 })
   one_more before (asked.Metric speeds length) body controlled.BadRequest after h = absurd h
   one_more before (asked.Metric speeds length) body controlled.Stopping after h = absurd h
 
-  among_more : (xs requests : List Asked) → ((request : Asked) → Contains xs request → Contains requests request) → (publication : Entry Customized) → IsFromScratch roads xs publication → IsFromScratch roads requests publication
-  among_more xs requests inside publication h = record { request = h.request; among = inside h.request h.among; base = h.base; made = h.made; value = h.value }
+  -- a request, and then the others
+  and_then : (before between : Board) (one : Answered) (more : List Answered) (after : Board) → IsKept before one between ⊎ IsAdded before one between → GrewFromScratch roads between more after → GrewFromScratch roads before (one ∷ more) after
+  and_then before between one more after (inl kept) rest = record {
+    more = rest.more;
+    longer = rest.longer ∙ ap (λ (list : Board). list ++ rest.more) kept.same;
+    each =
+        subst (λ (b : Bool). AllZip (IsFromScratch roads) (cond b (one ∷ accepted_of more) (accepted_of more)) rest.more)
+        (sym kept.refused) rest.each;
+    numbers = subst (λ (list : Board). IsNumbered (last_number list + 1) rest.more) kept.same rest.numbers;
+  }
+  and_then before between one more after (inr added) rest = record {
+    more = added.publication ∷ rest.more;
+    longer =
+        rest.longer ∙ ap (λ (list : Board). list ++ rest.more) added.longer
+        ∙ append_assoc before (added.publication ∷ []) rest.more;
+    each =
+        subst (λ (b : Bool). AllZip (IsFromScratch roads) (cond b (one ∷ accepted_of more) (accepted_of more)) (added.publication ∷ rest.more))
+        (sym added.accepted) (added.from, rest.each);
+    numbers = (added.next, subst (λ (n : ℕ). IsNumbered (n + 1) rest.more) last rest.numbers);
+  }
+    where
+      last : last_number between ≡ last_number before + 1
+      last = ap last_number added.longer ∙ last_number-push before added.publication ∙ added.next
 
--- Whatever control requests are carried out, accepted or not, each metric that they add is made from scratch by its own
--- request's files.
-pub all_from_scratch : (roads : RoadsView) (before : Board) (requests : List Asked) (after : Board) → AreControlled roads before requests after → GrewFromScratch roads before requests after
-all_from_scratch roads before [] after h = stays roads before [] after h
-all_from_scratch roads before (request ∷ requests) after h =
-    let first = one_more roads before request.0 request.1 h.0 h.1 h.2 in
-    let rest = all_from_scratch roads h.1 requests after h.3 in record {
-      more = first.more ++ rest.more;
-      longer = rest.longer ∙ ap (λ (l : Board). l ++ rest.more) first.longer ∙ append_assoc before first.more rest.more;
-      each = λ publication inside. elim (Contains-append_cases first.more rest.more publication inside) [
-        | inl one ↦ among_more roads (request ∷ []) (request ∷ requests) (λ r in_one. Contains-append_left (request ∷ []) requests r in_one) publication (first.each publication one)
-        | inr other ↦ among_more roads requests (request ∷ requests) (λ r in_rest. Contains-append_right (request ∷ []) requests r in_rest) publication (rest.each publication other)
-      ];
-    }
+-- Whatever control requests are carried out, accepted or not, the metrics that they add are those of the accepted ones,
+-- each made from scratch by its own request's files.
+pub all_from_scratch : (roads : RoadsView) (before : Board) (all : List Answered) (after : Board) → AreControlled roads before all after → GrewFromScratch roads before all after
+all_from_scratch roads before [] after h = record { more = []; longer = h ∙ sym (append-nil before); each = tt; numbers = tt }
+all_from_scratch roads before (one ∷ more) after h =
+    and_then roads before h.0 one more after (one_more roads before one.request one.body one.answer h.0 h.1) (all_from_scratch roads h.0 more after h.2)

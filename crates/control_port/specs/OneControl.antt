@@ -1,6 +1,6 @@
 -- A request with its body has one answer, and one list of publications stands after it: so each answer comes exactly
 -- where the rule gives it.
-use Rattle.std.specs.Prelude.{◌≡◌, ◌⊎◌, ℕ, ◌+◌, ◌<◌, List, [], ◌∷◌, ◌++◌, take, drop, refl, Result, Ok, Err, IfOk, IfErr, MatchResult}
+use Rattle.std.specs.Prelude.{◌≡◌, ℕ, ◌<◌, List, [], ◌∷◌, ◌++◌, take, drop, refl, Result, Ok, Err, IfOk, IfErr, MatchResult}
 use Rattle.std.proofs.Common.{◌∙◌, sym, ap, ap₂, subst, inl, inr}
 use Rattle.std.proofs.Math.Nat.{lt_irrefl}
 use Rattle.customized.specs.Exact.{customized_on}
@@ -14,7 +14,7 @@ use Rattle.traffic_files.specs.declared.rows.RowFault.{RowFault}
 use Rattle.traffic_files.specs.declared.rows.SpeedRow.{SpeedRow}
 use Rattle.traffic_files.specs.declared.rows.TurnRow.{TurnRow}
 use Rattle.traffic_files.specs.declared.rows.TrafficFile.TheVariants.{Speeds, Turns}
-use Rattle.control_port.specs.Controlling.{Board, FilesGive, IsControlled, IsFirstFault, IsPublished, IsSpent, RowsRead, TurnsFaulty}
+use Rattle.control_port.specs.Controlling.{Board, FilesGive, IsControlled, IsFirstFault, IsPublished, RowsRead}
 use Rattle.control_port.specs.declared.asking.ControlHead.{ControlHead}
 use Rattle.control_port.specs.declared.asking.ControlHead.TheVariants as asked
 use Rattle.control_port.specs.declared.controlled.Controlled.{Controlled}

@@ -3,16 +3,19 @@
 //! [`ControlHead::of`] says what a head asks for, [`control`] does it over any board of metrics that share their
 //! roads, and [`ReplyRoom`] writes the reply without memory, so that none runs out once a metric is published.
 //! `specs/` is to be read in this order: `Asking` (what a head asks for), `Controlling` (what comes of a request, and
-//! which list of publications stands then), `Telling` (what the reply says).
+//! which list of publications stands then), `Telling` (what the reply says), `ManyControls` (what any number of requests
+//! add to the list).
 #![tactic(auto)]
 
 mod asking;
 mod controlled;
 mod controls;
+mod laws;
 mod numbers;
 mod replies;
 
 pub use asking::{Announced, ControlHead, MOST_BYTES};
 pub use controlled::{Controlled, file_text, kind_text};
 pub use controls::{base_of_files, control};
+pub use laws::{publications_are_from_scratch, requests_have_one_answer};
 pub use replies::{BodyRoom, ReplyRoom};

@@ -1,12 +1,16 @@
+pub mod ControlEnds
 pub mod ControlReading
 pub mod ControlReplying
 pub mod ControlRule
 pub mod ControlSessions
 pub mod CutLaws
 pub mod EndLaws
+pub mod HeadRules
+pub mod QueryEnds
 pub mod QueryRule
 pub mod Replying
 pub mod RoadControls
+pub mod RoadLaws
 pub mod RouteSessions
 pub mod Seats
 pub mod SeatLaws

@@ -7,13 +7,17 @@
 //! [`serve_with`] is the same over any of these.
 //!
 //! `specs/QueryRule` has the rule of one exchange, `specs/Sessions` what a whole connection is, and
-//! `specs/Transcripts` what is left of one that is finished. The cut of the input into requests is the only one
-//! (`specs/CutLaws`), and where nothing fails the input alone tells how the connection ends (`specs/EndLaws`).
+//! `specs/Transcripts` what is left of one that is finished.
 //!
 //! [`serve_control`] serves one control connection likewise, over any desk of a board. What carries out its requests
 //! stands behind the trait [`Controlling`], and [`control_with`] is the same over any of these. `specs/ControlRule`
 //! has the rule of one exchange, `specs/ControlSessions` what a whole connection is, and which list of publications
 //! finished ones lead to.
+//!
+//! On both kinds of connection the cut of the input into requests is the only one ([`inputs_have_one_cut`]), and where
+//! nothing fails the input alone tells which requests are answered and how the connection ends
+//! ([`inputs_tell_their_ends`]). `specs/HeadRules` has what the head of a request tells on each kind, and both laws are
+//! over that (`specs/CutLaws`, `specs/EndLaws`).
 #![tactic(auto)]
 
 mod answering;
@@ -21,6 +25,7 @@ mod control_connections;
 mod control_requests;
 mod control_serving;
 mod controlling;
+mod laws;
 mod route_connections;
 mod serving;
 
@@ -29,5 +34,6 @@ pub use control_connections::serve_control;
 pub use control_serving::{ControlEnded, control_with};
 pub use controlling::Controlling;
 pub use http_session::Ended;
+pub use laws::{inputs_have_one_cut, inputs_tell_their_ends};
 pub use route_connections::serve_connection;
 pub use serving::serve_with;
