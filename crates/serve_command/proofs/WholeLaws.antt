@@ -1,14 +1,15 @@
 -- How a whole run to serve ends, by how its parts do.
-use Rattle.std.proofs.Common.{◌≡◌, inl, inr, ℕ, List, ◌∷◌, ◌++◌, refl, ap, ap₂, sym, ◌∙◌, subst}
+use Rattle.std.proofs.Common.{◌≡◌, ◌⊎◌, inl, inr, ℕ, List, [], ◌∷◌, ◌++◌, None, refl, ap, ap₂, sym, ◌∙◌, subst}
 use Rattle.command_words.specs.Commands.{Serving}
 use Rattle.control_port.specs.Controlling.{Board}
 use Rattle.customized.specs.Framing.{RoadsView}
-use Rattle.program_ends.specs.FileReads.{AreBegun, named, names_of}
+use Rattle.program_ends.specs.FileReads.{AreBegun, listed, named, names_of}
 use Rattle.program_ends.specs.ReadLaws.{begun_all, names_append}
 use Rattle.program_ends.specs.StoppedEarly.{EndsUnbegun, IsExhausted, memory_line}
 use Rattle.road_base.specs.declared.program_status.Status.{Status}
 use Rattle.road_base.specs.declared.program_status.Status.TheVariants as status
 use Rattle.road_io.specs.DoorOpening.{DoorsView}
+use Rattle.road_io.specs.Faults.{FilesRose, OutputRose, Rose}
 use Rattle.road_io.specs.Outside.{Outside, outside}
 use Rattle.road_io.specs.Putting.{Closes}
 use Rattle.road_io.specs.Views.{FilesView, InputView, OutputView}
@@ -70,3 +71,23 @@ serve_unbegun status.Outside words before after doors h = inl (h, refl)
 serve_unbegun status.Words words before after doors h = absurd h
 serve_unbegun status.Refused words before after doors h = absurd h
 serve_unbegun status.Memory words before after doors h = inl (h, refl)
+
+faulty_causes : (words : Serving) (files now_files : FilesView) (before after : OutputView) (doors now : DoorsView) (roads : RoadsView) (list : Board)
+    → EndsFaulty (asked_in words) before after doors now roads list → FilesRose files now_files ⊎ (OutputRose before after ⊎ Rose doors.faults now.faults)
+faulty_causes words files now_files before after doors now roads list (inl unopened) = inr (inr unopened.rose)
+faulty_causes words files now_files before after doors now roads list (inr (inl unready)) = inr (inl unready.rose)
+faulty_causes words files now_files before after doors now roads list (inr (inr faulty)) = elim faulty.cause [ inl failed ↦ inr (inl (subst (λ (n : ℕ). Rose n after.faults) faulty.is_ready.steady failed.0)) | inr whole ↦ inr (inr whole.0) ]
+
+serve_causes : (words : Serving) (before after : Outside) (doors now : DoorsView) → EndsServe status.Outside words before after doors now
+    → FilesRose before.files after.files ⊎ (OutputRose before.output after.output ⊎ Rose doors.faults now.faults)
+serve_causes words before after doors now (inl unread) = inl unread.0.failed.rose
+serve_causes words before after doors now (inr started) = faulty_causes words before.files after.files before.output after.output doors now started.roads started.first started.ended
+
+-- a run ends for the outside only where a count of faults rose
+pub serve_outside : (code : Status) (words : Serving) (before after : Outside) (doors now : DoorsView) → EndsServe code words before after doors now → code ≡ status.Outside
+    → FilesRose before.files after.files ⊎ (OutputRose before.output after.output ⊎ Rose doors.faults now.faults)
+serve_outside code words before after doors now ends is = serve_causes words before after doors now (subst (λ (c : Status). EndsServe c words before after doors now) is ends)
+
+-- an input of which nothing is told
+abbrev pub no_input : InputView
+no_input = record { left = None; taken = 0; faults = 0 }
