@@ -9,7 +9,7 @@
               bytes (a limit of the system, with its signal ignored), and into a pipe that is closed behind so many; the lines
               of `serve` into a full disk, a closed pipe, and one that is closed behind `ready`
     reset     clients of both ports that reset their connection (SO_LINGER 0): before the first byte, behind each byte of a
-              request, behind a whole one, and inside the replies to twenty of them
+              request, behind a whole one, and inside the replies to twenty of them, short ones and some of 500 coordinates
     crowd     200 clients at once, of which half break off inside a head, in four ways, and at the control port 100 one after
               the other inside a body
     body      a control body that ends, or is reset, behind each of its bytes
@@ -53,6 +53,7 @@ COUNTS = r"nodes (\d+)\nways (\d+)\nrelations (\d+)\nsegments \d+\nvertices \d+\
 ROWS = refused.TRAFFIC["slow.csv"]
 TARGET = "/route/v1/car/0,0;0.001,0?overview=false"
 TABLE = "/table/v1/car/" + ";".join(f"{it / 1000},{it / 1000}" for it in range(8))
+LONG = "/route/v1/car/" + ";".join(["0,0", "0.007,0.007"] * 250) + "?overview=full&geometries=geojson&annotations=true"
 GET = f"GET {TARGET} HTTP/1.1\r\nHost: a\r\n\r\n".encode()
 
 
@@ -130,13 +131,22 @@ def at_most_written(size):
 class Server:
     """A running `serve` over the town, how its traffic stands, and what a route is due."""
 
-    def __init__(self, place, texts, workers=4):
-        self.texts, self.number = texts, 0
+    def __init__(self, place):
+        self.texts, self.number = place.texts("town.opl", [TARGET])[0], 0
         self.queries, self.control = refused.free_ports()
         doors = ["--listen", f"127.0.0.1:{self.queries}", "--control", f"127.0.0.1:{self.control}"]
-        self.running = place.begin(["serve", "town.opl", "settings.toml", *doors, "--workers", str(workers)])
-        if self.running.stdout.readline() != b"ready\n":
-            sys.exit("bench: without a fault the server isn't ready")
+        self.running = place.begin(["serve", "town.opl", "settings.toml", *doors])
+        with refused.guarded(self.running):
+            if self.running.stdout.readline() != b"ready\n":
+                sys.exit("bench: without a fault the server isn't ready")
+
+    def __enter__(self):
+        return self
+
+    def __exit__(self, *_):
+        if self.running.poll() is None:
+            self.running.kill()
+            self.running.wait()
 
     def due(self, number=None):
         """The whole reply to the route under a publication of the good traffic file, the last one if none is named."""
@@ -170,7 +180,6 @@ class Server:
         try:
             output = self.running.communicate(timeout=LIMIT)[0].decode()
         except subprocess.TimeoutExpired:
-            self.running.kill()
             output = "it doesn't stop"
         own = stopped == refused.STOP.texts[0].encode() and self.running.returncode == 0
         own = own and re.fullmatch(rf"connections \d+\nmetric {self.number}\n", output)
@@ -198,14 +207,17 @@ def heard(port, asked):
 
 
 def reset(port, asked, take=0):
-    """Sends these bytes, takes so many of the replies, and resets the connection. What was taken."""
-    with connected(port) as conn:
-        conn.sendall(asked)
-        taken = b""
-        while len(taken) < take and (more := conn.recv(take - len(taken))):
-            taken += more
-        conn.setsockopt(socket.SOL_SOCKET, socket.SO_LINGER, struct.pack("ii", 1, 0))
-    return taken
+    """Sends these bytes, takes so many of the replies, and resets the connection. What was taken, or why it could not be."""
+    taken = b""
+    try:
+        with connected(port) as conn:
+            conn.sendall(asked)
+            while len(taken) < take and (more := conn.recv(take - len(taken))):
+                taken += more
+            conn.setsockopt(socket.SOL_SOCKET, socket.SO_LINGER, struct.pack("ii", 1, 0))
+        return taken
+    except OSError as why:
+        return str(why)
 
 
 # ---- the kinds; each gives the outcome of a run, or None, and what it came to ----
@@ -390,24 +402,29 @@ def serve_unheard(place, after):
 
 def resets(place, part):
     """Clients that reset their connection."""
-    server = Server(place, place.texts("town.opl", [TARGET])[0])
-    for length in [*range(len(GET))[::part], *[len(GET)] * 20]:
-        reset(server.queries, GET[:length])
-        yield "query", *behind(server, f"{length} bytes")
-    for take in [1, 100, len(server.due()), 5 * len(server.due()) + 7] * 5:
-        taken = reset(server.queries, GET * 20, take)
-        outcome, told = behind(server, f"{take} bytes of twenty replies")
-        yield "replies", outcome if taken == (server.due() * 20)[:take] else None, f"{told}; taken {taken}"
-    asked = posted(ROWS)
-    for length in range(len(asked))[::part]:
-        reset(server.control, asked[:length])
-        yield "control", *behind_control(server, length, b"")
-    for _ in range(10):
-        reset(server.control, asked)
-        fine, published = server.settles(), server.learn()
-        outcome, told = behind(server, f"a whole request to the control port, settled {fine}")
-        yield "control", ("own" if published else outcome) if outcome and fine else None, told
-    yield "server", *server.end()
+    with Server(place) as server:
+        for length in [*range(len(GET))[::part], *[len(GET)] * 20]:
+            got = reset(server.queries, GET[:length])
+            outcome, told = behind(server, f"{length} bytes got {got}")
+            yield "query", outcome if got == b"" else None, told
+        for take in [1, 100, len(server.due()), 5 * len(server.due()) + 7] * 5:
+            taken = reset(server.queries, GET * 20, take)
+            outcome, told = behind(server, f"{take} bytes of twenty replies")
+            yield "replies", outcome if taken == (server.due() * 20)[:take] else None, f"{told}; taken {taken}"
+        long = refused.reply("200 OK", place.texts("town.opl", [LONG])[0][0]).encode()
+        for take in [1, 1000, len(long), len(long) + 1, 3 * len(long) + 7][::part]:
+            taken = reset(server.queries, f"GET {LONG} HTTP/1.1\r\nHost: a\r\n\r\n".encode() * 20, take)
+            outcome, told = behind(server, f"{take} bytes of twenty replies of {len(long)}")
+            yield "long replies", outcome if taken == (long * 20)[:take] else None, f"{told}; taken {taken[-300:]}"
+        asked = posted(ROWS)
+        for length in range(len(asked))[::part]:
+            yield "control", *behind_control(server, length, reset(server.control, asked[:length]))
+        for _ in range(10):
+            reset(server.control, asked)
+            fine, published = server.settles(), server.learn()
+            outcome, told = behind(server, f"a whole request to the control port, settled {fine}")
+            yield "control", ("own" if published else outcome) if outcome and fine else None, told
+        yield "server", *server.end()
 
 
 def behind(server, told):
@@ -425,20 +442,20 @@ def behind_control(server, length, got):
 
 def crowd(place, part):
     """Many clients at once."""
-    server = Server(place, place.texts("town.opl", [TARGET])[0])
-    clients = range(200)[: 200 // part]
-    gate = threading.Barrier(len(clients))
-    with concurrent.futures.ThreadPoolExecutor(len(clients)) as pool:
-        for it in pool.map(lambda number: visit_or_break(server, gate, number), clients):
-            yield "query", *it
-    yield "query", "own" if server.answers() else None, "the route behind them isn't answered"
-    asked = posted(ROWS)
-    for number in range(0, 100, part):
-        length = len(asked) - 1 - number % len(ROWS)
-        got = heard(server.control, asked[:length])
-        yield "control", *behind_control(server, length, got)
-    yield "control", "own" if server.publish() else None, "a publication behind them has another number"
-    yield "server", *server.end()
+    with Server(place) as server:
+        clients = range(200)[: 200 // part]
+        gate = threading.Barrier(len(clients))
+        with concurrent.futures.ThreadPoolExecutor(len(clients)) as pool:
+            for it in pool.map(lambda number: visit_or_break(server, gate, number), clients):
+                yield "query", *it
+        yield "query", "own" if server.answers() else None, "the route behind them isn't answered"
+        asked = posted(ROWS)
+        for number in range(0, 100, part):
+            length = len(asked) - 1 - number % len(ROWS)
+            got = heard(server.control, asked[:length])
+            yield "control", *behind_control(server, length, got)
+        yield "control", "own" if server.publish() else None, "a publication behind them has another number"
+        yield "server", *server.end()
 
 
 def visit_or_break(server, gate, number):
@@ -455,8 +472,8 @@ def visit_or_break(server, gate, number):
                     conn.sendall(cut)
                 return "broken off", ""
             case 5:
-                reset(server.queries, cut)
-                return "broken off", ""
+                got = reset(server.queries, cut)
+                return "broken off" if got == b"" else None, f"a reset behind {cut}: {got}"
             case 7:
                 got = heard(server.queries, GET + cut)
                 return "broken off" if got == server.due() else None, f"{GET + cut} got {got}"
@@ -468,15 +485,15 @@ def visit_or_break(server, gate, number):
 
 def bodies(place, part):
     """Control bodies that break off."""
-    server = Server(place, place.texts("town.opl", [TARGET])[0])
-    body = ROWS + "2,3,30\n3,2,30\n"
-    asked = posted(body)
-    for length in range(len(asked) - len(body), len(asked))[::part]:
-        for way in (heard, reset):
-            got = way(server.control, asked[:length])
-            yield "control", *behind_control(server, length, got)
-    yield "control", "own" if server.publish() and server.answers() else None, "a publication behind them has another number"
-    yield "server", *server.end()
+    with Server(place) as server:
+        body = ROWS + "2,3,30\n3,2,30\n"
+        asked = posted(body)
+        for length in range(len(asked) - len(body), len(asked))[::part]:
+            for way in (heard, reset):
+                got = way(server.control, asked[:length])
+                yield "control", *behind_control(server, length, got)
+        yield "control", "own" if server.publish() and server.answers() else None, "a publication behind them differs"
+        yield "server", *server.end()
 
 
 def maps(place, part):
