@@ -70,6 +70,7 @@ try serve.sh 'serving over loopback beside a plain server' "rustc $plain" --seco
 try hostile.sh 'maps made to stall the reader' "$time" 500
 try hostile.sh 'streets that meet at one node' "$time" --stars 50
 try refused.py 'requests for memory refused in turn' cc --step 40 restriction refused table serve
+try faults.py 'faults from outside' '' --part 10
 left_out partition.sh 'the halving into cells' 'it proves a crate'
 left_out board.sh 'reads of a board' 'it builds a crate by rt try'
 left_out gate.py 'what the gate takes' 'it runs rt ci'
