@@ -5,7 +5,7 @@
 #
 # Each has a line that says what it is, and how long it took by the clock or why it is left out; what one that fails has
 # said stands below its line, and the status is then 1. The figures are of no use at such sizes, and aren't shown. Left
-# out is what isn't there (rustc, a C compiler, GNU time, a baseline of overlays), what proves or builds crates by rt,
+# out is what isn't there (rustc, a C compiler, GNU time), what proves or builds crates by rt,
 # which takes longer than all others together, and the client in Qt.
 set -eu
 
@@ -57,19 +57,22 @@ try reading.py 'reading, building, memory and routes beside the baseline' "$plai
 try replies.py 'replies of all services beside those of the baseline' "$plain" --tangles 3 --roads 100 "$car" town.opl
 try traffic.py 'lines of TRAFFIC beside the baseline' "$plain" --town 10 --rows 100 --repeats 1
 try traffic_rows.py 'traffic files for a map' '' town.opl 10 10
-try customization.py 'customization whole and of touched cells' '' \
+cells=${OVERLAYS:-rustc}
+try customization.py 'customization whole and of touched cells beside a baseline of overlays' "$cells" \
     --processors 1,2 --repeats 1 --rows 10 "$car" town.opl
-if [ -n "${OVERLAYS-}" ]; then
-    try queries.py 'routes and tables beside a baseline of overlays' '' --pairs 20 --repeats 1 "$car" town.opl
-else
-    left_out queries.py 'routes and tables beside a baseline of overlays' 'OVERLAYS names none'
-fi
+try queries.py 'routes and tables beside a baseline of overlays' "$cells" --pairs 20 --repeats 1 "$car" town.opl
+try trips.py 'trips beside the table and the route of each' '' --trips 5 --repeats 1 "$car" town.opl
 try targets.py 'reading of targets' '' --lines 50 "$car" town.opl
 try snapping.sh 'snapping by a scan, a grid and an index' rustc town.opl 100
 try serve.sh 'serving over loopback beside a plain server' "rustc $plain" --seconds 0.1
 try hostile.sh 'maps made to stall the reader' "$time" 500
 try hostile.sh 'streets that meet at one node' "$time" --stars 50
 try refused.py 'requests for memory refused in turn' cc --step 40 restriction refused table serve
+if tests=$("$bench/common.py" tests 2> said); then
+    try refused.py 'requests for memory of tests refused in turn' "cc $tests" --step 40 --tests
+else
+    left_out refused.py 'requests for memory of tests refused in turn' "$(cat said)"
+fi
 try faults.py 'faults from outside' '' --part 10
 left_out partition.sh 'the halving into cells' 'it proves a crate'
 left_out board.sh 'reads of a board' 'it builds a crate by rt try'

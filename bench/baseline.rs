@@ -1139,6 +1139,7 @@ fn answer(network: &Network, labels: &mut Labels, target: &str) -> String {
     let found = match request.service.as_str() {
         "nearest" => nearest(network, &request),
         "table" => table(network, labels, &request),
+        "trip" => trip(network, labels, &request),
         _ => route(network, labels, &request),
     };
     match found {
@@ -1196,9 +1197,76 @@ fn table(network: &Network, labels: &mut Labels, request: &Request) -> Result<St
 
 fn route(network: &Network, labels: &mut Labels, request: &Request) -> Result<String, Refusal> {
     let places = places_of(network, request)?;
+    let told = route_text(network, labels, request, &places).map_err(|leg| ("NoRoute", format!("leg {leg}")))?;
+    let waypoints = request.points.iter().zip(&places).map(|(point, place)| waypoint(network, *point, *place));
+    Ok(format!("\"routes\":[{told}]{}", waypoints_text(request, waypoints.collect())))
+}
+
+/// All places in the order that is best, found by trying all orders.
+fn trip(network: &Network, labels: &mut Labels, request: &Request) -> Result<String, Refusal> {
+    let places = places_of(network, request)?;
+    let rows: Vec<Vec<Option<Cost>>> = places.iter().map(|place| row(network, labels, *place, &places)).collect();
+    let order = best_order(&rows, request).ok_or_else(|| ("NoTrips", String::from("trip")))?;
+    let stops: Vec<Place> = stops(&order, request.roundtrip).map(|number| places[number]).collect();
+    let told = route_text(network, labels, request, &stops).expect("each leg of the best order has a walk");
+    let waypoint = |(number, point): (usize, &Point)| {
+        let index = order.iter().position(|stop| *stop == number).expect("an order has all places");
+        let waypoint = waypoint(network, *point, places[number]);
+        format!("{{\"waypoint_index\":{index},\"trips_index\":0,{}", &waypoint[1..])
+    };
+    let waypoints = request.points.iter().enumerate().map(waypoint);
+    Ok(format!("\"trips\":[{told}]{}", waypoints_text(request, waypoints.collect())))
+}
+
+/// The places of an order, and on a round trip its first place once more.
+fn stops(order: &[usize], roundtrip: bool) -> impl Iterator<Item = usize> {
+    order.iter().chain(order.iter().take(usize::from(roundtrip))).copied()
+}
+
+/// Of the orders that the request admits and that lack no leg the one that costs the least, and of those that cost as
+/// much the first in the order of their numbers.
+fn best_order(rows: &[Vec<Option<Cost>>], request: &Request) -> Option<Vec<usize>> {
+    let (begins_at_first, last) = (request.from_first || (request.roundtrip && !request.to_last), rows.len() - 1);
+    let mut order: Vec<usize> = (0..rows.len()).collect();
+    let mut best: Option<(Cost, Vec<usize>)> = None;
+    loop {
+        let admitted = (!begins_at_first || order[0] == 0) && (!request.to_last || order[last] == last);
+        let cost = if admitted { cost_along(rows, &order, request.roundtrip) } else { None };
+        if let Some(cost) = cost
+            && best.as_ref().is_none_or(|(least, _)| cost < *least)
+        {
+            best = Some((cost, order.clone()));
+        }
+        if !go_on(&mut order) {
+            return best.map(|(_, order)| order);
+        }
+    }
+}
+
+/// What the legs of an order cost together, None where one is lacking.
+fn cost_along(rows: &[Vec<Option<Cost>>], order: &[usize], roundtrip: bool) -> Option<Cost> {
+    stops(order, roundtrip).zip(stops(order, roundtrip).skip(1)).try_fold((0, 0), |paid, (from, to)| Some(plus(paid, rows[from][to]?)))
+}
+
+/// Makes the next order of one, in the order of their numbers; false where it was the last.
+fn go_on(order: &mut [usize]) -> bool {
+    let Some(at) = (1..order.len()).rev().find(|at| order[at - 1] < order[*at]) else { return false };
+    let other = (at..order.len()).rev().find(|other| order[at - 1] < order[*other]).expect("the one at `at` is greater");
+    order.swap(at - 1, other);
+    order[at..].reverse();
+    true
+}
+
+/// The member that has the waypoints, where they are asked for.
+fn waypoints_text(request: &Request, waypoints: Vec<String>) -> String {
+    if request.skip_waypoints { String::new() } else { format!(",\"waypoints\":[{}]", waypoints.join(",")) }
+}
+
+/// A route through places in their order; the number of the first leg that has no walk where one has none.
+fn route_text(network: &Network, labels: &mut Labels, request: &Request, places: &[Place]) -> Result<String, usize> {
     let (mut whole, mut legs, mut line) = ((0, 0), Vec::new(), Vec::new());
     for (number, pair) in places.windows(2).enumerate() {
-        let route = least_route(network, labels, pair[0], pair[1]).ok_or_else(|| ("NoRoute", format!("leg {number}")))?;
+        let route = least_route(network, labels, pair[0], pair[1]).ok_or(number)?;
         whole = plus(whole, route.cost);
         let points = leg_points(network, &route.walk, pair[0], pair[1]);
         line.extend(&points[usize::from(number > 0)..]);
@@ -1211,10 +1279,8 @@ fn route(network: &Network, labels: &mut Labels, request: &Request) -> Result<St
         "false" => String::new(),
         _ => format!("\"geometry\":{},", line_text(&line, &request.geometries)),
     };
-    let waypoints: Vec<String> = request.points.iter().zip(&places).map(|(point, place)| waypoint(network, *point, *place)).collect();
-    let waypoints = if request.skip_waypoints { String::new() } else { format!(",\"waypoints\":[{}]", waypoints.join(",")) };
     let (totals, legs) = (totals(whole), legs.join(","));
-    Ok(format!("\"routes\":[{{{totals},\"weight_name\":\"duration\",{geometry}\"legs\":[{legs}]}}]{waypoints}"))
+    Ok(format!("{{{totals},\"weight_name\":\"duration\",{geometry}\"legs\":[{legs}]}}"))
 }
 
 fn leg_text(network: &Network, request: &Request, route: &Route, points: &[Point], from: Place, to: Place) -> String {
@@ -1323,6 +1389,10 @@ struct Request {
     destinations: Vec<usize>,
     skip_waypoints: bool,
     steps: bool,
+    roundtrip: bool,
+    /// `source=first` and `destination=last`.
+    from_first: bool,
+    to_last: bool,
     since: u32,
     wishes: Vec<Wish>,
 }
@@ -1341,6 +1411,7 @@ fn request(target: &str) -> Result<Request, Refusal> {
         "route" => (2, 500),
         "table" => (1, 100),
         "nearest" => (1, 1),
+        "trip" => (2, 9),
         other => return Err(("InvalidService", format!("service {other}"))),
     };
     if pieces[1] != "v1" {
@@ -1364,6 +1435,9 @@ fn request(target: &str) -> Result<Request, Refusal> {
         destinations: (0..coordinates.len()).collect(),
         skip_waypoints: false,
         steps: false,
+        roundtrip: true,
+        from_first: false,
+        to_last: false,
         since: 0,
         wishes: vec![Wish::default(); coordinates.len()],
     };
@@ -1447,13 +1521,16 @@ fn set_option(request: &mut Request, name: &str, value: &str, count: usize) -> b
         }
         (_, "radiuses") => return wished(request, &set_radius),
         (_, "bearings") => return wished(request, &set_bearing),
-        ("route", "steps") if ["true", "false"].contains(&value) => request.steps = value == "true",
+        ("route" | "trip", "steps") if ["true", "false"].contains(&value) => request.steps = value == "true",
         ("nearest", "number") if digits(value) && value.bytes().any(|byte| byte != b'0') => request.number = value.parse().unwrap_or(0),
-        ("route", "overview") if ["simplified", "full", "false"].contains(&value) => request.overview = value.to_string(),
-        ("route", "geometries") if ["polyline", "polyline6", "geojson"].contains(&value) => request.geometries = value.to_string(),
-        ("route", "annotations") if ["true", "false"].contains(&value) || value.split(',').all(|name| every.contains(&name)) => {
+        ("route" | "trip", "overview") if ["simplified", "full", "false"].contains(&value) => request.overview = value.to_string(),
+        ("route" | "trip", "geometries") if ["polyline", "polyline6", "geojson"].contains(&value) => request.geometries = value.to_string(),
+        ("route" | "trip", "annotations") if ["true", "false"].contains(&value) || value.split(',').all(|name| every.contains(&name)) => {
             request.annotations = value.split(',').map(String::from).collect();
         }
+        ("trip", "roundtrip") if ["true", "false"].contains(&value) => request.roundtrip = value == "true",
+        ("trip", "source") if ["any", "first"].contains(&value) => request.from_first = value == "first",
+        ("trip", "destination") if ["any", "last"].contains(&value) => request.to_last = value == "last",
         ("table", "annotations") if ["duration", "distance", "duration,distance", "distance,duration"].contains(&value) => {
             request.annotations = value.split(',').map(String::from).collect();
         }

@@ -2,13 +2,16 @@
 """What the scripts of this folder share: what they run, what a run takes, and a town with routes over it.
 
     bench/common.py program                       prints where the program is
+    bench/common.py tests                         prints where the tests of metrics are, built
     bench/common.py baseline FOLDER               prints where the baseline is, compiled into this folder if need be
+    bench/common.py overlays FOLDER               the same of the baseline of overlays
     bench/common.py town N                        prints a town of N by N nodes at scattered places
     bench/common.py routes SETTINGS OPL COUNT     prints the targets of so many random routes, one a line
 
 The program is that of the environment variable ROAD_ROUTER, or else crates/road_router/out/road_router below the
 repository. Where none is there a script says so and fails: proving it takes some twenty minutes, so none does that. The
-baseline is that of BASELINE, or else baseline.rs, compiled by rustc.
+baseline is that of BASELINE, or else baseline.rs, compiled by rustc; the baseline of overlays that of OVERLAYS, or else
+overlays/main.rs.
 """
 import os
 import random
@@ -38,22 +41,33 @@ def program():
     return executable(path, "./quickstart or rt ci builds it, and ROAD_ROUTER names one that stands elsewhere")
 
 
+def compiled(source, made, *flags):
+    """A Rust program of this folder, compiled into that file."""
+    if not shutil.which("rustc"):
+        sys.exit(f"bench: there is no rustc, which compiles {source}")
+    words = ["rustc", "--edition", "2024", "-C", "opt-level=3", *flags, os.path.join(HERE, source), "-o", made]
+    subprocess.run(words, check=True)
+    return made
+
+
+def maps_tests():
+    """The built tests of worked_maps."""
+    path = os.environ.get("MAPS_TESTS") or os.path.join(os.path.dirname(CRATE), "worked_maps", "out", "worked_maps_tests")
+    return executable(path, "rt ci builds it, or rt test in crates/worked_maps, and MAPS_TESTS names one that stands elsewhere")
+
+
 def baseline(folder):
     """The baseline of this folder, compiled."""
     if os.environ.get("BASELINE"):
         return executable(os.environ["BASELINE"], "BASELINE names baseline.rs, compiled")
-    if not shutil.which("rustc"):
-        sys.exit("bench: there is no rustc, which compiles baseline.rs")
-    made = os.path.join(folder, "baseline")
-    source = os.path.join(HERE, "baseline.rs")
-    subprocess.run(["rustc", "--edition", "2024", "-C", "opt-level=3", source, "-o", made], check=True)
-    return made
+    return compiled("baseline.rs", os.path.join(folder, "baseline"))
 
 
-def overlays():
-    """The baseline of overlays, which is no part of the repository, if OVERLAYS names it."""
-    path = os.environ.get("OVERLAYS")
-    return executable(path, "OVERLAYS names a baseline of overlays") if path else None
+def overlays(folder):
+    """The baseline of overlays, compiled."""
+    if os.environ.get("OVERLAYS"):
+        return executable(os.environ["OVERLAYS"], "OVERLAYS names overlays/main.rs, compiled")
+    return compiled("overlays/main.rs", os.path.join(folder, "overlays"), "-C", "codegen-units=1")
 
 
 # ---- what a run takes ----
@@ -204,8 +218,12 @@ def main():
     match sys.argv[1:]:
         case ["program"]:
             print(program())
+        case ["tests"]:
+            print(maps_tests())
         case ["baseline", folder]:
             print(baseline(folder))
+        case ["overlays", folder]:
+            print(overlays(folder))
         case ["town", size]:
             town(int(size), sys.stdout)
         case ["routes", settings, opl, count]:

@@ -12,9 +12,9 @@ The program makes a thread for each processor that it may run on, so it is held 
 each kind of line, the processor seconds of all threads and the time by the clock, the least of the repeats; the latter
 means something only where as many processors are free.
 
-Where the environment variable OVERLAYS names a baseline of overlays (segments, turns, costs of two words, cells,
-cliques, in Rust without proofs), which is no part of the repository, it is run as `OVERLAYS OPL SETTINGS --pair
---queries 1 --budget 0` on each map in between, and its lines that tell of customization or of memory are shown.
+The baseline of overlays (overlays/, or the program that OVERLAYS names: segments, turns, costs of two words, cells,
+cliques, in Rust without proofs) is run on each map in between, and its lines that tell of customization or of memory
+are shown.
 """
 import argparse
 import os
@@ -73,14 +73,7 @@ def measure(program, opl, settings, processors, repeats, files):
     session.end()
 
 
-def main():
-    parser = argparse.ArgumentParser(usage=__doc__.split("\n\n")[1])
-    parser.add_argument("--processors", default="1,4")
-    parser.add_argument("--repeats", type=int, default=3)
-    parser.add_argument("--rows", default="10,1000")
-    parser.add_argument("settings")
-    parser.add_argument("maps", nargs="+")
-    given, program, overlays = parser.parse_args(), common.program(), common.overlays()
+def measure_all(given, program, overlays):
     for opl in given.maps:
         print(f"== {os.path.basename(opl)}")
         pairs = pairs_of(opl)
@@ -91,8 +84,20 @@ def main():
                 files.append((f"{count} rows", write_rows(f"{folder}/{count}.csv", drawn)))
             for processors in given.processors.split(","):
                 measure(program, opl, given.settings, int(processors), given.repeats, files)
-                for line in lines_of(overlays, opl, given.settings) if overlays else []:
+                for line in lines_of(overlays, opl, given.settings):
                     print("    overlays:", line)
+
+
+def main():
+    parser = argparse.ArgumentParser(usage=__doc__.split("\n\n")[1])
+    parser.add_argument("--processors", default="1,4")
+    parser.add_argument("--repeats", type=int, default=3)
+    parser.add_argument("--rows", default="10,1000")
+    parser.add_argument("settings")
+    parser.add_argument("maps", nargs="+")
+    given, program = parser.parse_args(), common.program()
+    with tempfile.TemporaryDirectory() as folder:
+        measure_all(given, program, common.overlays(folder))
 
 
 if __name__ == "__main__":

@@ -1,11 +1,11 @@
 #!/usr/bin/env python3
 """Measures routes and tables between pairs of places that a baseline of overlays draws, beside what it takes for them.
 
-    OVERLAYS=FILE bench/queries.py [--pairs N] [--repeats N] SETTINGS OPL [OPL ..]
+    bench/queries.py [--pairs N] [--repeats N] SETTINGS OPL [OPL ..]
 
-FILE is a baseline of overlays (segments, turns, costs of two words, cells, cliques, queries, unpacking, rows of a
-table, in Rust without proofs), built; it is no part of the repository. It draws pairs of segments, answers a query
-with its walk for each, and tells where their nodes lie. The program is asked by `ask` for a route between each pair of
+The baseline (overlays/, or the program that OVERLAYS names: segments, turns, costs of two words, cells, cliques,
+queries, unpacking, rows of a table, in Rust without proofs) draws pairs of segments, answers a query with its walk for
+each, and tells where their nodes lie. The program is asked by `ask` for a route between each pair of
 nodes, without a line, and for the table of the first places of a hundred pairs to one another, where the baseline's
 rows lead to their second places. A node lies on several segments, of which the program takes one; else the two answer
 the same questions.
@@ -18,7 +18,6 @@ they share one processor.
 import argparse
 import os
 import re
-import sys
 import tempfile
 
 import common
@@ -42,15 +41,7 @@ def table_line(places):
     return f"GET /table/v1/car/{';'.join(places)}"
 
 
-def main():
-    parser = argparse.ArgumentParser(usage=__doc__.split("\n\n")[1])
-    parser.add_argument("--pairs", type=int, default=1000)
-    parser.add_argument("--repeats", type=int, default=3)
-    parser.add_argument("settings")
-    parser.add_argument("maps", nargs="+")
-    given, program, overlays = parser.parse_args(), common.program(), common.overlays()
-    if not overlays:
-        sys.exit("bench/queries.py: OVERLAYS names no baseline of overlays")
+def measure(given, program, overlays):
     for opl in given.maps:
         with tempfile.TemporaryDirectory() as folder:
             walk, row, pairs = of_overlays(overlays, given.settings, opl, given.pairs, given.repeats, folder)
@@ -69,6 +60,17 @@ def main():
             one = (min(times) - start) / count * 1000
             ok = sum('"code":"Ok"' in reply for reply in replies[0])
             print(f"  {kind}: {one:.3f} ms, {other:.3f} ms, ratio {one / other:.2f}; {ok} of {len(lines)} replies Ok")
+
+
+def main():
+    parser = argparse.ArgumentParser(usage=__doc__.split("\n\n")[1])
+    parser.add_argument("--pairs", type=int, default=1000)
+    parser.add_argument("--repeats", type=int, default=3)
+    parser.add_argument("settings")
+    parser.add_argument("maps", nargs="+")
+    given, program = parser.parse_args(), common.program()
+    with tempfile.TemporaryDirectory() as folder:
+        measure(given, program, common.overlays(folder))
 
 
 if __name__ == "__main__":

@@ -186,7 +186,10 @@ REFUSED = [f"GET {target}" for target in (
     "/route/v1/car/0,0;0,0?overview=false&b\u00e9=1&c=2", "/route/v1/car/0,0;0,0?=&overview=false", "/route/v1/car/0,0;0,0?overview=false=",
     "/route/v1/car/0,0;0,0?overview=false?overview=false", "/route/v1/c(a/0,0;0,0?overview=false)/0,0;1,1?overview=false",
     "/route/v1/c)r/0,0;0,0?overview=false", "/route/v1/car/200,0;0,0?foo=1", "/route/v1/car/0,0;0,-91;181,0?overview=false",
-    "/route/v1/bike/0,0;0,0?overview=false",
+    "/route/v1/bike/0,0;0,0?overview=false", "/trip/v1/car/0,0", "/trip/v1/car/0,0;0,0?sources=all", "/trip/v1/car/0,0;0,0?source=last",
+    "/trip/v1/car/0,0;0,0?destination=first", "/trip/v1/car/0,0;0,0?roundtrip=", "/trip/v1/car/0,0;0,0?alternatives=false",
+    "/trip/v1/car/0,0;0,0?source=first&source=any", "/trip/v1/car/" + ";".join(["0,0"] * 9), "/trip/v1/car/" + ";".join(["0,0"] * 10),
+    "/trip/v1/car/" + ";".join(["0,0"] * 9) + ";0,91", "/route/v1/car/0,0;0,0?source=any", "/table/v1/car/0,0;0,0?destination=last",
 )] + ["GET\t/route/v1/car/0,0;0,0?overview=false", "get /route", "POST /", "GET /" + "a" * 8187, "GET /" + "a" * 8188]
 
 

@@ -2,6 +2,7 @@
 """Refuses each request for memory of some runs of the built program in turn, and looks at what becomes of each run.
 
     bench/refused.py [--step N] [--on] [NAME..]     NAME as in the table below, or all
+    bench/refused.py [--step N] --tests             runs of the tests of metrics, as told at the end
 
     restriction    `ask`: a route over a crossing with a turn restriction
     refused        `ask`: a traffic file with a faulty row between two routes
@@ -26,6 +27,12 @@ status 4, before the doors are open or behind its last lines, or the reply of st
 before: each other line has its own text under the number of the last publication, which a line of TRAFFIC that was Busy doesn't
 raise. `silent` are runs of `serve` that answered no query until they were stopped, since no thread could be started for the
 worker; the control port answered as ever.
+
+With --tests what runs is the test program of crates/worked_maps, as `rt ci` or `rt test` leaves it: each test that makes
+metrics and ends in `_or_memory`, which makes each call that wants memory once more, demands its own outcome then, and tells
+the lists of the old metric again, so that it has to pass; and, where there is one, the test of the same name without that
+end, which passes with its own outcome, or fails with AllocError. Each runs on one processor, where no thread is started, and
+on all, where the k-th request may be another one from run to run.
 
 Printed are, by row, how many requests were refused and how the runs ended; the status is 1 where a run ended otherwise.
 It needs Linux and a C compiler; where there is none, or the program doesn't load the shim, the status is 2. (There `rt try
@@ -251,6 +258,12 @@ BUSY = '{"code":"Busy"}'
 BUSY_TEXTS = BUSY, reply("503 Service Unavailable", BUSY), reply("503 Service Unavailable", BUSY, "close")
 EXHAUSTED = "out of memory\n"
 
+# How the names of tests end that look at what stands after want of memory; what a test puts that passes, and one that
+# fails for want of memory.
+MEMORY = "_or_memory"
+PASSED = "\ntest result: ok\n"
+WANTED = "Error: AllocError\nthe test failed: its result gives status 1\n"
+
 
 def stop(why):
     """Ends, since nothing can be refused."""
@@ -271,8 +284,8 @@ def compiled(folder):
 
 
 class Place:
-    """A folder with the files of runs, the program, the shim, and whether it refuses all requests behind the first that it
-    refuses."""
+    """A folder with the files of runs, the program that runs, the shim, and whether it refuses all requests behind the first
+    that it refuses."""
 
     def __init__(self, folder, program, shim, on):
         self.folder, self.program, self.shim, self.on = folder, program, shim, on
@@ -284,7 +297,7 @@ class Place:
         with open(os.path.join(self.folder, name), "w", encoding="ascii") as out:
             out.write(text)
 
-    def begin(self, words, number, alone, told):
+    def begin(self, words, number, alone, told, **how):
         """Begins a run in which this request is refused, which it tells in a file."""
         own = {"LD_PRELOAD": self.shim, "REFUSED_NUMBER": str(number), "REFUSED_TELL": str(told.fileno())}
         flags = {"REFUSED_ON": self.on, "REFUSED_ALONE": alone}
@@ -295,6 +308,7 @@ class Place:
             pass_fds=[told.fileno()],
             stdin=subprocess.PIPE,
             stdout=subprocess.PIPE,
+            **how,
         )
 
 
@@ -432,6 +446,32 @@ def serve(place, number):
     return Run(refused, outcome, f"status {running.returncode}: {output}; replies {[text for _, text in visits]}")
 
 
+def tests_of(program):
+    """The tests that are run: those that end in MEMORY, and those of the same names without it."""
+    listed = subprocess.run([program, "--list"], stdout=subprocess.PIPE, text=True, check=True).stdout
+    names = [line.removesuffix(": test") for line in listed.splitlines()]
+    plain_name = lambda name: name.split("::")[-1].removesuffix(MEMORY)
+    wanted = {plain_name(name) for name in names if name.endswith(MEMORY)}
+    return [name for name in names if plain_name(name) in wanted]
+
+
+def tested_outcome(name, status, output, errors):
+    """The outcome of a run of a test, if it is one that it may have."""
+    if (status, output, errors) == (0, PASSED, ""):
+        return "own"
+    return "memory" if (status, errors) == (101, WANTED) and not name.endswith(MEMORY) else None
+
+
+def tested(place, name, number):
+    """A run of a test."""
+    with tempfile.TemporaryFile() as told:
+        with place.begin([name], number, False, told, stderr=subprocess.PIPE) as running, guarded(running):
+            output, errors = (text.decode() for text in running.communicate())
+        refused = text_of(told)
+    outcome = tested_outcome(name, running.returncode, output, errors)
+    return Run(refused, outcome, f"status {running.returncode}: {output}{errors}")
+
+
 def sweep(name, run, step):
     """Refuses one request after the other. The counts of outcomes; None counts those that may not be."""
     counts = collections.Counter()
@@ -451,11 +491,15 @@ def sweep(name, run, step):
 
 def words_read():
     """The words of the command line, with the names of all rows where none is given."""
-    reader = argparse.ArgumentParser(usage="bench/refused.py [--step N] [--on] [NAME..]")
+    usage = "bench/refused.py [--step N] [--on] [NAME..], bench/refused.py [--step N] --tests"
+    reader = argparse.ArgumentParser(usage=usage)
     reader.add_argument("--step", type=int, default=1)
     reader.add_argument("--on", action="store_true")
+    reader.add_argument("--tests", action="store_true")
     reader.add_argument("names", nargs="*")
     words = reader.parse_args()
+    if words.tests and (words.on or words.names):
+        reader.error("--tests takes neither --on nor names")
     names = [*ROWS] if words.on else [*ROWS, "serve"]
     unknown = [name for name in words.names if name not in names]
     if unknown:
@@ -464,19 +508,35 @@ def words_read():
     return words
 
 
+def row_runs(place, names):
+    """What runs by these names."""
+    for name in names:
+        row = ROWS.get(name)
+        yield name, (lambda number: ask(place, row, number)) if row else (lambda number: serve(place, number))
+
+
+def test_runs(place, processors):
+    """What runs of the tests, on one processor and on all."""
+    for name in tests_of(place.program):
+        for on, those in ("one", {min(processors)}), ("all", processors):
+            os.sched_setaffinity(0, those)
+            yield f"{name}, {on}", lambda number: tested(place, name, number)
+
+
 def main():
-    words, program = words_read(), common.program()
-    os.sched_setaffinity(0, [min(os.sched_getaffinity(0))])
-    kinds = ("own", "Busy", "status 4", "silent", None)
-    print(f"{'':14}{'refused':>10}" + "".join(f"{kind or 'other':>10}" for kind in kinds), flush=True)
+    words = words_read()
+    program = common.maps_tests() if words.tests else common.program()
+    processors = os.sched_getaffinity(0)
+    os.sched_setaffinity(0, {min(processors)})
+    kinds = ("own", "memory", None) if words.tests else ("own", "Busy", "status 4", "silent", None)
+    wide = 72 if words.tests else 14
+    print(f"{'':{wide}}{'refused':>10}" + "".join(f"{kind or 'other':>10}" for kind in kinds), flush=True)
     fine = True
     with tempfile.TemporaryDirectory(prefix="refused-") as folder:
         place = Place(folder, program, compiled(folder), words.on)
-        for name in words.names:
-            row = ROWS.get(name)
-            run = (lambda number: ask(place, row, number)) if row else (lambda number: serve(place, number))
+        for name, run in test_runs(place, processors) if words.tests else row_runs(place, words.names):
             counts = sweep(name, run, words.step)
-            print(f"{name:14}{sum(counts.values()):10}" + "".join(f"{counts[kind]:10}" for kind in kinds), flush=True)
+            print(f"{name:{wide}}{sum(counts.values()):10}" + "".join(f"{counts[kind]:10}" for kind in kinds), flush=True)
             fine = fine and counts[None] == 0
     return not fine
 

@@ -4,8 +4,9 @@
     bench/replies.py [--traffic SPEEDS,TURNS] [--tangles N] [--roads 1000,..] [--only-compare] [SETTINGS [OPL ..]]
 
 On each map random places are asked for: `nearest` with one and with ten results, tables of 100 by 100, routes without
-a line, with a simplified line, with a full one and all annotations, and with steps, and one route of 500 places that
-goes to and fro between two far ones, without a line and with a simplified one. Then come long roads, of so many
+a line, with a simplified line, with a full one and all annotations, and with steps, trips through nine places without
+a line and with all, and one route of 500 places that goes to and fro between two far ones, without a line and with a
+simplified one. Then come long roads, of so many
 segments (1000,2000,5000,10000): one way, whose whole line and annotations are asked for, and a chain of ways of other
 names, whose steps are asked for. SETTINGS are those of car.toml where none are named. It needs rustc for the baseline.
 
@@ -15,8 +16,8 @@ wrong with a faulty file is known from the drawing, so both have to tell that.
 
 Printed are processor microseconds a request of both (the start-up taken away), the ratio, the bytes of a reply, and
 how many replies were equal byte for byte. Two least walks may differ where costs are the same: such replies are
-compared without their lines, annotations and steps, and counted apart. In every reply the steps of a leg have to
-cost what the leg costs. The status is 1 where any other reply differs. With --only-compare nothing is timed.
+compared without their lines, annotations and steps, and counted apart; a trip has one best order all the same. In every
+reply the steps of a leg have to cost what the leg costs. The status is 1 where any other reply differs. With --only-compare nothing is timed.
 """
 import argparse
 import json
@@ -33,10 +34,15 @@ from reading import tangle
 import traffic_rows
 
 
+def routes_of(value):
+    """What a reply tells from place to place: its routes, or its trips."""
+    return value.get("routes", value.get("trips", []))
+
+
 def without_walks(reply):
     """A reply without what tells of which walk it is."""
     value = json.loads(reply)
-    for route in value.get("routes", []):
+    for route in routes_of(value):
         route.pop("geometry", None)
         for leg in route["legs"]:
             leg.pop("annotation", None)
@@ -46,7 +52,7 @@ def without_walks(reply):
 
 def steps_add_up(reply):
     """Whether the steps of each leg cost together what the leg does, and begin where the one before ends."""
-    for leg in (leg for route in json.loads(reply).get("routes", []) for leg in route["legs"] if leg["steps"]):
+    for leg in (leg for route in routes_of(json.loads(reply)) for leg in route["legs"] if leg["steps"]):
         for part in ("distance", "duration", "weight"):
             if round(10 * sum(step[part] for step in leg["steps"])) != round(10 * leg[part]):
                 return False
@@ -110,6 +116,7 @@ def on_map(runs, opl):
     pairs = [f"{place()};{place()}" for _ in range(200)]
     near = [place() for _ in range(500)]
     tables = [";".join(place() for _ in range(100)) for _ in range(2)]
+    nines = [";".join(place() for _ in range(9)) for _ in range(40)]
     kinds = [
         ("nearest, one", [f"GET /nearest/v1/car/{at}" for at in near]),
         ("nearest, ten", [f"GET /nearest/v1/car/{at}?number=10" for at in near]),
@@ -120,6 +127,8 @@ def on_map(runs, opl):
         ("route with steps", [f"GET /route/v1/car/{pair}?overview=false&steps=true" for pair in pairs]),
         ("the same in polyline6", [f"GET /route/v1/car/{pair}?overview=false&steps=true&geometries=polyline6" for pair in pairs]),
         ("route with all and steps", [f"GET /route/v1/car/{pair}?overview=full&geometries=geojson&annotations=true&steps=true" for pair in pairs]),
+        ("trip through nine places", [f"GET /trip/v1/car/{nine}?overview=false" for nine in nines]),
+        ("trip with all", [f"GET /trip/v1/car/{nine}?overview=full&geometries=geojson&annotations=true&steps=true" for nine in nines]),
     ]
     fine = [measure(name, runs, start, lines) for name, lines in kinds]
     return fine + on_way_back(runs, start, west, east, south, north)
@@ -182,6 +191,17 @@ def on_roads(programs, settings, lengths, folder):
 
 # ---- traffic ----
 
+def trip(chance, place, told):
+    """A trip through up to seven random places, one of them maybe twice, under any rule."""
+    places = [place() for _ in range(chance.randint(2, 6))]
+    places += [chance.choice(places)] if chance.random() < 0.2 else []
+    rule = [chance.choice(["", *(f"&{name}={value}" for value in values)]) for name, values in TRIP_OPTIONS]
+    return f"/trip/v1/car/{';'.join(places)}?{told}{''.join(rule)}"
+
+
+TRIP_OPTIONS = (("roundtrip", ("true", "false", "false")), ("source", ("any", "first")), ("destination", ("any", "last")))
+
+
 def requests(chance, place, count):
     """Requests of all services at random places, with what depends on a metric asked for."""
     lines = []
@@ -200,6 +220,8 @@ def requests(chance, place, count):
             f"/nearest/v1/car/{a}?number=3&bearings={bearing}",
             f"/nearest/v1/car/{a}?radiuses={chance.choice(['0', '5.19', '80', 'unlimited', ''])}&since={chance.randrange(6)}",
             f"/table/v1/car/{a};{b};{c}?annotations=duration,distance",
+            trip(chance, place, f"{line}&geometries={form}{told}"),
+            trip(chance, place, f"overview=false&skip_waypoints=true&since={chance.randrange(6)}"),
         ]))
     return lines
 

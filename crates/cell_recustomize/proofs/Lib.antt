@@ -1,3 +1,4 @@
+pub mod ChangeLemmas
 pub mod Counted
 pub mod Kept
 pub mod Marked

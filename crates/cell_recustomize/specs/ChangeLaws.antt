@@ -2,7 +2,7 @@
 use Rattle.std.specs.Prelude.{List, length, ℕ}
 use Rattle.search_graph.specs.Costs.{CostOps}
 use Rattle.search_graph.specs.Digraph.{Weighting}
-use Rattle.weight_changes.specs.Changes.{AreChanges}
+use Rattle.cell_recustomize.specs.Changes.{AreChanges}
 use Rattle.cell_frame.specs.Borders.{Framed}
 use Rattle.cell_frame.specs.Cliqued.{Rows, AreExact}
 use Rattle.cell_recustomize.specs.Touched.{WereExact}

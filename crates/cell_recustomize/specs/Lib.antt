@@ -1,3 +1,4 @@
 pub mod ChangeLaws
+pub mod Changes
 pub mod Making
 pub mod Touched

@@ -5,9 +5,7 @@ ghost use Rattle.control_port.specs.Asking.{IsBodyOf};
 ghost use Rattle.control_port.specs.Controlling.{FilesGive, IsBaseOf, IsControlled, IsOn};
 ghost use Rattle.control_port.specs.Judging.{BaseGives, IsFaultIn};
 ghost use Rattle.customized.specs.Exact.{Customized, customized_on};
-ghost use Rattle.edge_graph.specs.NetworkView.{graph_of};
-ghost use Rattle.search_graph.specs.Durations.{durlen_ops};
-ghost use Rattle.search_graph.specs.Weighted.{IsWeighting};
+ghost use Rattle.metric_make.specs.MetricOf.{IsMetricOn};
 
 use crate::asking::ControlHead;
 use crate::controlled::Controlled;
@@ -82,7 +80,7 @@ fn remade<R: Threads + Sync, P: Publishing<Metric, R>>(
     roads: &Roads,
     base: BaseMetric,
 ) -> Result<Metric, AllocError>
-    requires weighting { IsWeighting durlen_ops (graph_of roads.now.network) base.weights }
+    requires on { IsMetricOn roads.now.network base.weights }
     requires kin { (x : Customized) → IsOn roads.now x → P.kin desk.now x }
     ensures { IfOk result (λ metric. metric ≡ customized_on roads.now base) }
 {
@@ -99,7 +97,7 @@ fn publish_base<R: Threads + Sync, P: Publishing<Metric, R>>(
     roads: &Roads,
     base: BaseMetric,
 ) -> Result<Controlled, AllocError>
-    requires weighting { IsWeighting durlen_ops (graph_of roads.now.network) base.weights }
+    requires on { IsMetricOn roads.now.network base.weights }
     requires kin { (x : Customized) → IsOn roads.now x → P.kin desk.old x }
     ensures controlled { IfOk result (λ answer. BaseGives roads.now (P.list desk.old) base answer (P.list desk.new)) }
     ensures busy { OnErr result (P.list desk.new ≡ P.list desk.old) }
@@ -127,7 +125,7 @@ pub fn base_of_files(
     turns: &[u8],
 ) -> Result<BaseMetric, TrafficFault>
     ensures base { IfOk result (IsBaseOf network.now speeds.now turns.now) }
-    ensures weighting { IfOk result (λ base. IsWeighting durlen_ops (graph_of network.now) base.weights) }
+    ensures on { IfOk result (λ base. IsMetricOn network.now base.weights) }
     ensures fault { IfErr result (IsFaultIn speeds.now turns.now) }
 {
     let speed_rows = read_speeds(alloc, speeds)?;

@@ -6,8 +6,8 @@ use Rattle.std.proofs.Math.Seq.{drop-cons}
 use Rattle.std.proofs.lemmas.Option.{get_or_from_slice_get, same_Some, slice_get_within}
 use Rattle.list_lemmas.proofs.Gets.{get_some}
 use Rattle.road_base.specs.declared.coordinates.Point.{Point}
-use Rattle.edge_graph.specs.Segment.{Segment}
-use Rattle.edge_graph.specs.Vertex.{against, along, vertices}
+use Rattle.road_segments.specs.Segment.{Segment}
+use Rattle.road_segments.specs.Vertex.{against, along, vertices}
 use Rattle.customized.specs.Framing.{midpoint_between, midpoint_of}
 
 -- an element, and what stands behind it

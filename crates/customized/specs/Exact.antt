@@ -7,10 +7,10 @@ use Rattle.search_graph.specs.Durations.{durlen_ops}
 use Rattle.search_graph.specs.Weighted.{AreSmall}
 use Rattle.edge_graph.specs.NetworkView.{graph_of}
 use Rattle.metric_make.specs.MetricOf.{MetricView}
-use Rattle.road_places.specs.RoadMetric.{RoadMetric, road_of}
+use Rattle.metric_make.specs.RoadMetric.{RoadMetric, road_of}
 use Rattle.cell_frame.specs.Borders.{Framed}
 use Rattle.cell_frame.specs.Cliqued.{AreExact, Rows}
-use Rattle.weight_changes.specs.Changes.{AreChanges}
+use Rattle.cell_recustomize.specs.Changes.{AreChanges}
 use Rattle.cell_recustomize.specs.Touched.{IsTouchedCount}
 use Rattle.customized.specs.Framing.{RoadsView}
 

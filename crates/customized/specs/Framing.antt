@@ -2,7 +2,7 @@
 use Rattle.std.specs.Prelude.{◌≡◌, ℕ, ℤ, ◌+ℤ◌, List, map}
 use Rattle.road_base.specs.declared.coordinates.Point.{Point}
 use Rattle.edge_graph.specs.NetworkView.{NetworkView, graph_of, vertices_of}
-use Rattle.edge_graph.specs.Vertex.{Vertex}
+use Rattle.road_segments.specs.Vertex.{Vertex}
 use Rattle.cell_partition.specs.Halving.{IsHalvedBy}
 use Rattle.cell_frame.specs.Borders.{Framed, IsFramed}
 

@@ -4,14 +4,15 @@ ghost use Rattle.std.specs.Prelude.{◌≡◌, ◌↔◌, IfOk, length};
 ghost use Rattle.cell_frame.specs.Cliqued.{AreExact};
 ghost use Rattle.edge_graph.specs.NetworkView.{graph_of};
 ghost use Rattle.customized.specs.Exact.{IsRemadeBy, ShareRoads, customized_on, roads_of};
+ghost use Rattle.metric_make.specs.MetricOf.{IsMetricOn};
 ghost use Rattle.search_graph.specs.Durations.{durlen_ops};
-ghost use Rattle.search_graph.specs.Weighted.{AreSmall, IsWeighting};
+ghost use Rattle.search_graph.specs.Weighted.{AreSmall};
 
 use crate::roads::Roads;
 use crate::under::Under;
 use cell_customize::customize_in_threads;
 use cell_frame::{Cliques, Frame};
-use cell_recustomize::recustomize_in_threads;
+use cell_recustomize::{changed, recustomize_in_threads};
 use edge_graph::Network;
 use metric_make::BaseMetric;
 use metric_publish::entry::Kindred;
@@ -19,7 +20,6 @@ use search_graph::DurLen;
 use std::alloc::{AllocError, Global};
 use std::marker::Model;
 use std::thread::Threads;
-use weight_changes::changed;
 
 /// What the vertices and turns of roads cost, with what cheapest walks cost inside each of their cells for
 /// just these costs. Contracts see the costs and the frame; that its cliques are exact for these costs is true
@@ -80,7 +80,7 @@ impl Metric {
         roads: &Roads,
         base: BaseMetric,
     ) -> Result<Metric, AllocError>
-        requires { IsWeighting durlen_ops (graph_of roads.now.network) base.weights }
+        requires { IsMetricOn roads.now.network base.weights }
         ensures { IfOk result (λ metric. metric ≡ customized_on roads.now base) }
     {
         let roads = roads.copy()?;
@@ -103,7 +103,7 @@ impl Metric {
         old: &Metric,
         base: BaseMetric,
     ) -> Result<Remade, AllocError>
-        requires base { IsWeighting durlen_ops (graph_of old.now.road.network) base.weights }
+        requires base { IsMetricOn old.now.road.network base.weights }
         ensures metric { IfOk result (λ made. made.metric ≡ customized_on (roads_of old.now) base) }
         ensures searches { IfOk result (λ made. IsRemadeBy old.now base.weights made.searches) }
     {
@@ -182,7 +182,7 @@ impl Metric {
 
 // Tells a proof that the costs of roads are small, and that their frame is over their graph. It does nothing.
 fn known_small(roads: &Roads, base: &BaseMetric)
-    requires { IsWeighting durlen_ops (graph_of roads.now.network) base.now.weights }
+    requires { IsMetricOn roads.now.network base.now.weights }
     ensures network { AreSmall durlen_ops (graph_of roads.now.network) base.now.weights }
     ensures frame { AreSmall durlen_ops roads.now.frame.graph base.now.weights }
     ensures graph { roads.now.frame.graph ≡ graph_of roads.now.network }

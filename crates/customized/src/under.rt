@@ -24,7 +24,7 @@ pub struct Under<'a> {
 
 impl<'a> Model for Under<'a> {
     ghost use Rattle.customized.specs.Exact.{Customized, IsExact};
-    ghost use Rattle.road_places.specs.RoadMetric.{road_of};
+    ghost use Rattle.metric_make.specs.RoadMetric.{road_of};
 
     ghost Value = { Customized };
 

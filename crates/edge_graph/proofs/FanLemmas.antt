@@ -13,7 +13,7 @@ use Rattle.std.proofs.lemmas.Option.{same_Some, slice_get_within}
 use Rattle.std.proofs.Math.ListN.{length-set}
 use Rattle.edge_graph.specs.Fans.{AreFans, FanMap, IsFan, fan_in, leavers}
 use Rattle.edge_graph.specs.Turn.{leaves}
-use Rattle.edge_graph.specs.Vertex.{Vertex}
+use Rattle.road_segments.specs.Vertex.{Vertex}
 use Rattle.edge_graph.specs.declared.fans.Fan.{Fan}
 use Rattle.edge_graph.proofs.ChainLemmas.{belonging-add, belonging-end, belonging-skip, chain-add, chain-skip}
 

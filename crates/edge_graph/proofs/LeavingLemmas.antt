@@ -11,7 +11,7 @@ use Rattle.std.proofs.lemmas.List.{append-nil, map-append, take_more}
 use Rattle.std.proofs.lemmas.List.Elements.{filter-append}
 use Rattle.turn_rules.specs.Rules.{Rule}
 use Rattle.edge_graph.specs.Fans.{leavers}
-use Rattle.edge_graph.specs.Vertex.{Vertex}
+use Rattle.road_segments.specs.Vertex.{Vertex}
 use Rattle.edge_graph.proofs.ChainLemmas.{belonging-add, belonging-end, belonging-skip}
 use Rattle.edge_graph.specs.Leaving.{AreGroups, GroupMap, RunMap, leaving_at, exits_in, exits_onto, group_at}
 use Rattle.edge_graph.specs.RestrictionParts.{has_via, pair_eq}

@@ -2,12 +2,10 @@ pub mod ChainLemmas
 pub mod RuleLemmas
 pub mod NetworkLemmas
 pub mod FanLemmas
-pub mod RouteLemmas
-pub mod SegmentLemmas
-pub mod VertexLemmas
-pub mod WayLemmas
 pub mod TurnLemmas
 pub mod DecisionLemmas
 pub mod LeavingLemmas
 pub mod RangeLemmas
+pub mod CountLemmas
 mod Drops
+pub mod DepartureLemmas

@@ -1,59 +1,24 @@
--- What holds of all segments of a map.
-use Rattle.std.proofs.Common.{◌≡◌, ◌∙◌, ap, length, ℕ, ℤ, suc, List, [], ◌∷◌, All, Option, Some, None, true, false, cond, arith}
-use Rattle.std.specs.List.{flat_map}
-use Rattle.std.specs.Ordering.{int_eq}
-use Rattle.std.proofs.lemmas.List.Elements.{All-nil, All-cons, All-append}
+-- What holds of a network of a map.
+use Rattle.std.proofs.Common.{◌≡◌, ◌∙◌, ap, length, ℕ, zero, suc, List, [], ◌∷◌, All, Some, arith, subst}
+use Rattle.std.specs.Prelude.{option_map}
+use Rattle.std.specs.List.{slice_get}
+use Rattle.std.proofs.lemmas.Option.{same_Some}
 use Rattle.road_base.specs.declared.osm_objects.Object.{Object}
-use Rattle.road_base.specs.declared.osm_objects.Way.{Way}
 use Rattle.way_profile.specs.Vehicle.{ProfileView, IsSpeed}
 use Rattle.turn_rules.specs.Rules.{RulesView, rules_of}
 use Rattle.edge_graph.specs.NetworkView.{NetworkView, network_of, network_with}
 use Rattle.edge_graph.specs.Restrictions.{applied_rules}
 use Rattle.edge_graph.specs.Turn.{turns}
-use Rattle.edge_graph.specs.Vertex.{vertices}
-use Rattle.edge_graph.specs.Located.{nodes_at, segments_on}
-use Rattle.edge_graph.specs.Segment.{Segment, joined, segment_between, segments, segments_along, segments_of_way, segments_through, ways_by_id}
-use Rattle.edge_graph.specs.Spots.{spot_at}
-use Rattle.edge_graph.specs.declared.spots.Spot.{Spot}
-use Rattle.edge_graph.specs.declared.streets.Street.{Street}
+use Rattle.road_segments.specs.Vertex.{vertices}
+use Rattle.road_segments.specs.Segment.{Segment, segments}
 
-abbrev SpeedsAre : List Segment → Type 0
-SpeedsAre = All (λ s. IsSpeed s.street.speed)
-
-module _ (spot : ℤ → Option Spot) (street : Street) (speed : IsSpeed street.speed) where
-  joined-speeds : (a b : ℤ) (from to : Option Spot) → SpeedsAre (joined street a b from to)
-  joined-speeds a b (Some from) (Some to) = All-cons (λ s. IsSpeed s.street.speed) _ [] speed (All-nil (λ s. IsSpeed s.street.speed))
-  joined-speeds a b (Some from) None = All-nil (λ s. IsSpeed s.street.speed)
-  joined-speeds a b None to = All-nil (λ s. IsSpeed s.street.speed)
-
-  between-speeds : (a b : ℤ) → SpeedsAre (segment_between spot street a b)
-  between-speeds a b =
-      elim (int_eq a b) as (λ c. SpeedsAre (cond c [] (joined street a b (spot a) (spot b)))) [
-        | true ↦ All-nil (λ s. IsSpeed s.street.speed)
-        | false ↦ joined-speeds a b (spot a) (spot b)
-      ]
-
-  through-speeds : (a : ℤ) (ids : List ℤ) → SpeedsAre (segments_through spot street a ids)
-  through-speeds a [] = All-nil (λ s. IsSpeed s.street.speed)
-  through-speeds a (b ∷ ids) = All-append (λ s. IsSpeed s.street.speed) (segment_between spot street a b) (segments_through spot street b ids) (between-speeds a b) (through-speeds b ids)
-
-  along-speeds : (ids : List ℤ) → SpeedsAre (segments_along spot street ids)
-  along-speeds [] = All-nil (λ s. IsSpeed s.street.speed)
-  along-speeds (a ∷ ids) = through-speeds a ids
-
--- where each street's speed is in its range, each segment's is
-pub on-speeds : (spot : ℤ → Option Spot) (objects : List Object) (streets : List Street) (places : List ℕ) → All (λ s. IsSpeed s.speed) streets → SpeedsAre (segments_on spot objects streets places)
-on-speeds spot objects [] places h = All-nil (λ s. IsSpeed s.street.speed)
-on-speeds spot objects (street ∷ streets) [] h = All-nil (λ s. IsSpeed s.street.speed)
-on-speeds spot objects (street ∷ streets) (place ∷ places) h =
-    All-append (λ s. IsSpeed s.street.speed) (segments_along spot street (nodes_at objects place)) (segments_on spot objects streets places)
-    (along-speeds spot street (h 0 street (omega arith)) (nodes_at objects place))
-    (on-speeds spot objects streets places (λ k d lt. h (suc k) d (omega arith)))
-
--- the segments by spots that are those of the nodes
-pub segments-spotted : (spot : ℤ → Option Spot) (objects : List Object) (profile : ProfileView) → ((id : ℤ) → spot id ≡ spot_at profile objects id)
-    → flat_map (λ way. segments_of_way spot profile way.1) (ways_by_id objects) ≡ segments objects profile
-segments-spotted spot objects profile h = λ i. flat_map (λ (way : ℤ × Way). segments_of_way (λ id. h id i) profile way.1) (ways_by_id objects)
+-- where each segment's speed is in its range, each vertex's is
+pub speed-in_range : (segments : List Segment) (v n : ℕ) → All (λ s. IsSpeed s.street.speed) segments
+    → option_map (λ x. x.speed) (slice_get (vertices segments) v) ≡ Some n → IsSpeed n
+speed-in_range [] v n all e = cc
+speed-in_range (s ∷ segments) zero n all e = subst IsSpeed (same_Some s.street.speed n e) (all 0 s (omega arith))
+speed-in_range (s ∷ segments) (suc zero) n all e = subst IsSpeed (same_Some s.street.speed n e) (all 0 s (omega arith))
+speed-in_range (s ∷ segments) (suc (suc v)) n all e = speed-in_range segments v n (λ k d h. all (suc k) d (omega arith)) e
 
 -- a network of these parts
 pub network-is : (objects : List Object) (profile profile' : ProfileView) (roads : List Segment) (rules : RulesView) (arcs : List (ℕ × ℕ)) (applied ignored : ℕ) → roads ≡ segments objects profile

@@ -5,10 +5,10 @@ use Rattle.std.proofs.lemmas.List.Elements.{All-nil, All-cons, All-append}
 use Rattle.list_lemmas.proofs.Gets.{All_get}
 use Rattle.search_graph.specs.Faults.{AllInRange}
 use Rattle.turn_rules.specs.Rules.{Rule}
-use Rattle.edge_graph.specs.Segment.{Segment}
+use Rattle.road_segments.specs.Segment.{Segment}
 use Rattle.edge_graph.specs.Turn.{is_turn, numbered, turns, turns_from}
-use Rattle.edge_graph.specs.Vertex.{Vertex, vertices}
-use Rattle.edge_graph.specs.Laws.{length-vertices}
+use Rattle.road_segments.specs.Vertex.{Vertex, vertices}
+use Rattle.road_segments.specs.Laws.{length-vertices}
 
 All-tail : {X : Type 0} (P : X → Type 0) (x : X) (xs : List X) → All P (x ∷ xs) → All P xs
 All-tail P x xs h = λ k d lt. h (suc k) d (omega arith)

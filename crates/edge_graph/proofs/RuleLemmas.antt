@@ -8,12 +8,12 @@ use Rattle.std.proofs.lemmas.Bool.Decides.{Decides-int_eq}
 use Rattle.std.proofs.lemmas.Grind.{common_steps}
 use Rattle.std.proofs.lemmas.List.{map-append}
 use Rattle.std.proofs.lemmas.Option.{same_Some}
+use Rattle.list_lemmas.proofs.Fronts.{take-get}
 use Rattle.turn_rules.specs.Rules.{Rule}
 use Rattle.edge_graph.specs.Restrictions.{applies, meets}
 use Rattle.edge_graph.specs.RestrictionParts.{AreMet, NodeSet, PairSet, has_via, pair_eq}
-use Rattle.edge_graph.specs.Segment.{Segment}
-use Rattle.edge_graph.specs.Vertex.{Vertex, vertices}
-use Rattle.edge_graph.proofs.RouteLemmas.{take-get}
+use Rattle.road_segments.specs.Segment.{Segment}
+use Rattle.road_segments.specs.Vertex.{Vertex, vertices}
 use Rattle.edge_graph.proofs.Drops.{drop-get, list_any-drop}
 
 pub list_all-cong : {X : Type 0} (p q : X → Bool) → ((x : X) → p x ≡ q x) → (xs : List X) → list_all p xs ≡ list_all q xs
@@ -126,7 +126,6 @@ flag-step segments rules i via ways nodes met flag flags at on all are is so_far
     ∙ ap (λ (b : Bool). map (applies segments) (take i rules) ++ b ∷ []) found
     ∙ sym (map-append (applies segments) (take i rules) (r.0 ∷ []))
     ∙ ap (map (applies segments)) (sym (take-get rules i r.0 r.1))
-    ∙ ap (λ (n : ℕ). map (applies segments) (take n rules)) (sym (add-one i))
 
 -- the rules for which a test says true
 pub items_where_true-map : {X : Type 0} (p : X → Bool) (xs : List X) → items_where_true (map p xs) xs ≡ filter p xs

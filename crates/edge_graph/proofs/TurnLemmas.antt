@@ -18,16 +18,16 @@ use Rattle.turn_rules.specs.Rules.{Rule, forbids}
 use Rattle.edge_graph.specs.Chains.{IsChain}
 use Rattle.edge_graph.specs.Fans.{leavers, turns_at}
 use Rattle.edge_graph.specs.Restrictions.{is_forbidden, is_forbidden_at}
-use Rattle.edge_graph.specs.Segment.{Segment}
+use Rattle.road_segments.specs.Segment.{Segment}
 use Rattle.edge_graph.specs.Turn.{exits, exits_at, is_turn, is_way_on, leaves, numbered, turns, turns_from}
-use Rattle.edge_graph.specs.TurnParts.{AreOpenRows, RowMap, may_turn_back, may_turn_on, must_turn_back, turns_on, turns_onto, turns_onto_all}
+use Rattle.edge_graph.specs.TurnParts.{AreOpenRows, RowMap, may_turn_back, may_turn_on, must_turn_back, opens_back, turns_on, turns_onto, turns_onto_all}
 use Rattle.edge_graph.specs.Leaving.{RunMap, leaving_at, exits_onto, open_exits}
 use Rattle.edge_graph.specs.RestrictionParts.{has_via, pair_eq}
 use Rattle.edge_graph.proofs.DecisionLemmas.{pair-same}
-use Rattle.edge_graph.specs.Vertex.{Vertex, against, along, opposite, vertices}
+use Rattle.road_segments.specs.Vertex.{Vertex, against, along, opposite, vertices}
 use Rattle.edge_graph.proofs.ChainLemmas.{IsChain-lower}
 use Rattle.edge_graph.proofs.Drops.{drop-get}
-use Rattle.edge_graph.specs.Laws.{length-vertices, vertices-even, vertices-odd}
+use Rattle.road_segments.specs.Laws.{length-vertices, vertices-even, vertices-odd}
 
 -- 1 for what is true
 abbrev pub bit : Bool → ℕ
@@ -56,7 +56,7 @@ module _ (p : ℕ × Vertex → Bool) where
       ∙ ap (λ (xs : List (ℕ × Vertex)). cond (p (b, x)) ((b, x) ∷ xs) xs) (filter-above vs (b + 1) k (omega arith))
 
   -- all but one
-  count-without : (vs : List Vertex) (b k n : ℕ) (y : Vertex) → n ≡ b + k → slice_get vs k ≡ Some y
+  pub count-without : (vs : List Vertex) (b k n : ℕ) (y : Vertex) → n ≡ b + k → slice_get vs k ≡ Some y
       → length (filter (λ e. p e && not (e.0 == n)) (enumerate_from b vs)) + bit (p (n, y)) ≡ length (filter p (enumerate_from b vs))
   count-without [] b k n y at e = cc
   count-without (x ∷ vs) b zero n y at e =
@@ -86,7 +86,7 @@ module _ (p : ℕ × Vertex → Bool) where
 
 module _ {X : Type 0} (p q : X → Bool) where
   -- a test of two parts, one after the other
-  filter-both : (xs : List X) → filter (λ e. p e && q e) xs ≡ filter q (filter p xs)
+  pub filter-both : (xs : List X) → filter (λ e. p e && q e) xs ≡ filter q (filter p xs)
   filter-both [] = refl
   filter-both (x ∷ xs) =
       let both = filter (λ e. p e && q e) xs in
@@ -96,7 +96,7 @@ module _ {X : Type 0} (p q : X → Bool) where
         | false ↦ filter-both xs
       ]
 
-  filter-cong : ((x : X) → p x ≡ q x) → (xs : List X) → filter p xs ≡ filter q xs
+  pub filter-cong : ((x : X) → p x ≡ q x) → (xs : List X) → filter p xs ≡ filter q xs
   filter-cong h [] = refl
   filter-cong h (x ∷ xs) =
       ap (λ (b : Bool). cond b (x ∷ filter p xs) (filter p xs)) (h x) ∙ ap (λ (ys : List X). cond (q x) (x ∷ ys) ys) (filter-cong h xs)
@@ -200,7 +200,7 @@ opposite-get segments v x at =
     ]
 
 -- the turns onto what passes a test of its way, and is not the other direction
-onto-both : (r : ℤ → Bool) (v : ℕ) (es : List (ℕ × Vertex))
+pub onto-both : (r : ℤ → Bool) (v : ℕ) (es : List (ℕ × Vertex))
     → turns_onto v (exits_onto r (map (λ e. (e.0, e.1.way)) es)) ≡ map {A = ℕ × Vertex} {B = ℕ × ℕ} (λ e. (v, e.0)) (filter (λ e. not (e.0 == opposite v) && r e.1.way) es)
 onto-both r v [] = refl
 onto-both r v (e ∷ es) =
@@ -224,7 +224,7 @@ pub turns_onto_all-at : (vs : List Vertex) (v : ℕ) (x : Vertex) → slice_get 
 turns_onto_all-at vs v x at = ap (λ (o : Option Vertex). option_map_or (λ z. map (λ e. (v, e.0)) (filter (λ e. not (e.0 == opposite v)) (leavers vs z.head 0))) o []) at
 
 module _ (vs : List Vertex) (v : ℕ) (x y : Vertex) (at : slice_get vs v ≡ Some x) (back : slice_get vs (opposite v) ≡ Some y) (joins : y.tail ≡ x.head) where
-  exits-at : exits vs v ≡ exits_at vs x.head v
+  pub exits-at : exits vs v ≡ exits_at vs x.head v
   exits-at = ap (λ (o : Option Vertex). option_map_or (λ z. exits_at vs z.head v) o 0) at
 
   -- the exits, and the way back where it is permitted, are all that leave the head
@@ -325,7 +325,7 @@ module _ (vs : List Vertex) (v : ℕ) (x y : Vertex) (at : slice_get vs v ≡ So
         ∙ filter-both (leaves x.head) (λ e. not (e.0 == opposite v)) (numbered vs))
         ∙ sym (turns_onto_all-at vs v x at)
 
-    leaves-back : leaves x.head (opposite v, y) ≡ y.permitted
+    pub leaves-back : leaves x.head (opposite v, y) ≡ y.permitted
     leaves-back = ap (λ (b : Bool). y.permitted && b) ((Decides-int_eq y.tail x.head).1 joins) ∙ and-true y.permitted
 
     back-is : may_turn_back vs rules v ≡ (y.permitted && not (is_forbidden rules (v, x) (opposite v, y)))
@@ -494,6 +494,13 @@ module _ (vs : List Vertex) (v : ℕ) (x : Vertex) (at : slice_get vs v ≡ Some
       ap (λ (o : Option Vertex). option_map_or (λ u. option_map_or (λ w. w.permitted && not (is_forbidden rules (v, u) (opposite v, w))) (slice_get vs (opposite v)) false) o false) at
       ∙ ap (λ (o : Option Vertex). option_map_or (λ w. w.permitted && not (is_forbidden rules (v, x) (opposite v, w))) o false) back
       ∙ ap (λ (b : Bool). y.permitted && not (is_forbidden_at rules x.head x.way y.way b)) found
+
+-- the same of both ways to turn onto its way
+pub opens_back-at : (vs : List Vertex) (v : ℕ) (x : Vertex) → slice_get vs v ≡ Some x → (y : Vertex) → slice_get vs (opposite v) ≡ Some y → (rules : List Rule) (back : Bool)
+    → opens_back vs rules v back ≡ (y.permitted && not (is_forbidden_at rules x.head x.way y.way back))
+opens_back-at vs v x at y its rules back =
+    ap (λ (o : Option Vertex). option_map_or (λ u. option_map_or (λ w. w.permitted && not (is_forbidden_at rules u.head u.way w.way back)) (slice_get vs (opposite v)) false) o false) at
+    ∙ ap (λ (o : Option Vertex). option_map_or (λ w. w.permitted && not (is_forbidden_at rules x.head x.way w.way back)) o false) its
 
 -- no row yet
 pub no-rows : (rules : List Rule) (runs : RunMap) (rows : RowMap) → rows.entries ≡ [] → AreOpenRows rules runs rows

@@ -9,7 +9,7 @@ use Rattle.std.specs.declared.hash.BuildHasherDefault.{BuildHasherDefault}
 use Rattle.turn_rules.specs.Rules.{Rule}
 use Rattle.edge_graph.specs.Chains.{IsChain, belonging}
 use Rattle.edge_graph.specs.Turn.{turns_from, exits}
-use Rattle.edge_graph.specs.Vertex.{Vertex}
+use Rattle.road_segments.specs.Vertex.{Vertex}
 use Rattle.edge_graph.specs.declared.fans.Fan.{Fan}
 
 -- the permitted vertices from number v on that leave the node, in ascending order

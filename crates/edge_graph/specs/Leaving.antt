@@ -11,7 +11,7 @@ use Rattle.turn_rules.specs.Rules.{Rule}
 use Rattle.edge_graph.specs.Fans.{leavers}
 use Rattle.edge_graph.specs.RestrictionParts.{has_via, pair_eq}
 use Rattle.edge_graph.specs.Restrictions.{is_forbidden_at}
-use Rattle.edge_graph.specs.Vertex.{Vertex}
+use Rattle.road_segments.specs.Vertex.{Vertex}
 use Rattle.edge_graph.specs.declared.leaving.Run.{Run}
 
 abbrev pub RunMap : Type 0

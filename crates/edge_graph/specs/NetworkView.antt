@@ -5,9 +5,9 @@ use Rattle.road_base.specs.declared.osm_objects.Object.{Object}
 use Rattle.turn_rules.specs.Rules.{RulesView, rules_of}
 use Rattle.way_profile.specs.Vehicle.{ProfileView}
 use Rattle.edge_graph.specs.Restrictions.{applied_rules}
-use Rattle.edge_graph.specs.Segment.{Segment, segments}
+use Rattle.road_segments.specs.Segment.{Segment, segments}
 use Rattle.edge_graph.specs.Turn.{turns}
-use Rattle.edge_graph.specs.Vertex.{Vertex, vertices}
+use Rattle.road_segments.specs.Vertex.{Vertex, vertices}
 
 -- the segments and the turns in their order, the profile of the vehicle that uses them, and how many turn
 -- restrictions of the map apply to it and how many are ignored

@@ -7,7 +7,7 @@ use Rattle.std.specs.declared.hash.FoldHasher.{FoldHasher}
 use Rattle.std.specs.declared.hash.BuildHasherDefault.{BuildHasherDefault}
 use Rattle.turn_rules.specs.Rules.{Rule}
 use Rattle.edge_graph.specs.Restrictions.{meets}
-use Rattle.edge_graph.specs.Segment.{Segment}
+use Rattle.road_segments.specs.Segment.{Segment}
 
 -- some rule forbids turns at the node
 abbrev pub has_via : List Rule → ℤ → Bool

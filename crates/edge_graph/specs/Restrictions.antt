@@ -4,8 +4,8 @@ use Rattle.std.specs.Prelude.{ℕ, ℤ, ◌+◌, ◌==◌, Bool, not, ◌&&◌, 
 use Rattle.std.specs.List.{list_all, list_any}
 use Rattle.std.specs.Ordering.{int_eq}
 use Rattle.turn_rules.specs.Rules.{Rule, RulesView, forbids}
-use Rattle.edge_graph.specs.Segment.{Segment}
-use Rattle.edge_graph.specs.Vertex.{Vertex, opposite}
+use Rattle.road_segments.specs.Segment.{Segment}
+use Rattle.road_segments.specs.Vertex.{Vertex, opposite}
 
 -- a segment of the way begins or ends at the node
 abbrev pub meets : List Segment → ℤ → ℤ → Bool

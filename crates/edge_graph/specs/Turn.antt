@@ -5,7 +5,7 @@ use Rattle.std.specs.Option.{option_map_or}
 use Rattle.std.specs.Ordering.{int_eq}
 use Rattle.turn_rules.specs.Rules.{Rule}
 use Rattle.edge_graph.specs.Restrictions.{is_forbidden}
-use Rattle.edge_graph.specs.Vertex.{Vertex, opposite}
+use Rattle.road_segments.specs.Vertex.{Vertex, opposite}
 
 -- the vertices with their numbers
 abbrev pub numbered : List Vertex → List (ℕ × Vertex)

@@ -4,7 +4,7 @@ use Rattle.std.specs.List.{enumerate_from, flat_map, slice_get}
 use Rattle.std.proofs.lemmas.Option.{same_Some}
 use Rattle.turn_rules.specs.Rules.{Rule}
 use Rattle.edge_graph.specs.Turn.{IsSimple, is_turn, turns, turns_from}
-use Rattle.edge_graph.specs.Vertex.{Vertex}
+use Rattle.road_segments.specs.Vertex.{Vertex}
 
 -- the pair is (d, e) or behind it, by the first number and then the second
 abbrev IsFrom : ℕ → ℕ → ℕ × ℕ → Type 0

@@ -5,7 +5,7 @@ ghost use Rattle.edge_graph.specs.declared.build_faults.BuildFault.TheVariants.{
 
 use std::alloc::AllocError;
 
-/// Why a network was not built. The limits are this project's own.
+/// Why a network was not built. The limits are this project's own (`most_segments`, `most_turns`).
 #[derive(Clone, Copy, Debug, PartialEq, Eq)]
 pub enum BuildFault {
     /// There are more than 2^22 segments.

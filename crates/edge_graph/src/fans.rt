@@ -2,9 +2,9 @@
 
 ghost use Rattle.std.specs.Prelude.{◌≡◌, ◌*◌, ◌<◌, IfOk, length};
 ghost use Rattle.edge_graph.specs.Fans.{AreFans, fan_in};
-ghost use Rattle.edge_graph.specs.Vertex.{vertices};
+ghost use Rattle.road_segments.specs.Vertex.{vertices};
 
-use crate::roads::Roads;
+use road_segments::Roads;
 use std::alloc::{AllocError, Global};
 use std::collections::HashMap;
 

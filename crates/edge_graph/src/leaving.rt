@@ -7,11 +7,11 @@ ghost use Rattle.std.specs.Ordering.{int_eq};
 ghost use Rattle.edge_graph.specs.Leaving.{AreGroups, AreLeaving, leaving_at, exits_in, group_at, open_exits};
 ghost use Rattle.edge_graph.specs.RestrictionParts.{pair_eq};
 ghost use Rattle.edge_graph.specs.Restrictions.{is_forbidden_at};
-ghost use Rattle.edge_graph.specs.Vertex.{vertices};
+ghost use Rattle.road_segments.specs.Vertex.{vertices};
 
 use crate::decisions::Onto;
 use crate::restrictions::Restrictions;
-use crate::roads::Roads;
+use road_segments::Roads;
 use std::alloc::{AllocError, Global};
 use std::collections::HashMap;
 

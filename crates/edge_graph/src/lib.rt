@@ -5,14 +5,13 @@
 
 mod build_faults;
 mod decisions;
+mod departures;
 mod fans;
 mod leaving;
+mod limits;
 mod networks;
 mod restrictions;
-mod roads;
-mod routes;
-mod spots;
-mod streets;
+mod turn_counts;
 mod turn_lists;
 
 pub use build_faults::BuildFault;

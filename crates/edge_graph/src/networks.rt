@@ -2,14 +2,17 @@
 
 ghost use Rattle.std.specs.Prelude.{◌≡◌, ℕ, IfNone, IfSome, ◌*◌, ◌/◌, ◌^◌, ◌<◌, ◌≤◌, IfOk, IfErr, OnOk, Some, All, length, MatchOption, option_map};
 ghost use Rattle.std.specs.List.{slice_get};
-ghost use Rattle.edge_graph.specs.BuildCause.{IsBuildFault, IsWithinLimits};
+ghost use Rattle.edge_graph.specs.BuildCause.{IsBuildFault, IsTurnsFault, IsWithinLimits};
+ghost use Rattle.edge_graph.specs.Departures.{vertices_from};
 ghost use Rattle.edge_graph.specs.Leaving.{AreLeaving};
+ghost use Rattle.edge_graph.specs.Limits.{most_turns};
+ghost use Rattle.road_segments.specs.Limits.{most_segments};
 ghost use Rattle.edge_graph.specs.NetworkView.{graph_of, network_of, vertices_of};
 ghost use Rattle.edge_graph.specs.Restrictions.{applied_rules};
 ghost use Rattle.edge_graph.specs.Turn.{IsSimple, exits, turns};
 ghost use Rattle.turn_rules.specs.Rules.{rules_of};
-ghost use Rattle.edge_graph.specs.Vertex.{vertices};
-ghost use Rattle.edge_graph.specs.Segment.{segments};
+ghost use Rattle.road_segments.specs.Vertex.{vertices};
+ghost use Rattle.road_segments.specs.Segment.{segments};
 ghost use Rattle.edge_graph.specs.Fans.{AreExits, AreFans};
 ghost use Rattle.geo_integer.specs.Position.{position_of};
 ghost use Rattle.geo_integer.specs.Project.{position_at};
@@ -18,15 +21,15 @@ ghost use Rattle.search_graph.specs.Faults.{AllInRange};
 ghost use Rattle.way_profile.specs.Vehicle.{IsSpeed};
 
 use crate::build_faults::BuildFault;
+use crate::departures::Departures;
 use crate::fans::fans_of;
 use crate::leaving::Leaving;
 use crate::restrictions::Restrictions;
-use crate::roads::Roads;
-use crate::routes::{routes_of, segment_count};
-use crate::spots::spots_of;
+use crate::turn_counts::turn_count;
 use crate::turn_lists::{Exits, exit_counts, turn_list};
 use geo_integer::point_at;
 use road_base::{Object, Place, Point};
+use road_segments::{RoadFault, Roads};
 use search_graph::{Graph, GraphFault};
 use std::alloc::{AllocError, Global};
 use std::marker::Model;
@@ -38,6 +41,7 @@ use way_profile::Profile;
 pub struct Network {
     roads: Roads,
     exits: Vec<u32>,
+    departures: Departures,
     graph: Graph,
     profile: Profile,
     applied: u64,
@@ -49,6 +53,7 @@ impl Drop for Network {
         let Network {
             roads: _roads,
             exits: _exits,
+            departures: _departures,
             graph: _graph,
             profile: _profile,
             applied: _applied,
@@ -67,7 +72,7 @@ impl Model for Network {
 
     ghost view = { λ n. record { segments = n.roads; turns = n.graph.arcs; profile = n.profile; applied = n.applied; ignored = n.ignored } };
 
-    ghost invariant = { λ n. AreNetworkParts n.roads n.exits.items n.graph };
+    ghost invariant = { λ n. AreNetworkParts n.roads n.exits.items n.departures.order.items n.graph };
 }
 
 // The first arc from `d` to `e`, or None where there is none.
@@ -89,16 +94,14 @@ fn arc_between(graph: &Graph, d: u32, e: u32) -> Option<u32>
 fn roads_of(alloc: Global, objects: &[Object], profile: &Profile) -> Result<Roads, BuildFault>
     ensures ok { IfOk result (λ roads. roads ≡ segments objects.now profile.now) }
     ensures speeds { OnOk result (All (λ s. IsSpeed s.street.speed) (segments objects.now profile.now)) }
-    ensures few { OnOk result (length (segments objects.now profile.now) ≤ 2 ^ 22) }
+    ensures few { OnOk result (length (segments objects.now profile.now) ≤ most_segments) }
     ensures err { IfErr result (IsBuildFault (network_of objects.now profile.now)) }
 {
-    let spots = spots_of(alloc, objects, profile)?;
-    let routes = routes_of(alloc, objects, profile, &spots)?;
-    let Some(count) = segment_count(objects, &routes, &spots) else {
-        return Err(BuildFault::TooManySegments);
-    };
-    let roads = Roads::of(alloc, objects, routes, &spots, count)?;
-    Ok(roads)
+    match Roads::build(alloc, objects, profile) {
+        Ok(roads) => Ok(roads),
+        Err(RoadFault::TooManySegments) => Err(BuildFault::TooManySegments),
+        Err(RoadFault::Memory) => Err(BuildFault::Memory),
+    }
 }
 
 // The turn restrictions of the map that apply to the vehicle on these roads.
@@ -130,9 +133,30 @@ fn exits_of(alloc: Global, roads: &Roads, restrictions: &Restrictions) -> Result
     })
 }
 
+// All turns, unless they are more than a network may have: they are counted before any is stored.
+fn turns_of(
+    alloc: Global,
+    roads: &Roads,
+    exits: &Exits,
+    restrictions: &Restrictions,
+) -> Result<Vec<(u32, u32)>, BuildFault>
+    requires fans { AreFans (vertices roads.now) 0 exits.now.fans.next.items exits.now.fans.by_node }
+    requires counts { AreExits (vertices roads.now) exits.now.counts.items }
+    requires leaving { AreLeaving (vertices roads.now) restrictions.now.kept exits.now.leaving.runs exits.now.leaving.groups }
+    ensures list { IfOk result (λ list. list.items ≡ turns (vertices roads.now) restrictions.now.kept) }
+    ensures few { OnOk result (length (turns (vertices roads.now) restrictions.now.kept) ≤ most_turns) }
+    ensures err { IfErr result (IsTurnsFault (length (turns (vertices roads.now) restrictions.now.kept))) }
+{
+    let Some(count) = turn_count(alloc, roads, exits, restrictions)? else {
+        return Err(BuildFault::TooManyTurns);
+    };
+    Ok(turn_list(alloc, roads, exits, restrictions, count)?)
+}
+
 // The graph of the turns. Each is from a vertex to a vertex, so nothing but memory can be wanting.
+#[tactic(auto, unfolding(crate::specs::Limits::most_turns))]
 fn turn_graph(alloc: Global, roads: &Roads, list: &[(u32, u32)]) -> Result<Graph, GraphFault>
-    requires few { length list.now ≤ 2 ^ 26 }
+    requires few { length list.now ≤ most_turns }
     requires in_range { AllInRange (2 * length roads.now) list.now }
     ensures vertices { IfOk result (λ graph. graph.vertices ≡ 2 * length roads.now) }
     ensures arcs { IfOk result (λ graph. graph.arcs ≡ list.now) }
@@ -156,10 +180,11 @@ impl Network {
         ensures err { IfErr result (IsBuildFault (network_of objects.now profile.now)) }
     {
         let roads = roads_of(alloc, objects, profile)?;
+        let departures = Departures::of(alloc, &roads)?;
         let restrictions = restrictions_of(alloc, objects, profile, &roads)?;
         let (applied, ignored) = (restrictions.applied(), restrictions.ignored());
         let exits = exits_of(alloc, &roads, &restrictions)?;
-        let turns = turn_list(alloc, &roads, &exits, &restrictions)?;
+        let turns = turns_of(alloc, &roads, &exits, &restrictions)?;
         let Ok(graph) = turn_graph(alloc, &roads, &turns) else {
             return Err(BuildFault::Memory);
         };
@@ -167,6 +192,7 @@ impl Network {
         Ok(Network {
             roads,
             exits: exits.counts,
+            departures,
             graph,
             profile,
             applied,
@@ -178,7 +204,8 @@ impl Network {
     /// ids, and in a way in the order of its nodes.
     pub fn segments(&self) -> u32
         ensures value { result ≡ length self.now.segments }
-        ensures few { result ≤ 2 ^ 22 }
+        ensures few { result ≤ most_segments }
+        ensures fits { result ≤ 2 ^ 26 }
     {
         self.roads.len()
     }
@@ -243,6 +270,14 @@ impl Network {
         self.exits[v as usize]
     }
 
+    /// The vertices that leave a node, permitted or not, in ascending order of their numbers. None leaves an
+    /// id that is no node's.
+    pub fn leaving(&self, node: i64) -> &[u32]
+        ensures { result.now ≡ vertices_from (vertices_of self.now) node }
+    {
+        self.departures.leaving(&self.roads, node)
+    }
+
     /// The points where a segment begins and ends, in the order of its way.
     pub fn ends(&self, segment: u32) -> (Point, Point)
         requires { segment < length self.now.segments }
@@ -264,7 +299,7 @@ impl Network {
     /// How many turns there are.
     pub fn turns(&self) -> u32
         ensures value { result ≡ length self.now.turns }
-        ensures few { result ≤ 2 ^ 26 }
+        ensures few { result ≤ most_turns }
     {
         self.graph.arcs()
     }
@@ -281,11 +316,13 @@ impl Network {
 
     /// The graph of the vertices, whose arcs are the turns: arc i is turn i. The turns are numbered from 0
     /// by the vertex that they leave and then by the one that they enter, and no two are from one vertex
-    /// onto the same other.
+    /// onto the same other. There are no more vertices than a graph that is searched may have.
     pub fn graph(&self) -> &Graph
         ensures value { result.now ≡ graph_of self.now }
         ensures limits { IsWithinLimits self.now }
+        ensures few { (graph_of self.now).vertices ≤ 2 ^ 27 }
         ensures simple { IsSimple self.now.turns }
+        ensures in_range { AllInRange (2 * length self.now.segments) self.now.turns }
     {
         &self.graph
     }

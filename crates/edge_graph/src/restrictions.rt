@@ -10,7 +10,7 @@ ghost use Rattle.edge_graph.specs.RestrictionParts.{AreMet, has_via, pair_eq};
 ghost use Rattle.edge_graph.specs.Decisions.{MatchOnto};
 
 use crate::decisions::{Decisions, Onto};
-use crate::roads::Roads;
+use road_segments::Roads;
 use std::alloc::{AllocError, Global};
 use std::collections::HashSet;
 use std::marker::Model;

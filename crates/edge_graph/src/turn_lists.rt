@@ -1,23 +1,18 @@
 //! The exits of each vertex, and the list of all turns.
 
-ghost use Rattle.std.specs.Prelude.{◌≡◌, ◌==◌, not, ◌*◌, ◌^◌, ◌<◌, ◌≤◌, ◌++◌, IfErr, IfOk, OnOk, length};
-ghost use Rattle.edge_graph.specs.BuildCause.{IsTurnsFault};
+ghost use Rattle.std.specs.Prelude.{◌≡◌, ◌==◌, true, not, ◌*◌, ◌<◌, ◌++◌, IfOk, OnOk, length};
 ghost use Rattle.edge_graph.specs.Fans.{AreExits, AreFans, turns_at};
 ghost use Rattle.edge_graph.specs.Leaving.{AreGroups, AreLeaving, leaving_at, open_exits};
 ghost use Rattle.edge_graph.specs.Turn.{exits, turns};
-ghost use Rattle.edge_graph.specs.TurnParts.{AreOpenRows, may_turn_back, must_turn_back, turns_on, turns_onto, turns_onto_all};
-ghost use Rattle.edge_graph.specs.Vertex.{opposite, vertices};
+ghost use Rattle.edge_graph.specs.TurnParts.{AreOpenRows, may_turn_back, must_turn_back, opens_back, turns_on, turns_onto, turns_onto_all};
+ghost use Rattle.road_segments.specs.Vertex.{opposite, vertices};
 
-use crate::build_faults::BuildFault;
 use crate::fans::{Fans, fan_at};
 use crate::leaving::Leaving;
 use crate::restrictions::Restrictions;
-use crate::roads::Roads;
+use road_segments::Roads;
 use std::alloc::{AllocError, Global};
 use std::collections::HashMap;
-
-/// The most turns that a network may have.
-pub const MOST_TURNS: usize = 67_108_864;
 
 /// What leaves the nodes of a network: how many exits each vertex has, the vertices at each node, and those
 /// at the nodes where restrictions apply by their ways.
@@ -61,9 +56,9 @@ pub fn exit_counts(alloc: Global, roads: &Roads, fans: &Fans) -> Result<Vec<u32>
     Ok(counts)
 }
 
-// Whether the vehicle can only turn back at the end of a vertex of so many exits: in a dead end, and at a
-// closed node.
-fn must_turn_back(roads: &Roads, v: u32, exit_count: u32) -> bool
+/// Whether the vehicle can only turn back at the end of a vertex of so many exits: in a dead end, and at a
+/// closed node.
+pub fn must_turn_back(roads: &Roads, v: u32, exit_count: u32) -> bool
     requires vertex { v < 2 * length roads.now }
     requires exits { exit_count ≡ exits (vertices roads.now) v }
     ensures { result ≡ must_turn_back (vertices roads.now) v }
@@ -71,17 +66,26 @@ fn must_turn_back(roads: &Roads, v: u32, exit_count: u32) -> bool
     exit_count == 0 || roads.closed(v)
 }
 
-// Whether the vehicle may turn back at the end of a vertex where it can only do so.
-fn may_turn_back(roads: &Roads, restrictions: &Restrictions, v: u32) -> bool
+/// Whether the other direction of a vertex's segment is permitted, and no restriction forbids to turn onto its
+/// way; `back` says that the turn goes back onto the segment.
+pub fn opens_back(roads: &Roads, restrictions: &Restrictions, v: u32, back: bool) -> bool
     requires { v < 2 * length roads.now }
-    ensures { result ≡ may_turn_back (vertices roads.now) restrictions.now.kept v }
+    ensures { result ≡ opens_back (vertices roads.now) restrictions.now.kept v back }
 {
     if roads.permitted(other_way(v)) {
         let way = roads.way(v);
-        !restrictions.forbid_turn(roads.head(v), way, way, true)
+        !restrictions.forbid_turn(roads.head(v), way, way, back)
     } else {
         false
     }
+}
+
+/// Whether the vehicle may turn back at the end of a vertex where it can only do so.
+pub fn may_turn_back(roads: &Roads, restrictions: &Restrictions, v: u32) -> bool
+    requires { v < 2 * length roads.now }
+    ensures { result ≡ may_turn_back (vertices roads.now) restrictions.now.kept v }
+{
+    opens_back(roads, restrictions, v, true)
 }
 
 // Whether a vertex is not the other direction of another's segment.
@@ -206,43 +210,25 @@ fn push_turns(
     Ok(())
 }
 
-// How many turns there are if no restriction applies, or the most that a network may have.
-fn room_for(roads: &Roads, counts: &[u32]) -> usize
-    requires { length counts.now ≡ 2 * length roads.now }
-{
-    let mut room = 0;
-    for v in 0..2 * roads.len() {
-        if roads.permitted(v) {
-            room += (counts[v as usize] as usize).max(1);
-        }
-        room = room.min(MOST_TURNS);
-    }
-    room
-}
-
-/// All turns, by the vertex that they leave and then by the one that they enter. They are refused where
-/// they are more than a network may have. Looking for them takes time by the segments, the members of the
-/// restrictions and the turns that are found.
+/// All turns, by the vertex that they leave and then by the one that they enter. They are so many, for which
+/// room is taken at once. Looking for them takes time by the segments, the members of the restrictions and
+/// the turns that are found.
 pub fn turn_list(
     alloc: Global,
     roads: &Roads,
     exits: &Exits,
     restrictions: &Restrictions,
-) -> Result<Vec<(u32, u32)>, BuildFault>
+    count: usize,
+) -> Result<Vec<(u32, u32)>, AllocError>
     requires fans { AreFans (vertices roads.now) 0 exits.now.fans.next.items exits.now.fans.by_node }
     requires counts { AreExits (vertices roads.now) exits.now.counts.items }
     requires leaving { AreLeaving (vertices roads.now) restrictions.now.kept exits.now.leaving.runs exits.now.leaving.groups }
-    ensures list { IfOk result (λ list. list.items ≡ turns (vertices roads.now) restrictions.now.kept) }
-    ensures few { OnOk result (length (turns (vertices roads.now) restrictions.now.kept) ≤ 2 ^ 26) }
-    ensures err { IfErr result (IsTurnsFault (length (turns (vertices roads.now) restrictions.now.kept))) }
+    ensures { IfOk result (λ list. list.items ≡ turns (vertices roads.now) restrictions.now.kept) }
 {
-    let mut list = Vec::with_capacity(alloc, room_for(roads, &exits.counts))?;
+    let mut list = Vec::with_capacity(alloc, count)?;
     let mut rows = HashMap::new(alloc);
     for v in 0..2 * roads.len() {
         push_turns(&mut list, &mut rows, alloc, roads, exits, restrictions, v)?;
-        if list.len() > MOST_TURNS {
-            return Err(BuildFault::TooManyTurns);
-        }
     }
     Ok(list)
 }

@@ -5,7 +5,7 @@ ghost use Rattle.road_io.specs.MemoryStates.{conn_state};
 ghost use Rattle.road_io.specs.Views.{IsFreshConn};
 
 use crate::waiting_flags::TURNS;
-use road_doors::{Flag, FlagConn};
+use memory_doors::{Flag, FlagConn};
 use road_io::{MemConn, MemSink, MemSource};
 use std::alloc::{AllocError, Global};
 use std::sync::Arc;

@@ -4,8 +4,8 @@ ghost use Rattle.std.specs.Prelude.{◌+◌, ◌≤◌, All, OnOk, length};
 ghost use Rattle.road_io.specs.DoorOpening.{IsNewDoor};
 
 use crate::waiting_conns::push_conn;
-use door_service::Served;
-use road_doors::{Flag, FlagConn, QueueDoor};
+use door_workers::Served;
+use memory_doors::{Flag, FlagConn, QueueDoor};
 use road_io::{Closer, DoorSet, Doors, MemConn};
 use std::alloc::{AllocError, Global};
 use std::sync::Arc;

@@ -1,6 +1,6 @@
 //! Flags by which connections wait for each other.
 
-use road_doors::{Flag, FlagGate};
+use memory_doors::{Flag, FlagGate};
 use std::alloc::{AllocError, Global};
 use std::sync::Arc;
 

@@ -5,3 +5,4 @@ pub mod Parts
 pub mod Inside
 pub mod Wholes
 pub mod WholeLaws
+pub mod Items

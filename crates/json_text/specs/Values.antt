@@ -1,15 +1,16 @@
 -- The JSON values of a reply, and the one compact text of each (RFC 8259, with no blanks; texts are
 -- escaped as `serde_json` escapes them).
-use Rattle.std.specs.Prelude.{◌≡◌, ℕ, ℤ, List, [], ◌∷◌, ◌++◌, codes}
+use Rattle.std.specs.Prelude.{◌≡◌, ℕ, ℤ, Bool, true, false, List, [], ◌∷◌, ◌++◌, codes}
 use Rattle.std.specs.Fmt.{signed_decimal}
 use Rattle.json.specs.Print.{quoted}
 use Rattle.json_text.specs.Numbers.{tenths_text, millionths_text}
 
--- a value: null, a text, a whole number, a number of tenths or of millionths, an array of items, or
+-- a value: null, true or false, a text, a whole number, a number of tenths or of millionths, an array of items, or
 -- an object of members, each a name and a value
 mutual
   pub data JsonValue : Type 0 where
     null : JsonValue
+    boolean : Bool → JsonValue
     text : List ℕ → JsonValue
     whole : ℤ → JsonValue
     tenths : ℕ → JsonValue
@@ -25,10 +26,15 @@ mutual
     no_members : Members
     member : List ℕ → JsonValue → Members → Members
 
+abbrev pub boolean_text : Bool → List ℕ
+boolean_text true = codes "true"
+boolean_text false = codes "false"
+
 -- the compact text of a value; commas stand between items and between members
 abbrev mutual
   pub compact_text : JsonValue → List ℕ
   compact_text null = codes "null"
+  compact_text (boolean b) = boolean_text b
   compact_text (text t) = quoted t
   compact_text (whole z) = signed_decimal z
   compact_text (tenths n) = tenths_text n

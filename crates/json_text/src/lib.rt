@@ -7,6 +7,7 @@
 
 mod append;
 pub mod draft;
+mod members;
 mod numbers;
 mod writer;
 

@@ -1,7 +1,7 @@
 //! A JSON text under construction.
 ghost use Rattle.std.specs.Prelude.{◌≡◌, pos, IfOk, OnOk, OnErr, IsUtf8, flat_map, string_bytes};
 ghost use Rattle.json.specs.Print.{quoted};
-ghost use Rattle.json_text.specs.Values.{JsonValue, null, text, whole, tenths, location, compact_text, IsValueText};
+ghost use Rattle.json_text.specs.Values.{JsonValue, boolean, boolean_text, null, text, whole, tenths, location, compact_text, IsValueText};
 ghost use Rattle.json_text.specs.Drafts.{empty_draft, TakesValue, TakesKey, TakesEnd, IsFinished, comma_text, opening_bracket, closing_bracket, begun, ended, with_key, with_text, with_value};
 
 use crate::append::append_all;
@@ -17,7 +17,7 @@ use std::marker::Model;
 ///
 /// A legal order of calls: one value comes first of all; in a list any values; in an object, keys
 /// with one value behind each; an end only where its own container is the innermost open one, and
-/// not behind a key. An `Err` is want of memory and leaves the text as it was.
+/// not behind a key. An `Err` is want of memory and leaves the text as it was; but the key of a member may stand.
 pub struct Json {
     alloc: Global,
     out: String,
@@ -150,6 +150,15 @@ impl Json {
         self.value(&["null"])
     }
 
+    /// The value `true` or `false`.
+    pub fn boolean(&mut self, b: bool) -> Result<(), AllocError>
+        requires { TakesValue self.old }
+        ensures ok { OnOk result (self.new ≡ with_value (boolean b) self.old) }
+        ensures err { OnErr result (self.new ≡ self.old) }
+    {
+        self.value(&[boolean_text(b)])
+    }
+
     /// A text, escaped as `serde_json` escapes it.
     pub fn text(&mut self, t: &str) -> Result<(), AllocError>
         requires { TakesValue self.old }
@@ -278,6 +287,12 @@ impl Json {
         self.latest = Last::Value;
         Ok(())
     }
+}
+
+fn boolean_text(b: bool) -> &'static str
+    ensures { result.now ≡ boolean_text b }
+{
+    if b { "true" } else { "false" }
 }
 
 fn opening_bracket(container: Container) -> &'static str

@@ -2,7 +2,7 @@
 use Rattle.std.proofs.Common.{◌≡◌, ℕ, ◌<◌, inl, inr, List, [], ◌∷◌, ◌++◌, length, Option, Some, None, Result, Ok, Err, OnErr, OnOk, refl, sym, ap, ◌∙◌, subst, append-nil, arith}
 use Rattle.std.specs.Prelude.{IfErr}
 use Rattle.std.specs.Io.KnownBytes.{Appends}
-use Rattle.reply_texts.specs.Refusals.{busy_text}
+use Rattle.refusal_texts.specs.Refusals.{busy_text}
 use Rattle.road_io.specs.Faults.{OutputRose}
 use Rattle.road_io.specs.Told.{AppendsFront, appends_none}
 use Rattle.road_io.specs.Views.{FilesView, OutputView}

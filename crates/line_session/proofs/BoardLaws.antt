@@ -3,7 +3,7 @@ use Rattle.std.proofs.Common.{◌≡◌, ℕ, ◌+◌, ◌<◌, List, [], ◌∷
 use Rattle.std.proofs.Math.Seq.{drop-append_seam, take-append_seam}
 use Rattle.std.proofs.lemmas.Option.{same_Some}
 use Rattle.edge_graph.specs.NetworkView.{NetworkView}
-use Rattle.road_places.specs.RoadMetric.{road_of}
+use Rattle.metric_make.specs.RoadMetric.{road_of}
 use Rattle.customized.specs.Exact.{Customized, ShareRoads, customized_on}
 use Rattle.customized.specs.Framing.{RoadsView}
 use Rattle.metric_publish.specs.History.{entry, last_from, last_number, last_of}

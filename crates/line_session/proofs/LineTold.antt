@@ -8,7 +8,7 @@ use Rattle.std.proofs.lemmas.Bool.{cases_lt, lt-leb}
 use Rattle.std.proofs.lemmas.List.{take_all, take-append-le}
 use Rattle.reply_core.specs.Answers.{IsAnswerToAny, IsLineAnswer}
 use Rattle.reply_core.specs.Request.{target_of}
-use Rattle.road_places.specs.RoadMetric.{RoadMetric}
+use Rattle.metric_make.specs.RoadMetric.{RoadMetric}
 use Rattle.reply_core.specs.declared.answers.Answer.{Answer}
 use Rattle.line_session.specs.Publication.{IsReplyLine, Publication}
 use Rattle.line_session.specs.Told.{Adds, Answers, AnswersTo, Contents, IsBusy, SaysAnswer, Telling, Told, also, nothing}

@@ -9,7 +9,7 @@ use Rattle.metric_make.specs.MetricOf.{MetricView, base_of}
 use Rattle.metric_publish.specs.History.{entry}
 use Rattle.metric_publish.specs.declared.entry.Entry.{Entry}
 use Rattle.reply_core.specs.Answers.{IsLineAnswer}
-use Rattle.road_places.specs.RoadMetric.{RoadMetric, road_of}
+use Rattle.metric_make.specs.RoadMetric.{RoadMetric, road_of}
 use Rattle.reply_core.specs.declared.answers.Answer.{Answer}
 
 abbrev pub Publication : Type 0

@@ -3,7 +3,7 @@
 use Rattle.std.specs.Prelude.{◌≡◌, ℕ, List, [], ◌∷◌, ◌++◌, ◌⊎◌, ◌==◌, Option, Some, None}
 use Rattle.std.specs.List.{slice_split}
 use Rattle.std.specs.Str.Lines.{strip_carriage_return}
-use Rattle.reply_texts.specs.Refusals.{busy_text}
+use Rattle.refusal_texts.specs.Refusals.{busy_text}
 use Rattle.road_io.specs.FileContent.{FileTold}
 use Rattle.control_port.specs.Telling.{body_of}
 use Rattle.control_port.specs.declared.controlled.Controlled.{Controlled}

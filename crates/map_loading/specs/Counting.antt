@@ -5,7 +5,7 @@ use Rattle.road_base.specs.declared.osm_objects.Kind.{Kind}
 use Rattle.road_base.specs.declared.osm_objects.Kind.TheVariants as kind
 use Rattle.road_base.specs.declared.osm_objects.Object.{Object}
 use Rattle.road_base.specs.declared.osm_objects.Object.TheVariants as object
-use Rattle.edge_graph.specs.NetworkView.{NetworkView, graph_of, vertices_of}
+use Rattle.edge_graph.specs.NetworkView.{NetworkView, vertices_of}
 use Rattle.map_loading.specs.declared.counting.Counts.{Counts}
 
 -- the object is of this kind
@@ -35,6 +35,6 @@ check_text objects network =
     let relations = with_line ways (codes "relations") objects.relations in
     let segments = with_line relations (codes "segments") (length network.segments) in
     let vertices = with_line segments (codes "vertices") (permitted_in network) in
-    let turns = with_line vertices (codes "turns") (length (graph_of network).arcs) in
+    let turns = with_line vertices (codes "turns") (length network.turns) in
     let restrictions = with_line turns (codes "restrictions") network.applied in
     with_line restrictions (codes "ignored") network.ignored

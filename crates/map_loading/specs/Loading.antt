@@ -2,6 +2,8 @@
 -- refuses them. The map is judged first, then the settings, then the limits.
 use Rattle.std.specs.Prelude.{ℕ, nat_le, List, ◌++◌, length, codes, Result, Ok, Err, if◌then◌else◌}
 use Rattle.std.specs.Fmt.{decimal}
+use Rattle.edge_graph.specs.Limits.{most_turns}
+use Rattle.road_segments.specs.Limits.{most_segments}
 use Rattle.edge_graph.specs.NetworkView.{NetworkView, network_of, graph_of}
 use Rattle.opl_read.specs.Objects.{opl_objects}
 use Rattle.opl_read.specs.declared.line_faults.FaultKind.{FaultKind}
@@ -42,10 +44,10 @@ segments_line = codes "too many segments\n"
 abbrev pub turns_line : List ℕ
 turns_line = codes "too many turns\n"
 
--- the network, where it has at most 2^22 segments and 2^26 turns
+-- the network, where it has no more segments than a network may have, and the graph that is searched no more arcs
 abbrev pub within_limits : NetworkView → Result NetworkView (List ℕ)
 within_limits network =
-    if nat_le (length network.segments) 4194304 then (if nat_le (length (graph_of network).arcs) 67108864 then Ok network else Err turns_line) else Err segments_line
+    if nat_le (length network.segments) most_segments then (if nat_le (length (graph_of network).arcs) most_turns then Ok network else Err turns_line) else Err segments_line
 
 abbrev pub load_from : Result (List Object) LineFault → Result ProfileView SettingsFault → Result NetworkView (List ℕ)
 load_from (Err fault) settings = Err (opl_line fault)

@@ -14,11 +14,11 @@ use Rattle.geo_integer.specs.Root.{root_of}
 use Rattle.road_base.specs.declared.coordinates.Point.{Point}
 use Rattle.search_graph.specs.declared.costs.DurLen.{DurLen}
 use Rattle.list_lemmas.proofs.Gets.{get_some}
-use Rattle.edge_graph.specs.Segment.{Segment}
+use Rattle.road_segments.specs.Segment.{Segment}
 use Rattle.edge_graph.specs.NetworkView.{NetworkView, vertices_of}
 use Rattle.edge_graph.specs.Turn.{exits}
-use Rattle.edge_graph.specs.Vertex.{Vertex, against, along, opposite, vertices}
-use Rattle.edge_graph.specs.Laws.{vertices-even, vertices-odd}
+use Rattle.road_segments.specs.Vertex.{Vertex, against, along, opposite, vertices}
+use Rattle.road_segments.specs.Laws.{vertices-even, vertices-odd}
 use Rattle.metric_make.specs.MetricOf.{bearing_along, bend_penalty, cost_at, penalty_at, penalty_under, vertex_cost}
 use Rattle.metric_make.specs.TurnParts.{row_at, turning_at, waiting_at}
 use Rattle.traffic_files.specs.declared.rows.SpeedRow.{SpeedRow}

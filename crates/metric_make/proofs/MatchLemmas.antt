@@ -6,7 +6,7 @@ use Rattle.std.specs.Option.{ForSome}
 use Rattle.std.specs.Ordering.{int_eq}
 use Rattle.std.proofs.lemmas.List.Folds.{list_any-append, list_any_more}
 use Rattle.std.proofs.lemmas.Option.{get_or_from_slice_get, none-some, same_Some, slice_get_within}
-use Rattle.edge_graph.specs.Vertex.{Vertex}
+use Rattle.road_segments.specs.Vertex.{Vertex}
 use Rattle.metric_make.specs.LastRows.{AreMarked, pair_eq, triple_eq}
 use Rattle.metric_make.specs.MetricOf.{cost_at, cost_under}
 use Rattle.metric_make.specs.TrafficRows.{goes_over, is_turn_over, is_way, speed_for}

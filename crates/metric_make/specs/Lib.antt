@@ -1,4 +1,5 @@
 pub mod LastRows
 pub mod MetricOf
+pub mod RoadMetric
 pub mod TrafficRows
 pub mod TurnParts

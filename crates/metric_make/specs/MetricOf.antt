@@ -1,6 +1,6 @@
 -- What the vertices and turns of a network cost by the profile of the vehicle and the rows of traffic files (this
 -- project's rule).
-use Rattle.std.specs.Prelude.{ℕ, ◌+◌, ◌*◌, ◌/◌, ◌==◌, nat_le, max, map, Bool, false, List, [], Option, Some, None, All, if◌then◌else◌}
+use Rattle.std.specs.Prelude.{ℕ, ◌+◌, ◌*◌, ◌/◌, ◌^◌, ◌<◌, ◌==◌, nat_le, max, map, Bool, false, List, [], Option, Some, None, All, if◌then◌else◌}
 use Rattle.std.specs.List.{slice_get}
 use Rattle.std.specs.Option.{ForSome}
 use Rattle.geo_integer.specs.Bearing.{bearing_of, modifier_of}
@@ -8,10 +8,11 @@ use Rattle.geo_integer.specs.Plane.{length_of}
 use Rattle.geo_integer.specs.Position.{position_of}
 use Rattle.search_graph.specs.Digraph.{Weighting}
 use Rattle.search_graph.specs.Durations.{durlen_ops}
+use Rattle.search_graph.specs.Weighted.{IsWeighting}
 use Rattle.search_graph.specs.declared.costs.DurLen.{DurLen}
-use Rattle.edge_graph.specs.NetworkView.{NetworkView, vertices_of}
+use Rattle.edge_graph.specs.NetworkView.{NetworkView, graph_of, vertices_of}
 use Rattle.edge_graph.specs.Turn.{exits}
-use Rattle.edge_graph.specs.Vertex.{Vertex, opposite}
+use Rattle.road_segments.specs.Vertex.{Vertex, opposite}
 use Rattle.metric_make.specs.TrafficRows.{speed_for, turn_for, unmatched_of}
 use Rattle.traffic_files.specs.declared.rows.SpeedRow.{SpeedRow}
 use Rattle.traffic_files.specs.declared.rows.TurnRow.{TurnRow}
@@ -84,7 +85,12 @@ metric_of network speeds turns = record {
 abbrev pub base_of : NetworkView → MetricView
 base_of network = metric_of network [] []
 
--- each cost is within one unit
+-- each cost is within one unit, and a vertex takes less than 2^31 deciseconds
 pub record AreWithinUnit (weights : Weighting DurLen) : Type 0 where
   pub vertex : All (λ o. ForSome o (λ x. durlen_ops.units x 1)) weights.vertex
   pub arc : All (λ a. durlen_ops.units a 1) weights.arc
+  pub short : All (λ o. ForSome o (λ x. x.duration < 2 ^ 31)) weights.vertex
+
+-- what a metric of a network owes to those who search under it: its costs are a weighting of the graph that is searched
+pub record IsMetricOn (network : NetworkView) (weights : Weighting DurLen) : Type 0 where
+  pub weighting : IsWeighting durlen_ops (graph_of network) weights

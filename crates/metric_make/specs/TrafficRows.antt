@@ -4,7 +4,7 @@ use Rattle.std.specs.Prelude.{ℕ, ℤ, ◌+◌, Bool, false, not, ◌&&◌, Lis
 use Rattle.std.specs.List.{list_any, slice_get}
 use Rattle.std.specs.Ordering.{int_eq}
 use Rattle.edge_graph.specs.NetworkView.{NetworkView, vertices_of}
-use Rattle.edge_graph.specs.Vertex.{Vertex}
+use Rattle.road_segments.specs.Vertex.{Vertex}
 use Rattle.traffic_files.specs.declared.rows.SpeedRow.{SpeedRow}
 use Rattle.traffic_files.specs.declared.rows.TurnRow.{TurnRow}
 

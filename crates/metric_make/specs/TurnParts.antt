@@ -3,7 +3,7 @@
 use Rattle.std.specs.Prelude.{ℕ, ◌==◌, List, Option, Some, None, if◌then◌else◌}
 use Rattle.edge_graph.specs.NetworkView.{NetworkView, vertices_of}
 use Rattle.edge_graph.specs.Turn.{exits}
-use Rattle.edge_graph.specs.Vertex.{Vertex, opposite}
+use Rattle.road_segments.specs.Vertex.{Vertex, opposite}
 use Rattle.metric_make.specs.MetricOf.{bend_penalty}
 use Rattle.metric_make.specs.TrafficRows.{turn_for}
 use Rattle.traffic_files.specs.declared.rows.TurnRow.{TurnRow}

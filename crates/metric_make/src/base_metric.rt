@@ -1,12 +1,10 @@
 //! The metric of a network.
 
-ghost use Rattle.std.specs.Prelude.{◌≡◌, ◌<◌, IfOk, OnOk, Some, length};
+ghost use Rattle.std.specs.Prelude.{◌≡◌, ◌^◌, ◌<◌, IfOk, OnOk, Some, length};
 ghost use Rattle.std.specs.List.{slice_get};
 ghost use Rattle.std.specs.Option.{ForSome};
-ghost use Rattle.edge_graph.specs.NetworkView.{graph_of};
-ghost use Rattle.metric_make.specs.MetricOf.{AreWithinUnit, base_of, metric_of};
+ghost use Rattle.metric_make.specs.MetricOf.{AreWithinUnit, IsMetricOn, base_of, metric_of};
 ghost use Rattle.search_graph.specs.Durations.{durlen_ops};
-ghost use Rattle.search_graph.specs.Weighted.{IsWeighting};
 ghost use Rattle.traffic_files.specs.Ranges.{ArePenaltiesInRange, AreSpeedsInRange};
 
 use crate::turns::turn_costs;
@@ -53,7 +51,7 @@ impl Model for BaseMetric {
 /// only where memory runs out.
 pub fn base(alloc: Global, network: &Network) -> Result<BaseMetric, AllocError>
     ensures value { IfOk result (λ metric. metric ≡ base_of network.now) }
-    ensures weighting { OnOk result (IsWeighting durlen_ops (graph_of network.now) (base_of network.now).weights) }
+    ensures on { OnOk result (IsMetricOn network.now (base_of network.now).weights) }
 {
     metric(alloc, network, &[], &[])
 }
@@ -74,7 +72,7 @@ pub fn metric(
     requires speeds { AreSpeedsInRange speeds.now }
     requires penalties { ArePenaltiesInRange turns.now }
     ensures value { IfOk result (λ metric. metric ≡ metric_of network.now speeds.now turns.now) }
-    ensures weighting { OnOk result (IsWeighting durlen_ops (graph_of network.now) (metric_of network.now speeds.now turns.now).weights) }
+    ensures on { OnOk result (IsMetricOn network.now (metric_of network.now speeds.now turns.now).weights) }
 {
     let vertex = vertex_costs(alloc, network, speeds)?;
     let arc = turn_costs(alloc, network, turns)?;
@@ -85,11 +83,12 @@ pub fn metric(
 }
 
 impl BaseMetric {
-    /// What vertex `v` costs, or None where it is closed.
+    /// What vertex `v` costs, or None where it is closed. It takes less than 2^31 deciseconds, some seven years.
     pub fn vertex(&self, v: u32) -> Option<DurLen>
         requires { v < length self.now.weights.vertex }
         ensures value { slice_get self.now.weights.vertex v ≡ Some result }
         ensures unit { ForSome result (λ x. durlen_ops.units x 1) }
+        ensures short { ForSome result (λ x. x.duration < 2 ^ 31) }
     {
         self.weights.vertex(v)
     }

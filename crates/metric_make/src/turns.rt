@@ -4,7 +4,7 @@ ghost use Rattle.std.specs.Prelude.{◌≡◌, ℕ, ◌+◌, ◌*◌, ◌<◌, �
 ghost use Rattle.std.specs.List.{slice_get};
 ghost use Rattle.std.specs.Option.{ForSome};
 ghost use Rattle.edge_graph.specs.NetworkView.{vertices_of};
-ghost use Rattle.edge_graph.specs.Vertex.{opposite};
+ghost use Rattle.road_segments.specs.Vertex.{opposite};
 ghost use Rattle.metric_make.specs.LastRows.{AreLastTurns, AreMarked, triple_eq};
 ghost use Rattle.metric_make.specs.MetricOf.{bearing_along, penalty_under, turn_cost};
 ghost use Rattle.metric_make.specs.TrafficRows.{is_turn_over};

@@ -32,6 +32,7 @@ fn cost_of(decimetres: u64, speed: u32) -> DurLen
     requires length { decimetres < 2 ^ 29 }
     ensures value { result ≡ cost_of decimetres speed }
     ensures unit { durlen_ops.units result 1 }
+    ensures short { result.duration < 2 ^ 31 }
 {
     DurLen {
         duration: (decimetres * 3600 / u64::from(speed)).max(1),
@@ -46,6 +47,7 @@ fn cost_under(decimetres: u64, speed: u32, row: Option<SpeedRow>) -> Option<DurL
     requires length { decimetres < 2 ^ 29 }
     ensures value { result ≡ cost_under decimetres speed row }
     ensures unit { ForSome result (λ x. durlen_ops.units x 1) }
+    ensures short { ForSome result (λ x. x.duration < 2 ^ 31) }
 {
     match row {
         None => Some(cost_of(decimetres, speed)),
@@ -74,6 +76,7 @@ fn cost(
     requires matched { AreMarked pair_eq (λ q. is_way (take v (vertices_of network.now)) q.0 q.1) last.old }
     ensures value { option_map (cost_at rows.now decimetres) (slice_get (vertices_of network.now) v) ≡ Some result }
     ensures unit { ForSome result (λ x. durlen_ops.units x 1) }
+    ensures short { ForSome result (λ x. x.duration < 2 ^ 31) }
     ensures rows { AreLastSpeeds rows.now last.new }
     ensures matched { AreMarked pair_eq (λ q. is_way (take (v + 1) (vertices_of network.now)) q.0 q.1) last.new }
 {
@@ -97,6 +100,7 @@ fn costs_by(
     requires matched { AreMarked pair_eq (λ q. false) last.old }
     ensures value { IfOk result (λ costs. costs ≡ map (vertex_cost rows.now) (vertices_of network.now)) }
     ensures unit { IfOk result (λ costs. All (λ o. ForSome o (λ x. durlen_ops.units x 1)) costs) }
+    ensures short { IfOk result (λ costs. All (λ o. ForSome o (λ x. x.duration < 2 ^ 31)) costs) }
     ensures rows { OnOk result (AreLastSpeeds rows.now last.new) }
     ensures matched { OnOk result (AreMarked pair_eq (λ q. is_way (vertices_of network.now) q.0 q.1) last.new) }
 {
@@ -119,6 +123,7 @@ pub(crate) fn vertex_costs(
     requires { AreSpeedsInRange rows.now }
     ensures value { IfOk result (λ found. found.costs ≡ map (vertex_cost rows.now) (vertices_of network.now)) }
     ensures unit { IfOk result (λ found. All (λ o. ForSome o (λ x. durlen_ops.units x 1)) found.costs) }
+    ensures short { IfOk result (λ found. All (λ o. ForSome o (λ x. x.duration < 2 ^ 31)) found.costs) }
     ensures unmatched { IfOk result (λ found. found.unmatched ≡ count_by (λ row. not (is_way (vertices_of network.now) row.from row.to)) rows.now) }
 {
     let mut last = last_speeds(alloc, rows)?;

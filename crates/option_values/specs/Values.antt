@@ -21,6 +21,10 @@ use Rattle.option_values.specs.declared.option_types.Overview.{Overview}
 use Rattle.option_values.specs.declared.option_types.Overview.TheVariants as overview
 use Rattle.option_values.specs.declared.option_types.ContinueStraight.{ContinueStraight}
 use Rattle.option_values.specs.declared.option_types.ContinueStraight.TheVariants as straight
+use Rattle.option_values.specs.declared.option_types.Source.{Source}
+use Rattle.option_values.specs.declared.option_types.Source.TheVariants as source
+use Rattle.option_values.specs.declared.option_types.Destination.{Destination}
+use Rattle.option_values.specs.declared.option_types.Destination.TheVariants as destination
 use Rattle.option_values.specs.declared.option_types.TableAnnotations.{TableAnnotations}
 use Rattle.option_values.specs.declared.option_types.Chosen.{Chosen}
 use Rattle.option_values.specs.declared.option_types.Chosen.TheVariants as chosen
@@ -148,6 +152,18 @@ abbrev pub continue_straight_of : List ℕ → Option ContinueStraight
 continue_straight_of text =
     if bytes_eq text (codes "default") then Some straight.Default
     else (if bytes_eq text (codes "false") then Some straight.Off else None)
+
+-- a trip begins anywhere or at the first coordinate
+abbrev pub source_of : List ℕ → Option Source
+source_of text =
+    if bytes_eq text (codes "any") then Some source.Any
+    else (if bytes_eq text (codes "first") then Some source.First else None)
+
+-- and ends anywhere or at the last
+abbrev pub destination_of : List ℕ → Option Destination
+destination_of text =
+    if bytes_eq text (codes "any") then Some destination.Any
+    else (if bytes_eq text (codes "last") then Some destination.Last else None)
 
 -- one of the two, or both in either order
 abbrev pub table_annotations_of : List ℕ → Option TableAnnotations

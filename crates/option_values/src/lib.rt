@@ -23,10 +23,11 @@ pub use cutting::cut;
 pub use entries::{Entry, are_read, hints_each, one_each};
 pub use entry_lists::{Approaches, Bearings, Hints, Indexes, Radiuses};
 pub use option_types::{
-    Alternatives, Approach, Bearing, Chosen, ContinueStraight, Geometries, Overview,
-    RouteAnnotations, Snapping, TableAnnotations,
+    Alternatives, Approach, Bearing, Chosen, ContinueStraight, Destination, Geometries, Overview,
+    RouteAnnotations, Snapping, Source, TableAnnotations,
 };
 pub use values::{
-    alternatives_of, continue_straight_of, every_annotation, geometries_of, number_of, overview_of,
-    route_annotations_of, since_of, snapping_of, table_annotations_of, truth_of,
+    alternatives_of, continue_straight_of, destination_of, every_annotation, geometries_of,
+    number_of, overview_of, route_annotations_of, since_of, snapping_of, source_of,
+    table_annotations_of, truth_of,
 };

@@ -76,6 +76,24 @@ pub enum ContinueStraight {
     Off,
 }
 
+/// At which coordinate a trip begins.
+#[derive(Clone, Copy, Debug, PartialEq, Eq)]
+pub enum Source {
+    /// At any.
+    Any,
+    /// At the first.
+    First,
+}
+
+/// At which coordinate a trip ends, before it goes back to its beginning if it does.
+#[derive(Clone, Copy, Debug, PartialEq, Eq)]
+pub enum Destination {
+    /// At any.
+    Any,
+    /// At the last.
+    Last,
+}
+
 /// What a table tells of each of its routes.
 #[derive(Clone, Copy, Debug, PartialEq, Eq)]
 pub struct TableAnnotations {

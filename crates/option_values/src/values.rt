@@ -2,11 +2,11 @@
 
 ghost use Rattle.std.specs.Prelude.{◌≡◌, ◌≤◌, IfSome};
 ghost use Rattle.std.specs.List.{list_all};
-ghost use Rattle.option_values.specs.Values.{truth_of, snapping_of, since_of, number_of, alternatives_of, geometries_of, overview_of, continue_straight_of, table_annotations_of, route_annotations_of, is_annotation, has, names_of, every_annotation, annotations_named};
+ghost use Rattle.option_values.specs.Values.{truth_of, snapping_of, since_of, number_of, alternatives_of, geometries_of, overview_of, continue_straight_of, source_of, destination_of, table_annotations_of, route_annotations_of, is_annotation, has, names_of, every_annotation, annotations_named};
 
 use crate::option_types::{
-    Alternatives, ContinueStraight, Geometries, Overview, RouteAnnotations, Snapping,
-    TableAnnotations,
+    Alternatives, ContinueStraight, Destination, Geometries, Overview, RouteAnnotations, Snapping,
+    Source, TableAnnotations,
 };
 use crate::whole_numbers::{number_up_to, short_number_of};
 
@@ -91,6 +91,28 @@ pub fn continue_straight_of(text: &str) -> Option<ContinueStraight>
     match text {
         "default" => Some(ContinueStraight::Default),
         "false" => Some(ContinueStraight::Off),
+        _ => None,
+    }
+}
+
+/// `any` or `first`.
+pub fn source_of(text: &str) -> Option<Source>
+    ensures { result ≡ source_of text.now }
+{
+    match text {
+        "any" => Some(Source::Any),
+        "first" => Some(Source::First),
+        _ => None,
+    }
+}
+
+/// `any` or `last`.
+pub fn destination_of(text: &str) -> Option<Destination>
+    ensures { result ≡ destination_of text.now }
+{
+    match text {
+        "any" => Some(Destination::Any),
+        "last" => Some(Destination::Last),
         _ => None,
     }
 }

@@ -13,7 +13,7 @@ use Rattle.road_base.specs.declared.coordinates.Point.{Point}
 use Rattle.road_base.specs.declared.segments.Place.{Place}
 use Rattle.geo_integer.specs.Position.{position_of}
 use Rattle.road_places.specs.Places.{IsPlaceOn}
-use Rattle.road_places.specs.RoadMetric.{RoadMetric, road_of}
+use Rattle.metric_make.specs.RoadMetric.{RoadMetric, road_of}
 use Rattle.road_places.specs.declared.walks.Route.{Route}
 use Rattle.search_graph.specs.declared.costs.DurLen.{DurLen}
 use Rattle.search_graph.specs.Digraph.{Digraph, Weighting}
@@ -25,7 +25,7 @@ use Rattle.metric_make.specs.MetricOf.{MetricView}
 use Rattle.reply_texts.specs.Replies.{route_reply}
 use Rattle.reply_texts.specs.LegLaws.{IsToldInSteps, legs_told-steps}
 use Rattle.reply_texts.specs.RouteLegs.{ArePermitted, AreSmall, legs_told}
-use Rattle.reply_texts.specs.Steps.{driving_side}
+use Rattle.step_texts.specs.Steps.{driving_side}
 use Rattle.reply_texts.specs.Waypoints.{waypoints_of}
 use Rattle.road_walks.specs.Least.{most_units}
 use Rattle.road_walks.specs.Legs.{AreAlong, AreWithinUnits, IsLegFault}
@@ -41,6 +41,7 @@ use Rattle.url_read.specs.declared.requests.Request.{Request}
 use Rattle.url_read.specs.declared.requests.RouteOptions.{RouteOptions}
 use Rattle.url_read.specs.declared.requests.Service.{Service}
 use Rattle.url_read.specs.declared.requests.Service.TheVariants as service
+use Rattle.url_read.specs.declared.requests.Telling.{Telling}
 use Rattle.reply_core.specs.Asked.{asked_in, filter_of, filters_of}
 use Rattle.reply_core.specs.Faults.{IsFoundFault, IsPlaceFault, leg_fault, place_fault}
 use Rattle.reply_core.specs.Lacks.{HasLegs, IsRecent, IsStray, LacksPlace, StandsFor}
@@ -102,11 +103,13 @@ pub some-of : (asked : Service) (count : ℕ) → fewest (name_of_service asked)
 some-of (service.Route own) count h = omega (arith, h)
 some-of (service.Table own) count h = omega (arith, h)
 some-of (service.Nearest own) count h = omega (arith, h)
+some-of (service.Trip own) count h = omega (arith, h)
 
 pub few-of : (asked : Service) (count : ℕ) → count ≤ most (name_of_service asked) → count < 2 ^ 32
 few-of (service.Route own) count h = omega (arith, h)
 few-of (service.Table own) count h = omega (arith, h)
 few-of (service.Nearest own) count h = omega (arith, h)
+few-of (service.Trip own) count h = omega (arith, h)
 
 -- one for the nearest places has one
 pub one-of : (request : Request) (own : NearestOptions) → request.service ≡ service.Nearest own → IsFitting request → length request.points ≡ 1
@@ -132,13 +135,13 @@ leg-fault road number request own places (leg.NoWalk n) is recent snapped first 
 leg-fault road number request own places leg.Memory is recent snapped first = tt
 
 -- the routes of a network of so many segments at most cost so little that their steps can be added up
-pub few-units : (network : NetworkView) (routes : List Route) → length network.segments ≤ 2 ^ 22 → AreWithinUnits (most_units network) routes → AreSmall routes
+pub few-units : (network : NetworkView) (routes : List Route) → length network.segments ≤ 2 ^ 26 → AreWithinUnits (most_units network) routes → AreSmall routes
 few-units network routes few within =
     All-weaker (λ (route : Route). durlen_ops.units route.cost (most_units network)) (λ (route : Route). durlen_ops.units route.cost (2 ^ 30))
     (λ route h. durlen_laws.units_more route.cost (most_units network) (2 ^ 30) h (omega (arith, few))) routes within
 
 -- a network and costs that are a road's
-road-same : (road : RoadMetric) (network : NetworkView) (base : MetricView) → network ≡ road.network → base.weights ≡ road.weights → road_of network base ≡ road
+pub road-same : (road : RoadMetric) (network : NetworkView) (base : MetricView) → network ≡ road.network → base.weights ≡ road.weights → road_of network base ≡ road
 road-same road network base n w = ap₂ {C = RoadMetric} (λ (x : NetworkView) (y : Weighting DurLen). record { network = x; weights = y }) n w
 
 -- what leads along the legs of one road leads along those of the same one
@@ -149,13 +152,13 @@ permitted-on road network base places given routes walked n w p r along =
     (subst (λ (x : List Place). ArePermitted road x walked) (sym p) (subst (λ (x : List Route). ArePermitted road places x) (sym r) along))
 
 -- and the reply is the same
-pub route-told : (number : ℕ) (skip : Bool) (own : RouteOptions) (points : List Point) (road : RoadMetric) (network : NetworkView) (base : MetricView) (places given : List Place) (routes walked : List Route)
+pub route-told : (number : ℕ) (skip : Bool) (telling : Telling) (points : List Point) (road : RoadMetric) (network : NetworkView) (base : MetricView) (places given : List Place) (routes walked : List Route)
     → network ≡ road.network → base.weights ≡ road.weights → given ≡ places → walked ≡ routes
-    → route_reply number skip own (driving_side network.profile) (legs_told (road_of network base) given walked) (waypoints_of network.segments points given) ≡ route_reply number skip own (driving_side road.network.profile) (legs_told road places routes) (waypoints_of road.network.segments points places)
-route-told number skip own points road network base places given routes walked n w p r =
-    ap (λ (x : RoadMetric). route_reply number skip own (driving_side x.network.profile) (legs_told x given walked) (waypoints_of x.network.segments points given)) (road-same road network base n w)
-    ∙ ap (λ (x : List Place). route_reply number skip own (driving_side road.network.profile) (legs_told road x walked) (waypoints_of road.network.segments points x)) p
-    ∙ ap (λ (x : List Route). route_reply number skip own (driving_side road.network.profile) (legs_told road places x) (waypoints_of road.network.segments points places)) r
+    → route_reply number skip telling (driving_side network.profile) (legs_told (road_of network base) given walked) (waypoints_of network.segments points given) ≡ route_reply number skip telling (driving_side road.network.profile) (legs_told road places routes) (waypoints_of road.network.segments points places)
+route-told number skip telling points road network base places given routes walked n w p r =
+    ap (λ (x : RoadMetric). route_reply number skip telling (driving_side x.network.profile) (legs_told x given walked) (waypoints_of x.network.segments points given)) (road-same road network base n w)
+    ∙ ap (λ (x : List Place). route_reply number skip telling (driving_side road.network.profile) (legs_told road x walked) (waypoints_of road.network.segments points x)) p
+    ∙ ap (λ (x : List Route). route_reply number skip telling (driving_side road.network.profile) (legs_told road places x) (waypoints_of road.network.segments points places)) r
 
 -- and its legs are told in steps that add up
 pub told-in-steps : (road : RoadMetric) (network : NetworkView) (graph : Digraph) (places given : List Place) (routes : List Route) → network ≡ road.network → graph ≡ graph_of network → given ≡ places

@@ -1,3 +1,4 @@
 pub mod AnswerLemmas
 pub mod ChosenLemmas
 pub mod RequestLemmas
+pub mod TripLemmas

@@ -1,7 +1,7 @@
 -- What an answer to a target, or to a line, is, over a road network under one metric that was published under
 -- a number. The cases exclude each other and leave nothing out: the line is of no form; the target is refused;
--- the request asks for a higher number; a coordinate has no place; a leg of a route has no permitted walk; there
--- is what the request asks for.
+-- the request asks for a higher number; a coordinate has no place; a leg of a route has no permitted walk, or each
+-- trip has such a leg; there is what the request asks for.
 use Rattle.std.specs.Prelude.{◌≡◌, ℕ, ◌<◌, ◌⊎◌, List, [], ◌∷◌, All, map, Option, Some, None, Result, Ok, Err, length}
 use Rattle.std.proofs.Common.{inl, inr, refl}
 use Rattle.std.specs.List.{AllZip}
@@ -21,26 +21,30 @@ use Rattle.url_read.specs.declared.requests.RouteOptions.{RouteOptions}
 use Rattle.url_read.specs.declared.requests.Service.{Service}
 use Rattle.url_read.specs.declared.requests.Service.TheVariants as service
 use Rattle.url_read.specs.declared.requests.TableOptions.{TableOptions}
-use Rattle.road_places.specs.RoadMetric.{RoadMetric}
+use Rattle.url_read.specs.declared.requests.TripOptions.{TripOptions}
+use Rattle.metric_make.specs.RoadMetric.{RoadMetric}
 use Rattle.road_places.specs.declared.walks.Route.{Route}
 use Rattle.road_walks.specs.Legs.{AreAlong, AreLeastRoutes}
 use Rattle.road_walks.specs.Tables.{AreRowsOf}
+use Rattle.road_trips.specs.Trips.{IsBestThrough, stops_at}
+use Rattle.trip_query.specs.declared.trips.Trip.{Trip}
 use Rattle.snap_index.specs.Firsts.{AreFirsts}
 use Rattle.snap_index.specs.declared.filters.Filter.{Filter}
 use Rattle.snap_index.specs.declared.snapping.Snapped.{Snapped}
-use Rattle.reply_texts.specs.Codes.{lack_code}
-use Rattle.reply_texts.specs.Refusals.{bad_request_value, lack_value, refusal_value}
-use Rattle.reply_texts.specs.Replies.{nearest_reply, route_reply, table_reply}
+use Rattle.refusal_texts.specs.Codes.{lack_code}
+use Rattle.refusal_texts.specs.Refusals.{bad_request_value, lack_value, refusal_value}
+use Rattle.reply_texts.specs.Replies.{nearest_reply, route_reply, table_reply, trip_reply}
 use Rattle.reply_texts.specs.LegLaws.{IsToldInSteps}
 use Rattle.reply_texts.specs.RouteLegs.{legs_told}
-use Rattle.reply_texts.specs.Steps.{driving_side}
-use Rattle.reply_texts.specs.Waypoints.{waypoints_of}
-use Rattle.reply_texts.specs.declared.reply_codes.Code.{Code}
-use Rattle.reply_texts.specs.declared.reply_codes.Code.TheVariants as code
-use Rattle.reply_texts.specs.declared.lacks.Lack.{Lack}
+use Rattle.step_texts.specs.Steps.{driving_side}
+use Rattle.reply_texts.specs.Waypoints.{trip_waypoints_of, waypoints_of}
+use Rattle.refusal_texts.specs.declared.reply_codes.Code.{Code}
+use Rattle.refusal_texts.specs.declared.reply_codes.Code.TheVariants as code
+use Rattle.refusal_texts.specs.declared.lacks.Lack.{Lack}
 use Rattle.reply_core.specs.Asked.{asked_in, chosen_from}
 use Rattle.reply_core.specs.Lacks.{IsLack, IsRecent, StandsFor}
 use Rattle.reply_core.specs.Request.{target_of}
+use Rattle.reply_core.specs.TripAsked.{rule_of}
 use Rattle.reply_core.specs.declared.answers.Answer.{Answer}
 
 -- the status of an answer of this code: 200 for what was asked for alone
@@ -82,7 +86,7 @@ pub record SaysRoute (road : RoadMetric) (number : ℕ) (request : Request) (own
   pub least : AreLeastRoutes road answer.places routes
   pub walks : answer.walks ≡ map (λ route. route.walk) routes
   pub in_steps : All IsToldInSteps (legs_told road answer.places routes)
-  pub tells : Tells answer code.Ok (route_reply number request.skip_waypoints own (driving_side road.network.profile) (legs_told road answer.places routes) (waypoints_of road.network.segments request.points answer.places))
+  pub tells : Tells answer code.Ok (route_reply number request.skip_waypoints own.telling (driving_side road.network.profile) (legs_told road answer.places routes) (waypoints_of road.network.segments request.points answer.places))
 
 -- the waypoints of the chosen ones of a request's coordinates, which have these places
 abbrev pub ends_told : RoadMetric → Request → Chosen → List Place → List JsonValue
@@ -112,11 +116,27 @@ pub record SaysNearest (road : RoadMetric) (number : ℕ) (request : Request) (o
   pub walks : answer.walks ≡ []
   pub tells : Tells answer code.Ok (nearest_reply number road.network.segments coordinate answer.places)
 
+-- the metric is recent enough; the places of the coordinates; of the trips through these the best one, by what least
+-- permitted walks cost, a permitted walk along each of its legs, of which none could cost less, and the text of
+-- exactly these
+pub record SaysTrip (road : RoadMetric) (number : ℕ) (request : Request) (own : TripOptions) (answer : Answer) : Type 0 where
+  pub recent : IsRecent number request
+  pub snapped : AllZip (StandsFor road) (asked_in request) answer.places
+  pub trip : Trip DurLen
+  pub best : IsBestThrough road answer.places (rule_of own) (Some trip)
+  pub routes : List Route
+  pub along : AreAlong road (stops_at answer.places own.roundtrip trip.order) routes
+  pub least : AreLeastRoutes road (stops_at answer.places own.roundtrip trip.order) routes
+  pub walks : answer.walks ≡ map (λ route. route.walk) routes
+  pub in_steps : All IsToldInSteps (legs_told road (stops_at answer.places own.roundtrip trip.order) routes)
+  pub tells : Tells answer code.Ok (trip_reply number request.skip_waypoints own.telling (driving_side road.network.profile) (legs_told road (stops_at answer.places own.roundtrip trip.order) routes) (trip_waypoints_of road.network.segments request.points answer.places trip.order))
+
 -- what the service was asked for
 abbrev pub SaysFound : RoadMetric → ℕ → Request → Service → Answer → Type 0
 SaysFound road number request (service.Route own) answer = SaysRoute road number request own answer
 SaysFound road number request (service.Table own) answer = SaysTable road number request own answer
 SaysFound road number request (service.Nearest own) answer = SaysNearest road number request own answer
+SaysFound road number request (service.Trip own) answer = SaysTrip road number request own answer
 
 -- the answer to a request
 abbrev pub IsReply : RoadMetric → ℕ → Request → Answer → Type 0

@@ -2,11 +2,11 @@
 use Rattle.std.specs.Prelude.{ℕ, List}
 use Rattle.road_base.specs.declared.coordinates.Point.{Point}
 use Rattle.url_read.specs.declared.requests.Request.{Request}
-use Rattle.road_places.specs.RoadMetric.{RoadMetric}
+use Rattle.metric_make.specs.RoadMetric.{RoadMetric}
 use Rattle.road_walks.specs.declared.leg_faults.LegFault.{LegFault}
 use Rattle.road_walks.specs.declared.leg_faults.LegFault.TheVariants as leg
 use Rattle.snap_index.specs.declared.filters.Filter.{Filter}
-use Rattle.reply_texts.specs.declared.lacks.Lack.TheVariants as lack
+use Rattle.refusal_texts.specs.declared.lacks.Lack.TheVariants as lack
 use Rattle.reply_core.specs.Lacks.{IsLack, IsStray}
 use Rattle.reply_core.specs.declared.lacks.PlaceFault.{PlaceFault}
 use Rattle.reply_core.specs.declared.lacks.PlaceFault.TheVariants as place

@@ -1,6 +1,6 @@
 -- What a request lacks under a metric that was published under a number. Of several that are lacking the first is
--- told: a number that is high enough, a place, for a route a walk.
-use Rattle.std.specs.Prelude.{◌≡◌, ℕ, ◌<◌, ◌≤◌, List}
+-- told: a number that is high enough, a place, for a route a walk, for a trip an order.
+use Rattle.std.specs.Prelude.{◌≡◌, ℕ, ◌<◌, ◌≤◌, List, None}
 use Rattle.std.specs.List.{AllZip}
 use Rattle.road_base.specs.declared.coordinates.Point.{Point}
 use Rattle.road_base.specs.declared.segments.Place.{Place}
@@ -8,14 +8,17 @@ use Rattle.geo_integer.specs.Position.{position_of}
 use Rattle.url_read.specs.declared.requests.Request.{Request}
 use Rattle.url_read.specs.declared.requests.Service.{Service}
 use Rattle.url_read.specs.declared.requests.Service.TheVariants as service
-use Rattle.road_places.specs.RoadMetric.{RoadMetric}
+use Rattle.url_read.specs.declared.requests.TripOptions.{TripOptions}
+use Rattle.metric_make.specs.RoadMetric.{RoadMetric}
 use Rattle.road_walks.specs.FirstFailure.{IsFirstFailure}
 use Rattle.road_walks.specs.Legs.{IsBrokenLeg}
+use Rattle.road_trips.specs.Trips.{IsBestThrough}
 use Rattle.snap_index.specs.Snapped.{IsSnapped, HasNoPlace}
 use Rattle.snap_index.specs.declared.filters.Filter.{Filter}
 use Rattle.reply_core.specs.Asked.{asked_in}
-use Rattle.reply_texts.specs.declared.lacks.Lack.{Lack}
-use Rattle.reply_texts.specs.declared.lacks.Lack.TheVariants as lack
+use Rattle.reply_core.specs.TripAsked.{rule_of}
+use Rattle.refusal_texts.specs.declared.lacks.Lack.{Lack}
+use Rattle.refusal_texts.specs.declared.lacks.Lack.TheVariants as lack
 
 -- the metric of this number is no older than the request asks
 abbrev pub IsRecent : ℕ → Request → Type 0
@@ -52,9 +55,20 @@ abbrev pub HasLegs : Service → Type 0
 HasLegs (service.Route own) = Unit {0}
 HasLegs (service.Table own) = ⊥
 HasLegs (service.Nearest own) = ⊥
+HasLegs (service.Trip own) = ⊥
+
+-- the service is `trip`, each coordinate has a place, and each order of these that is admitted has a leg without a
+-- permitted walk
+pub record LacksTrips (road : RoadMetric) (request : Request) : Type 0 where
+  pub own : TripOptions
+  pub service : request.service ≡ service.Trip own
+  pub places : List Place
+  pub snapped : AllZip (StandsFor road) (asked_in request) places
+  pub none : IsBestThrough road places (rule_of own) None
 
 -- what a request lacks under the metric of a number
 abbrev pub IsLack : RoadMetric → ℕ → Request → Lack → Type 0
 IsLack road number request (lack.Ahead since) = IsAhead number request since
 IsLack road number request (lack.Segment coordinate) = IsRecent number request × IsStray road (asked_in request) coordinate
 IsLack road number request (lack.Route leg) = HasLegs request.service × IsRecent number request × IsBroken road (asked_in request) leg
+IsLack road number request lack.Trips = IsRecent number request × LacksTrips road request

@@ -3,3 +3,4 @@ pub mod Asked
 pub mod Faults
 pub mod Lacks
 pub mod Request
+pub mod TripAsked

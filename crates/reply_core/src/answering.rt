@@ -5,14 +5,14 @@ ghost use Rattle.std.specs.Arc.{arc_value};
 ghost use Rattle.snap_index.specs.Ends.{all_ends};
 ghost use Rattle.reply_core.specs.Answers.{IsAnswer, IsLineAnswer, Refuses, code_of, status_of};
 ghost use Rattle.reply_core.specs.Request.{target_of};
-ghost use Rattle.reply_texts.specs.Refusals.{bad_request_value, refusal_value};
-ghost use Rattle.reply_texts.specs.declared.reply_codes.Code.TheVariants as code;
+ghost use Rattle.refusal_texts.specs.Refusals.{bad_request_value, refusal_value};
+ghost use Rattle.refusal_texts.specs.declared.reply_codes.Code.TheVariants as code;
 
 use crate::answers::{Answer, ReplyFault};
 use crate::request_answers::{refusal, request_answer};
 use customized::{Metric, Under};
 use metric_publish::held::Held;
-use reply_texts::{Code, bad_request_text, refusal_text};
+use refusal_texts::{Code, bad_request_text, refusal_text};
 use snap_index::Grid;
 use std::alloc::{AllocError, Global};
 use std::thread::Threads;
@@ -22,10 +22,10 @@ use url_read::{Refusal, RefusalCode, RequestFault, request};
 const LONGEST_LINE: usize = 8192;
 
 /// The answer to a target under what was published: a refusal with status 400 for a target that is no request,
-/// for a request that asks for a higher number, for the first coordinate that has no place, or for the first leg
-/// of a route that has no permitted walk, the first that applies; else, with status 200, a least route, a table of
-/// what least walks cost, its rows side by side in threads, or the nearest places. The grid is that of the metric's
-/// network.
+/// for a request that asks for a higher number, for the first coordinate that has no place, for the first leg of a
+/// route that has no permitted walk, or where each trip has such a leg, the first that applies; else, with status
+/// 200, a least route, a table of what least walks cost, its rows side by side in threads, the nearest places, or the
+/// best trip. The grid is that of the metric's network.
 ///
 /// It answers `Memory` only where memory runs out.
 pub fn answer(

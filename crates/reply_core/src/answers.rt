@@ -2,7 +2,7 @@
 
 ghost use Rattle.std.specs.Prelude.{◌≡◌};
 
-use reply_texts::Code;
+use refusal_texts::Code;
 use road_base::{Place, Text};
 use road_places::Walk;
 use std::alloc::{AllocError, AllocFailed};
@@ -109,7 +109,7 @@ pub struct Answer {
     /// where the request's coordinates are snapped to, in their order, or the nearest places of the one
     /// coordinate; empty for a refusal
     pub places: Places,
-    /// the vertices of the least route of each leg; empty for anything but a route
+    /// the vertices of the least route of each leg of a route or a trip, else empty
     pub walks: Walks,
     /// the reply's body, without a newline
     pub text: Text,

@@ -5,7 +5,7 @@ ghost use Rattle.reply_core.specs.Faults.{leg_fault, place_fault};
 ghost use Rattle.reply_core.specs.declared.lacks.PlaceFault.TheVariants as place;
 ghost use Rattle.reply_core.specs.declared.lacks.FoundFault.TheVariants as fault;
 
-use reply_texts::Lack;
+use refusal_texts::Lack;
 use road_walks::LegFault;
 use std::alloc::{AllocError, AllocFailed};
 

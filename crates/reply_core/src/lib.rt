@@ -2,14 +2,14 @@
 //!
 //! [`answer`] and [`line_answer`] do all of it, and `specs/Answers` says what they answer, by cases. `specs/`
 //! has the definitions, to be read in this order: `Request` (which lines have a target; what a target asks
-//! for is told by `url_read`), `Asked` (the coordinates with their filters), `Lacks` (what a request may lack
-//! under a metric) and `Answers` (what is due to each service). Where a coordinate stands on the roads is told by
+//! for is told by `url_read`), `Asked` (the coordinates with their filters), `TripAsked` (which orders of them a trip
+//! may have), `Lacks` (what a request may lack under a metric) and `Answers` (what is due to each service). Where a coordinate stands on the roads is told by
 //! `snap_index`, which walks are permitted and what they cost by `road_places`, which of them are least by
-//! `road_walks`, what a reply's text says by `reply_texts`. Coordinates are microdegrees, lengths decimetres,
+//! `road_walks`, which trips are best by `road_trips`, what a reply's text says by `reply_texts`. Coordinates are microdegrees, lengths decimetres,
 //! durations deciseconds.
 //!
-//! The requests and replies are those of OSRM's HTTP API, version 1, for the services `route`, `table` and
-//! `nearest`.
+//! The requests and replies are those of OSRM's HTTP API, version 1, for the services `route`, `table`, `nearest`
+//! and `trip`.
 #![tactic(auto)]
 
 mod answering;
@@ -21,7 +21,9 @@ mod nearest_answers;
 mod request_answers;
 mod route_answers;
 mod table_answers;
+mod trip_answers;
+mod trip_rules;
 
 pub use answering::{answer, line_answer};
 pub use answers::{Answer, Places, ReplyFault, Walks};
-pub use reply_texts::Code;
+pub use refusal_texts::Code;

@@ -13,8 +13,9 @@ use crate::lacks::FoundFault;
 use crate::nearest_answers::nearest_answer;
 use crate::route_answers::route_answer;
 use crate::table_answers::table_answer;
+use crate::trip_answers::trip_answer;
 use customized::Under;
-use reply_texts::{Code, Lack, lack_text};
+use refusal_texts::{Code, Lack, lack_text};
 use road_base::Text;
 use snap_index::Grid;
 use std::alloc::Global;
@@ -86,6 +87,7 @@ fn found_answer(
         Service::Route(own) => route_answer(alloc, under, number, grid, request, own),
         Service::Table(own) => table_answer(rt, alloc, under, number, grid, request, own),
         Service::Nearest(own) => nearest_answer(alloc, under, number, grid, request, own),
+        Service::Trip(own) => trip_answer(rt, alloc, under, number, grid, request, own),
     }
 }
 

@@ -10,9 +10,9 @@ ghost use Rattle.url_read.specs.declared.requests.Service.TheVariants as service
 ghost use Rattle.reply_texts.specs.Replies.{route_reply};
 ghost use Rattle.reply_texts.specs.LegLaws.{IsToldInSteps};
 ghost use Rattle.reply_texts.specs.RouteLegs.{AreSmall, legs_told};
-ghost use Rattle.reply_texts.specs.Steps.{driving_side};
+ghost use Rattle.step_texts.specs.Steps.{driving_side};
 ghost use Rattle.reply_texts.specs.Waypoints.{waypoints_of};
-ghost use Rattle.reply_texts.specs.declared.reply_codes.Code.TheVariants as code;
+ghost use Rattle.refusal_texts.specs.declared.reply_codes.Code.TheVariants as code;
 ghost use Rattle.reply_core.specs.Answers.{SaysRoute, Tells, status_of};
 ghost use Rattle.reply_core.specs.Faults.{IsFoundFault};
 ghost use Rattle.reply_core.specs.Lacks.{IsRecent};
@@ -21,7 +21,8 @@ use crate::answers::{Answer, Places, Walks};
 use crate::asked_places::places_of;
 use crate::lacks::FoundFault;
 use customized::Under;
-use reply_texts::{Code, route_text};
+use refusal_texts::Code;
+use reply_texts::route_text;
 use road_base::{Place, Text};
 use road_places::{Route, Walk};
 use road_walks::least_routes;
@@ -74,13 +75,16 @@ fn told(
     ensures places { IfOk result (λ answer. answer.places ≡ places.items) }
     ensures walks { IfOk result (λ answer. answer.walks ≡ map (λ route. route.walk) routes.items) }
     ensures in_steps { IfOk result (λ answer. All IsToldInSteps (legs_told under.now.road answer.places routes.items)) }
-    ensures tells { IfOk result (λ answer. Tells answer code.Ok (route_reply number request.now.skip_waypoints own.now (driving_side under.now.road.network.profile) (legs_told under.now.road places.items routes.items) (waypoints_of under.now.road.network.segments request.now.points places.items))) }
+    ensures tells { IfOk result (λ answer. Tells answer code.Ok (route_reply number request.now.skip_waypoints own.now.telling (driving_side under.now.road.network.profile) (legs_told under.now.road places.items routes.items) (waypoints_of under.now.road.network.segments request.now.points places.items))) }
 {
     let (network, base) = (under.network(), under.base());
     // by these the steps are proved to add up
     let turns = network.graph();
     turns.known();
-    let text = route_text(alloc, network, base, number, request, own, &places, &routes)?;
+    let telling = &own.telling;
+    let text = route_text(
+        alloc, network, base, number, request, telling, &places, &routes,
+    )?;
     let walks = walks_of(alloc, routes)?;
     Ok(Answer {
         code: Code::Ok,
@@ -91,8 +95,8 @@ fn told(
     })
 }
 
-// The walks of these routes.
-fn walks_of(alloc: Global, routes: Vec<Route>) -> Result<Vec<Walk>, AllocError>
+/// The walks of these routes.
+pub(crate) fn walks_of(alloc: Global, routes: Vec<Route>) -> Result<Vec<Walk>, AllocError>
     ensures { IfOk result (λ walks. walks.items ≡ map (λ route. route.walk) routes.items) }
 {
     let mut walks = Vec::with_capacity(alloc, routes.len())?;

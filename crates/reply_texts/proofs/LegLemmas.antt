@@ -11,11 +11,10 @@ use Rattle.road_base.specs.declared.coordinates.Point.{Point}
 use Rattle.road_base.specs.declared.segments.Place.{Place}
 use Rattle.search_graph.specs.declared.costs.DurLen.{DurLen}
 use Rattle.road_places.specs.Permitted.{IsPermitted}
-use Rattle.road_places.specs.RoadMetric.{RoadMetric}
+use Rattle.metric_make.specs.RoadMetric.{RoadMetric}
 use Rattle.road_places.specs.declared.walks.Route.{Route}
 use Rattle.route_steps.specs.Steps.{joined}
-use Rattle.reply_texts.specs.Legs.{Leg}
-use Rattle.reply_texts.specs.Lines.{points_behind}
+use Rattle.reply_texts.specs.Legs.{Leg, points_behind}
 use Rattle.reply_texts.specs.RouteLegs.{ArePermitted, IsPermittedLeg, ends_and_routes, leg_told}
 
 -- what holds of two elements side by side

@@ -1,7 +1,11 @@
 -- What the network tells of a place is what its waypoint says.
-use Rattle.std.proofs.Common.{◌≡◌, ℕ, ℤ, ◌+◌, ◌*◌, ◌/◌, ◌<◌, List, [], ◌∷◌, length, refl, sym, ap, ap₂, ◌∙◌, arith, get_or}
+use Rattle.std.proofs.Common.{◌≡◌, ℕ, ℤ, ◌+◌, ◌*◌, ◌/◌, ◌<◌, ◌≤◌, Bool, true, false, cond, nat_lt, not, List, [], ◌∷◌, length, refl, sym, ap, ap₂, ◌∙◌, arith, get_or}
 use Rattle.std.specs.Prelude.{Option, Some, None, codes, option_map}
-use Rattle.std.specs.List.{slice_get, zip}
+use Rattle.std.specs.List.{enumerate_from, position, position_or_len, slice_get, zip}
+use Rattle.std.specs.Option.{unwrap_or}
+use Rattle.std.proofs.lemmas.Bool.Decides.{nat_tests}
+use Rattle.std.proofs.lemmas.List.FromFn.{get_or-enumerate_from}
+use Rattle.std.proofs.lemmas.List.Sums.{prefix_len-le-length}
 use Rattle.std.proofs.lemmas.Option.{same_Some, slice_get-get_or}
 use Rattle.std.proofs.lemmas.Slice.Zip.{get_or-zip}
 use Rattle.road_base.specs.declared.coordinates.Point.{Point}
@@ -9,9 +13,9 @@ use Rattle.road_base.specs.declared.segments.Place.{Place}
 use Rattle.geo_integer.specs.Position.{Position, position_of}
 use Rattle.geo_integer.specs.Plane.{distance_of}
 use Rattle.geo_integer.specs.Project.{position_at}
-use Rattle.edge_graph.specs.Laws.{vertices-even}
-use Rattle.edge_graph.specs.Segment.{Segment}
-use Rattle.edge_graph.specs.Vertex.{Vertex, vertices}
+use Rattle.road_segments.specs.Laws.{vertices-even}
+use Rattle.road_segments.specs.Segment.{Segment}
+use Rattle.road_segments.specs.Vertex.{Vertex, vertices}
 use Rattle.json_text.specs.Values.{JsonValue, whole}
 use Rattle.json_text.specs.Wholes.{array_of}
 use Rattle.reply_texts.specs.Waypoints.{members_on, nodes_on, place_members}
@@ -59,3 +63,17 @@ nodes-is segments k tail head (Some x) is t h lt =
 -- the pair of a number
 pub pair-at : {A B : Type 0} (xs : List A) (ys : List B) (k : ℕ) (x : A) (y : B) → x ≡ get_or xs k x → y ≡ get_or ys k y → k < length xs → k < length ys → get_or (zip xs ys) k (x, y) ≡ (x, y)
 pair-at xs ys k x y left right lx ly = get_or-zip xs ys k (x, y) lx ly ∙ sym (ap₂ (λ a b. (a, b)) left right)
+
+-- the same with its number in front
+pub numbered-at : {A : Type 0} (xs : List A) (k : ℕ) (x : A) → get_or xs k x ≡ x → k < length xs → get_or (enumerate_from 0 xs) k (k, x) ≡ (k, x)
+numbered-at xs k x is lt =
+    let first : 0 + k ≡ k = omega arith in
+    get_or-enumerate_from 0 xs k (k, x) lt ∙ ap₂ (λ n y. (n, y)) first is
+
+-- where none passes, the length stands for the first that does
+or-length : (b : Bool) (q n : ℕ) → nat_lt q n ≡ b → q ≤ n → unwrap_or (cond b (Some q) None) n ≡ q
+or-length true q n lt most = refl
+or-length false q n lt most = let more : n ≤ q = grind (arith, nat_tests) in omega arith
+
+pub position-or-length : {X : Type 0} (p : X → Bool) (xs : List X) → unwrap_or (position p xs) (length xs) ≡ position_or_len p xs
+position-or-length p xs = or-length (nat_lt (position_or_len p xs) (length xs)) (position_or_len p xs) (length xs) refl (prefix_len-le-length (λ x. not (p x)) xs)

@@ -7,7 +7,7 @@ use Rattle.search_graph.specs.Faults.{AllInRange}
 use Rattle.edge_graph.specs.Turn.{IsSimple}
 use Rattle.road_places.specs.Paid.{total_of}
 use Rattle.road_places.specs.Places.{IsPlaceOn}
-use Rattle.road_places.specs.RoadMetric.{RoadMetric}
+use Rattle.metric_make.specs.RoadMetric.{RoadMetric}
 use Rattle.road_places.specs.declared.walks.Route.{Route}
 use Rattle.route_steps.specs.StepLaws.{steps_along-cost, steps_along-line}
 use Rattle.route_steps.specs.Steps.{joined}

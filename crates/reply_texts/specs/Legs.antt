@@ -1,5 +1,5 @@
 -- Routes and their legs (OSRM's HTTP API, version 1).
-use Rattle.std.specs.Prelude.{ℕ, ℤ, ◌||◌, Bool, List, [], ◌∷◌, ◌++◌, codes, map}
+use Rattle.std.specs.Prelude.{ℕ, zero, suc, ℤ, ◌||◌, Bool, List, [], ◌∷◌, ◌++◌, codes, drop, map, sum_by}
 use Rattle.road_base.specs.declared.coordinates.Point.{Point}
 use Rattle.search_graph.specs.declared.costs.DurLen.{DurLen}
 use Rattle.json_text.specs.Values.{JsonValue, text, whole}
@@ -7,14 +7,15 @@ use Rattle.json_text.specs.Wholes.{array_of, object_of, optional_member}
 use Rattle.option_values.specs.declared.option_types.RouteAnnotations.{RouteAnnotations}
 use Rattle.route_steps.specs.Steps.{joined}
 use Rattle.route_steps.specs.declared.step_lists.Step.{Step}
-use Rattle.url_read.specs.declared.requests.RouteOptions.{RouteOptions}
+use Rattle.url_read.specs.declared.requests.Telling.{Telling}
 use Rattle.reply_texts.specs.Costs.{costs_value}
-use Rattle.reply_texts.specs.Lines.{overview_line}
+use Rattle.step_texts.specs.Lines.{overview_line}
 use Rattle.reply_texts.specs.Optional.{member_if}
-use Rattle.reply_texts.specs.Steps.{steps_value}
-use Rattle.reply_texts.specs.Totals.{leg_totals, route_totals, totals_members}
+use Rattle.step_texts.specs.Steps.{steps_value}
+use Rattle.step_texts.specs.Totals.{leg_totals, totals_members}
+use Rattle.step_texts.specs.declared.totals.Totals.{Totals}
 use Rattle.reply_texts.specs.declared.cost_parts.CostPart.TheVariants as part
-use Rattle.reply_texts.specs.declared.driving_sides.DrivingSide.{DrivingSide}
+use Rattle.step_texts.specs.declared.driving_sides.DrivingSide.{DrivingSide}
 
 -- a leg of a route: what it costs; what is paid of each of its vertices, and the nodes that these join; the points
 -- of its line; and its steps
@@ -42,19 +43,32 @@ annotation_value asked paid nodes = object_of (
     ++ member_if asked.speed (codes "speed") (costs_value part.Speed paid)
     )
 
+-- the sums over the legs of a route
+abbrev pub route_totals : List DurLen → Totals
+route_totals costs = record {
+  length = sum_by (λ cost. cost.length) costs;
+  duration = sum_by (λ cost. cost.duration) costs;
+  weight = sum_by (λ cost. cost.duration) costs;
+}
+
+-- of a leg's points those that stand behind the legs before it, of which there are so many
+abbrev pub points_behind : ℕ → List Point → List Point
+points_behind zero points = points
+points_behind (suc legs) points = drop 1 points
+
 -- a leg, driven on this side of the road
-unfoldable pub leg_value : RouteOptions → DrivingSide → Leg → JsonValue
-leg_value options side leg = object_of (
+unfoldable pub leg_value : Telling → DrivingSide → Leg → JsonValue
+leg_value telling side leg = object_of (
     totals_members (leg_totals leg.cost)
-    ++ (codes "summary", text []) ∷ (codes "steps", steps_value options.steps options.geometries side leg.steps)
-    ∷ member_if (is_annotated options.annotations) (codes "annotation") (annotation_value options.annotations leg.paid leg.nodes)
+    ++ (codes "summary", text []) ∷ (codes "steps", steps_value telling.steps telling.geometries side leg.steps)
+    ∷ member_if (is_annotated telling.annotations) (codes "annotation") (annotation_value telling.annotations leg.paid leg.nodes)
     )
 
 -- a route of these legs, with the line through all of them
-unfoldable pub route_value : RouteOptions → DrivingSide → List Leg → JsonValue
-route_value options side legs = object_of (
+unfoldable pub route_value : Telling → DrivingSide → List Leg → JsonValue
+route_value telling side legs = object_of (
     totals_members (route_totals (map (λ leg. leg.cost) legs))
     ++ (codes "weight_name", text (codes "duration"))
-    ∷ (optional_member (codes "geometry") (overview_line options.overview options.geometries (joined (map (λ leg. leg.points) legs)))
-    ++ (codes "legs", array_of (map (leg_value options side) legs)) ∷ [])
+    ∷ (optional_member (codes "geometry") (overview_line telling.overview telling.geometries (joined (map (λ leg. leg.points) legs)))
+    ++ (codes "legs", array_of (map (leg_value telling side) legs)) ∷ [])
     )

@@ -1,11 +1,6 @@
-pub mod Codes
-pub mod Refusals
 pub mod Optional
 pub mod Waypoints
 pub mod Costs
-pub mod Totals
-pub mod Lines
-pub mod Steps
 pub mod Legs
 pub mod RouteLegs
 pub mod LegLaws

@@ -4,19 +4,19 @@ use Rattle.std.specs.Prelude.{ℕ, Bool, not, List, [], ◌∷◌, ◌++◌, cod
 use Rattle.road_base.specs.declared.coordinates.Point.{Point}
 use Rattle.road_base.specs.declared.segments.Place.{Place}
 use Rattle.search_graph.specs.declared.costs.DurLen.{DurLen}
-use Rattle.edge_graph.specs.Segment.{Segment}
+use Rattle.road_segments.specs.Segment.{Segment}
 use Rattle.json_text.specs.Values.{JsonValue}
 use Rattle.json_text.specs.Wholes.{array_of, object_of}
 use Rattle.option_values.specs.declared.option_types.TableAnnotations.{TableAnnotations}
-use Rattle.url_read.specs.declared.requests.RouteOptions.{RouteOptions}
+use Rattle.url_read.specs.declared.requests.Telling.{Telling}
 use Rattle.reply_texts.specs.Costs.{rows_value}
 use Rattle.reply_texts.specs.Legs.{Leg, route_value}
 use Rattle.reply_texts.specs.Optional.{member_if}
-use Rattle.reply_texts.specs.Refusals.{code_member, version_member}
+use Rattle.refusal_texts.specs.Refusals.{code_member, version_member}
 use Rattle.reply_texts.specs.Waypoints.{neighbour_of}
 use Rattle.reply_texts.specs.declared.cost_parts.CostPart.TheVariants as part
-use Rattle.reply_texts.specs.declared.driving_sides.DrivingSide.{DrivingSide}
-use Rattle.reply_texts.specs.declared.reply_codes.Code.TheVariants as code
+use Rattle.step_texts.specs.declared.driving_sides.DrivingSide.{DrivingSide}
+use Rattle.refusal_texts.specs.declared.reply_codes.Code.TheVariants as code
 
 -- a result, under a metric of this number
 abbrev pub found_value : ℕ → List (List ℕ × JsonValue) → JsonValue
@@ -27,9 +27,14 @@ abbrev pub waypoints_member : Bool → List ℕ → List JsonValue → List (Lis
 waypoints_member skip name waypoints = member_if (not skip) name (array_of waypoints)
 
 -- a route of these legs, driven on this side of the road
-unfoldable pub route_reply : ℕ → Bool → RouteOptions → DrivingSide → List Leg → List JsonValue → JsonValue
-route_reply number skip options side legs waypoints =
-    found_value number ((codes "routes", array_of (route_value options side legs ∷ [])) ∷ waypoints_member skip (codes "waypoints") waypoints)
+unfoldable pub route_reply : ℕ → Bool → Telling → DrivingSide → List Leg → List JsonValue → JsonValue
+route_reply number skip telling side legs waypoints =
+    found_value number ((codes "routes", array_of (route_value telling side legs ∷ [])) ∷ waypoints_member skip (codes "waypoints") waypoints)
+
+-- a trip of these legs, in its order, driven on this side of the road
+unfoldable pub trip_reply : ℕ → Bool → Telling → DrivingSide → List Leg → List JsonValue → JsonValue
+trip_reply number skip telling side legs waypoints =
+    found_value number ((codes "trips", array_of (route_value telling side legs ∷ [])) ∷ waypoints_member skip (codes "waypoints") waypoints)
 
 -- the places next to a coordinate
 unfoldable pub nearest_reply : ℕ → List Segment → Point → List Place → JsonValue

@@ -6,7 +6,7 @@ use Rattle.road_base.specs.declared.segments.Place.{Place}
 use Rattle.search_graph.specs.Durations.{durlen_ops}
 use Rattle.road_places.specs.Paid.{paid_along}
 use Rattle.road_places.specs.Permitted.{IsPermitted}
-use Rattle.road_places.specs.RoadMetric.{RoadMetric}
+use Rattle.metric_make.specs.RoadMetric.{RoadMetric}
 use Rattle.road_places.specs.declared.walks.Route.{Route}
 use Rattle.route_steps.specs.Annotations.{nodes_along}
 use Rattle.route_steps.specs.Points.{points_along}

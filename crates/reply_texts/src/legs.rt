@@ -8,19 +8,15 @@ ghost use Rattle.search_graph.specs.Durations.{durlen_ops};
 ghost use Rattle.road_places.specs.Paid.{paid_along};
 ghost use Rattle.road_places.specs.Permitted.{IsPermitted};
 ghost use Rattle.road_places.specs.Places.{IsPlaceOn};
-ghost use Rattle.road_places.specs.RoadMetric.{road_of};
+ghost use Rattle.metric_make.specs.RoadMetric.{road_of};
 ghost use Rattle.route_steps.specs.Annotations.{nodes_along};
 ghost use Rattle.route_steps.specs.Steps.{steps_along};
 ghost use Rattle.reply_texts.specs.Legs.{annotation_value, is_annotated, leg_value};
 ghost use Rattle.reply_texts.specs.Optional.{member_if};
 ghost use Rattle.reply_texts.specs.RouteLegs.{ArePermitted, AreSmall, leg_told, legs_told};
-ghost use Rattle.reply_texts.specs.Steps.{driving_side, steps_value};
+ghost use Rattle.step_texts.specs.Steps.{driving_side, steps_value};
 
 use crate::annotations::{is_annotated, push_annotation};
-use crate::driving_sides::DrivingSide;
-use crate::members::{push_text_member, push_totals};
-use crate::step_texts::push_steps;
-use crate::totals::leg_totals;
 use edge_graph::Network;
 use json_text::Json;
 use metric_make::BaseMetric;
@@ -28,7 +24,8 @@ use road_base::Place;
 use road_places::Route;
 use route_steps::{annotate, steps};
 use std::alloc::{AllocError, Global};
-use url_read::{RouteAnnotations, RouteOptions};
+use step_texts::{DrivingSide, leg_totals, push_steps, push_totals};
+use url_read::{RouteAnnotations, Telling};
 
 // No steps.
 fn push_no_steps(json: &mut Json) -> Result<(), AllocError>
@@ -46,7 +43,7 @@ fn push_leg_steps(
     json: &mut Json,
     network: &Network,
     base: &BaseMetric,
-    options: &RouteOptions,
+    telling: &Telling,
     ends: (Place, Place),
     route: &Route,
 ) -> Result<(), AllocError>
@@ -55,14 +52,14 @@ fn push_leg_steps(
     requires to { IsPlaceOn network.now ends.1 }
     requires permitted { IsPermitted (road_of network.now base.now) ends.0 ends.1 route.now.walk route.now.cost }
     requires small { durlen_ops.units route.now.cost (2 ^ 30) }
-    ensures { OnOk result (json.new ≡ with_value (steps_value options.now.steps options.now.geometries (driving_side network.now.profile) (steps_along (road_of network.now base.now) ends.0 ends.1 route.now.walk)) json.old) }
+    ensures { OnOk result (json.new ≡ with_value (steps_value telling.now.steps telling.now.geometries (driving_side network.now.profile) (steps_along (road_of network.now base.now) ends.0 ends.1 route.now.walk)) json.old) }
 {
-    if !options.steps {
+    if !telling.steps {
         return push_no_steps(json);
     }
     let side = DrivingSide::of(network.profile());
     let told = steps(alloc, base, network, route.walk.as_slice(), ends.0, ends.1)?;
-    push_steps(alloc, json, options.geometries, side, told.as_slice())
+    push_steps(alloc, json, telling.geometries, side, told.as_slice())
 }
 
 // The annotation of a leg from one place to another, where some is asked for.
@@ -97,7 +94,7 @@ fn push_leg(
     json: &mut Json,
     network: &Network,
     base: &BaseMetric,
-    options: &RouteOptions,
+    telling: &Telling,
     ends: (Place, Place),
     route: &Route,
 ) -> Result<(), AllocError>
@@ -106,14 +103,14 @@ fn push_leg(
     requires to { IsPlaceOn network.now ends.1 }
     requires permitted { IsPermitted (road_of network.now base.now) ends.0 ends.1 route.now.walk route.now.cost }
     requires small { durlen_ops.units route.now.cost (2 ^ 30) }
-    ensures { OnOk result (json.new ≡ with_value (leg_value options.now (driving_side network.now.profile) (leg_told (road_of network.now base.now) (ends, route.now))) json.old) }
+    ensures { OnOk result (json.new ≡ with_value (leg_value telling.now (driving_side network.now.profile) (leg_told (road_of network.now base.now) (ends, route.now))) json.old) }
 {
     json.begin_object()?;
     push_totals(json, leg_totals(route.cost))?;
-    push_text_member(json, "summary", "")?;
+    json.text_member("summary", "")?;
     json.key("steps")?;
-    push_leg_steps(alloc, json, network, base, options, ends, route)?;
-    push_leg_annotation(alloc, json, network, base, options.annotations, ends, route)?;
+    push_leg_steps(alloc, json, network, base, telling, ends, route)?;
+    push_leg_annotation(alloc, json, network, base, telling.annotations, ends, route)?;
     json.end_object()?;
     Ok(())
 }
@@ -124,7 +121,7 @@ pub(crate) fn push_legs(
     json: &mut Json,
     network: &Network,
     base: &BaseMetric,
-    options: &RouteOptions,
+    telling: &Telling,
     places: &[Place],
     routes: &[Route],
 ) -> Result<(), AllocError>
@@ -132,12 +129,12 @@ pub(crate) fn push_legs(
     requires placed { (k : ℕ) (place : Place) → slice_get places.now k ≡ Some place → IsPlaceOn network.now place }
     requires permitted { ArePermitted (road_of network.now base.now) places.now routes.now }
     requires small { AreSmall routes.now }
-    ensures { OnOk result (json.new ≡ with_value (array_of (map (leg_value options.now (driving_side network.now.profile)) (legs_told (road_of network.now base.now) places.now routes.now))) json.old) }
+    ensures { OnOk result (json.new ≡ with_value (array_of (map (leg_value telling.now (driving_side network.now.profile)) (legs_told (road_of network.now base.now) places.now routes.now))) json.old) }
 {
     json.begin_list()?;
     for leg in 0..routes.len() {
         let ends = (places[leg], places[leg + 1]);
-        push_leg(alloc, json, network, base, options, ends, &routes[leg])?;
+        push_leg(alloc, json, network, base, telling, ends, &routes[leg])?;
     }
     json.end_list()?;
     Ok(())

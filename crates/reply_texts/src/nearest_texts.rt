@@ -6,11 +6,10 @@ ghost use Rattle.json_text.specs.Values.{compact_text};
 ghost use Rattle.road_places.specs.Places.{IsPlaceOn};
 ghost use Rattle.reply_texts.specs.Replies.{nearest_reply};
 
-use crate::refusal_texts::begin_version_reply;
-use crate::reply_codes::Code;
 use crate::waypoints::push_neighbours;
 use edge_graph::Network;
 use json_text::Json;
+use refusal_texts::{Code, begin_version_reply};
 use road_base::{Place, Point};
 use std::alloc::{AllocError, Global};
 

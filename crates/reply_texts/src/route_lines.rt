@@ -5,12 +5,12 @@ ghost use Rattle.std.specs.List.{slice_get};
 ghost use Rattle.json_text.specs.Drafts.{TakesKey};
 ghost use Rattle.json_text.specs.Wholes.{optional_member, with_members};
 ghost use Rattle.road_places.specs.Places.{IsPlaceOn};
-ghost use Rattle.road_places.specs.RoadMetric.{road_of};
+ghost use Rattle.metric_make.specs.RoadMetric.{road_of};
 ghost use Rattle.route_steps.specs.Steps.{joined};
-ghost use Rattle.reply_texts.specs.Lines.{overview_line, points_behind};
+ghost use Rattle.step_texts.specs.Lines.{overview_line};
+ghost use Rattle.reply_texts.specs.Legs.{points_behind};
 ghost use Rattle.reply_texts.specs.RouteLegs.{ArePermitted, legs_told};
 
-use crate::lines::push_overview;
 use edge_graph::Network;
 use json_text::Json;
 use metric_make::BaseMetric;
@@ -18,7 +18,8 @@ use road_base::{Place, Point};
 use road_places::Route;
 use route_steps::leg_points;
 use std::alloc::{AllocError, Global};
-use url_read::{Overview, RouteOptions};
+use step_texts::push_overview;
+use url_read::{Overview, Telling};
 
 // The points of the leg of this number, from 0, that stand behind those of the legs before it.
 fn later_points(leg: usize, points: &[Point]) -> &[Point]
@@ -57,25 +58,25 @@ pub(crate) fn push_route_line(
     json: &mut Json,
     network: &Network,
     base: &BaseMetric,
-    options: &RouteOptions,
+    telling: &Telling,
     places: &[Place],
     routes: &[Route],
 ) -> Result<(), AllocError>
     requires takes { TakesKey json.old }
     requires placed { (k : ℕ) (place : Place) → slice_get places.now k ≡ Some place → IsPlaceOn network.now place }
     requires permitted { ArePermitted (road_of network.now base.now) places.now routes.now }
-    ensures ok { OnOk result (json.new ≡ with_members (optional_member (codes "geometry") (overview_line options.now.overview options.now.geometries (joined (map (λ leg. leg.points) (legs_told (road_of network.now base.now) places.now routes.now))))) json.old) }
+    ensures ok { OnOk result (json.new ≡ with_members (optional_member (codes "geometry") (overview_line telling.now.overview telling.now.geometries (joined (map (λ leg. leg.points) (legs_told (road_of network.now base.now) places.now routes.now))))) json.old) }
     ensures more { OnOk result (TakesKey json.new) }
 {
-    if options.overview == Overview::Off {
+    if telling.overview == Overview::Off {
         return Ok(());
     }
     let points = line_points(alloc, network, base, places, routes)?;
     push_overview(
         alloc,
         json,
-        options.overview,
-        options.geometries,
+        telling.overview,
+        telling.geometries,
         points.as_slice(),
     )
 }

@@ -1,33 +1,30 @@
 //! Replies with a route.
 
-ghost use Rattle.std.specs.Prelude.{◌≡◌, ℕ, ◌^◌, ◌<◌, Some, IfOk, OnOk, [], ◌∷◌, codes, length, map, string_bytes, sum_by};
+ghost use Rattle.std.specs.Prelude.{◌≡◌, ℕ, ◌^◌, ◌<◌, Some, IfOk, OnOk, [], ◌∷◌, length, map, string_bytes, sum_by};
 ghost use Rattle.std.specs.List.{slice_get};
 ghost use Rattle.json_text.specs.Values.{compact_text};
-ghost use Rattle.json_text.specs.Drafts.{TakesKey, TakesValue, with_value};
-ghost use Rattle.json_text.specs.Wholes.{array_of, with_member};
+ghost use Rattle.json_text.specs.Drafts.{TakesValue, with_value};
+ghost use Rattle.json_text.specs.Wholes.{array_of};
 ghost use Rattle.road_places.specs.Places.{IsPlaceOn};
-ghost use Rattle.road_places.specs.RoadMetric.{road_of};
-ghost use Rattle.reply_texts.specs.Legs.{route_value};
+ghost use Rattle.metric_make.specs.RoadMetric.{road_of};
+ghost use Rattle.reply_texts.specs.Legs.{route_totals, route_value};
 ghost use Rattle.reply_texts.specs.Replies.{route_reply};
 ghost use Rattle.reply_texts.specs.RouteLegs.{ArePermitted, AreSmall, legs_told};
-ghost use Rattle.reply_texts.specs.Steps.{driving_side};
-ghost use Rattle.reply_texts.specs.Totals.{route_totals};
+ghost use Rattle.step_texts.specs.Steps.{driving_side};
 ghost use Rattle.reply_texts.specs.Waypoints.{waypoints_of};
 
 use crate::legs::push_legs;
-use crate::members::{push_text_member, push_totals};
-use crate::refusal_texts::begin_version_reply;
-use crate::reply_codes::Code;
 use crate::route_lines::push_route_line;
-use crate::totals::Totals;
 use crate::waypoints::{Stops, push_waypoints_member};
 use edge_graph::Network;
 use json_text::Json;
 use metric_make::BaseMetric;
+use refusal_texts::{Code, begin_version_reply};
 use road_base::Place;
 use road_places::Route;
 use std::alloc::{AllocError, Global};
-use url_read::{Request, RouteOptions};
+use step_texts::{Totals, push_totals};
+use url_read::{Request, Telling};
 
 // How long the routes are together, in decimetres.
 fn length_of(routes: &[Route]) -> u128
@@ -70,7 +67,7 @@ fn push_route(
     json: &mut Json,
     network: &Network,
     base: &BaseMetric,
-    options: &RouteOptions,
+    telling: &Telling,
     places: &[Place],
     routes: &[Route],
 ) -> Result<(), AllocError>
@@ -79,39 +76,37 @@ fn push_route(
     requires placed { (k : ℕ) (place : Place) → slice_get places.now k ≡ Some place → IsPlaceOn network.now place }
     requires permitted { ArePermitted (road_of network.now base.now) places.now routes.now }
     requires small { AreSmall routes.now }
-    ensures { OnOk result (json.new ≡ with_value (route_value options.now (driving_side network.now.profile) (legs_told (road_of network.now base.now) places.now routes.now)) json.old) }
+    ensures { OnOk result (json.new ≡ with_value (route_value telling.now (driving_side network.now.profile) (legs_told (road_of network.now base.now) places.now routes.now)) json.old) }
 {
     json.begin_object()?;
     push_totals(json, route_totals(routes))?;
-    push_text_member(json, "weight_name", "duration")?;
-    push_route_line(alloc, json, network, base, options, places, routes)?;
+    json.text_member("weight_name", "duration")?;
+    push_route_line(alloc, json, network, base, telling, places, routes)?;
     json.key("legs")?;
-    push_legs(alloc, json, network, base, options, places, routes)?;
+    push_legs(alloc, json, network, base, telling, places, routes)?;
     json.end_object()?;
     Ok(())
 }
 
-// The one route of a reply.
-fn push_routes_member(
+// The one route of a reply, in a list.
+pub(crate) fn push_routes(
     alloc: Global,
     json: &mut Json,
     network: &Network,
     base: &BaseMetric,
-    options: &RouteOptions,
+    telling: &Telling,
     places: &[Place],
     routes: &[Route],
 ) -> Result<(), AllocError>
-    requires takes { TakesKey json.old }
+    requires takes { TakesValue json.old }
     requires legs { length routes.now < 2 ^ 32 }
     requires placed { (k : ℕ) (place : Place) → slice_get places.now k ≡ Some place → IsPlaceOn network.now place }
     requires permitted { ArePermitted (road_of network.now base.now) places.now routes.now }
     requires small { AreSmall routes.now }
-    ensures ok { OnOk result (json.new ≡ with_member (codes "routes") (array_of (route_value options.now (driving_side network.now.profile) (legs_told (road_of network.now base.now) places.now routes.now) ∷ [])) json.old) }
-    ensures more { OnOk result (TakesKey json.new) }
+    ensures { OnOk result (json.new ≡ with_value (array_of (route_value telling.now (driving_side network.now.profile) (legs_told (road_of network.now base.now) places.now routes.now) ∷ [])) json.old) }
 {
-    json.key("routes")?;
     json.begin_list()?;
-    push_route(alloc, json, network, base, options, places, routes)?;
+    push_route(alloc, json, network, base, telling, places, routes)?;
     json.end_list()?;
     Ok(())
 }
@@ -125,7 +120,7 @@ pub fn route_text(
     base: &BaseMetric,
     number: u32,
     request: &Request,
-    options: &RouteOptions,
+    telling: &Telling,
     places: &[Place],
     routes: &[Route],
 ) -> Result<String, AllocError>
@@ -135,7 +130,7 @@ pub fn route_text(
     requires placed { (k : ℕ) (place : Place) → slice_get places.now k ≡ Some place → IsPlaceOn network.now place }
     requires permitted { ArePermitted (road_of network.now base.now) places.now routes.now }
     requires small { AreSmall routes.now }
-    ensures { IfOk result (λ text. string_bytes text ≡ compact_text (route_reply number request.now.skip_waypoints options.now (driving_side network.now.profile) (legs_told (road_of network.now base.now) places.now routes.now) (waypoints_of network.now.segments request.now.points places.now))) }
+    ensures { IfOk result (λ text. string_bytes text ≡ compact_text (route_reply number request.now.skip_waypoints telling.now (driving_side network.now.profile) (legs_told (road_of network.now base.now) places.now routes.now) (waypoints_of network.now.segments request.now.points places.now))) }
 {
     let mut json = Json::new(alloc);
     let stops = Stops {
@@ -143,7 +138,8 @@ pub fn route_text(
         places,
     };
     begin_version_reply(&mut json, Code::Ok, number)?;
-    push_routes_member(alloc, &mut json, network, base, options, places, routes)?;
+    json.key("routes")?;
+    push_routes(alloc, &mut json, network, base, telling, places, routes)?;
     push_waypoints_member(
         &mut json,
         network,

@@ -12,11 +12,10 @@ ghost use Rattle.reply_texts.specs.Replies.{table_reply};
 ghost use Rattle.reply_texts.specs.Waypoints.{waypoints_of};
 
 use crate::cost_parts::{CostPart, push_rows};
-use crate::refusal_texts::begin_version_reply;
-use crate::reply_codes::Code;
 use crate::waypoints::{Stops, push_waypoints_member};
 use edge_graph::Network;
 use json_text::Json;
+use refusal_texts::{Code, begin_version_reply};
 use road_base::Place;
 use search_graph::DurLen;
 use std::alloc::{AllocError, Global};

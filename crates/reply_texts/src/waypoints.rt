@@ -2,7 +2,7 @@
 
 ghost use Rattle.std.specs.Prelude.{◌≡◌, ℕ, ◌^◌, ◌<◌, Some, OnOk, length, map};
 ghost use Rattle.std.specs.List.{slice_get};
-ghost use Rattle.edge_graph.specs.Vertex.{vertices};
+ghost use Rattle.road_segments.specs.Vertex.{vertices};
 ghost use Rattle.geo_integer.specs.Position.{position_of};
 ghost use Rattle.json_text.specs.Drafts.{TakesKey, TakesValue, with_value};
 ghost use Rattle.json_text.specs.Wholes.{array_of, with_members};
@@ -10,7 +10,6 @@ ghost use Rattle.road_places.specs.Places.{IsPlaceOn};
 ghost use Rattle.reply_texts.specs.Replies.{waypoints_member};
 ghost use Rattle.reply_texts.specs.Waypoints.{members_on, neighbour_of, nodes_on, waypoint_of, waypoints_of};
 
-use crate::members::{push_tenths_member, push_text_member};
 use edge_graph::Network;
 use geo_integer::distance;
 use json_text::Json;
@@ -25,7 +24,7 @@ pub struct Stops<'a> {
 }
 
 // How far a place lies from its coordinate, its way's name, and where it lies.
-fn push_place(
+pub(crate) fn push_place(
     json: &mut Json,
     network: &Network,
     coordinate: Point,
@@ -39,8 +38,8 @@ fn push_place(
 {
     let point = network.point(place);
     let name = network.name(2 * place.segment);
-    push_tenths_member(json, "distance", u128::from(distance(coordinate, point)))?;
-    push_text_member(json, "name", name)?;
+    json.tenths_member("distance", u128::from(distance(coordinate, point)))?;
+    json.text_member("name", name)?;
     json.key("location")?;
     json.degrees(point)?;
     Ok(())

@@ -1,8 +1,8 @@
 //! The doors that connections come through.
 
-ghost use Rattle.std.specs.Prelude.{◌≡◌, ℕ, ◌+◌, ◌<◌, ◌≤◌, length, map};
+ghost use Rattle.std.specs.Prelude.{◌≡◌, ℕ, ◌+◌, ◌<◌, ◌≤◌, ◌↔◌, IsTrue, length, map};
 ghost use Rattle.road_io.specs.Doorway.{DoorView, NextGives, after_finish};
-ghost use Rattle.road_io.specs.DoorOpening.{DoorsView, Asked, asked, OpenGives, door_set, BackGives};
+ghost use Rattle.road_io.specs.DoorOpening.{DoorsView, Asked, asked, OpenGives, door_set, faults_of, BackGives};
 ghost use Rattle.road_io.specs.Views.{IsFreshConn};
 
 use crate::connections::Conn;
@@ -27,6 +27,22 @@ pub trait Door {
     fn finish(&mut self, conn: Self::Conn)
         requires { (view self.old).finished < (view self.old).given }
         ensures joins { view self.new ≡ after_finish (view self.old) (Self.Conn.state conn) };
+
+    /// Whether the door has counted a fault.
+    fn has_fault(&self) -> bool
+        ensures { IsTrue result ↔ (0 < (view self.now).faults) };
+}
+
+/// Whether one of these doors has counted a fault.
+pub fn any_fault<D: Door>(queries: &[D], control: &D) -> bool
+    ensures { IsTrue result ↔ (0 < faults_of (door_set (map D.view queries.now) (D.view control.now))) }
+{
+    for door in queries {
+        if door.has_fault() {
+            return true;
+        }
+    }
+    control.has_fault()
 }
 
 /// What closes the query doors of the `Opened` that it came with.

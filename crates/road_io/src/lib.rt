@@ -16,7 +16,7 @@ mod memory;
 pub use byte_sinks::{Sink, put_all};
 pub use byte_sources::Source;
 pub use connections::{Conn, put_whole, take_into};
-pub use doorways::{Closer, Door, DoorSet, Doors, Opened};
+pub use doorways::{Closer, Door, DoorSet, Doors, Opened, any_fault};
 pub use failures::{DoorsFault, Failed, FileFault};
 pub use file_access::Files;
 pub use gateways::{Gate, OpenGate};

@@ -1,8 +1,8 @@
 pub mod EndLaws
 pub mod Ends
+pub mod GraphLaws
 pub mod Paid
 pub mod PaidLaws
 pub mod PartLaws
 pub mod Permitted
 pub mod Places
-pub mod RoadMetric

@@ -6,8 +6,9 @@ use Rattle.road_base.specs.declared.segments.Place.{Place}
 use Rattle.search_graph.specs.declared.costs.DurLen.{DurLen}
 use Rattle.search_graph.specs.Digraph.{Weighting, HasArc}
 use Rattle.search_graph.specs.Durations.{durlen_ops}
+use Rattle.edge_graph.specs.NetworkView.{turn_graph}
 use Rattle.road_places.specs.Places.{before, parts_along}
-use Rattle.road_places.specs.RoadMetric.{RoadMetric, turn_graph}
+use Rattle.metric_make.specs.RoadMetric.{RoadMetric}
 
 -- what vertex v costs; nothing where it is closed or there is none, which no permitted walk meets
 abbrev pub cost_on : Weighting DurLen → ℕ → DurLen

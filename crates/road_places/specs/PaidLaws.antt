@@ -13,10 +13,11 @@ use Rattle.search_graph.specs.Digraph.{HasArc, IsOpen, Weighting}
 use Rattle.search_graph.specs.Durations.{durlen_laws, durlen_ops}
 use Rattle.search_graph.specs.OrderLaws.{zero_plus}
 use Rattle.search_graph.specs.Walks.{IsBetween, Walk}
+use Rattle.edge_graph.specs.NetworkView.{turn_graph}
 use Rattle.road_places.specs.Paid.{AddUpTo, AreTurnsAlong, IsTurnCosting, cost_on, paid_along, paid_before, paid_behind, paid_to, rest_of, steps_of, total_of}
 use Rattle.road_places.specs.Permitted.{IsAlong, IsByTurns, IsPermitted, IsStartAlong, IsTargetAlong}
 use Rattle.road_places.specs.Places.{before, parts_along}
-use Rattle.road_places.specs.RoadMetric.{RoadMetric, turn_graph}
+use Rattle.metric_make.specs.RoadMetric.{RoadMetric}
 
 -- sums may be regrouped
 assoc : (a b c : DurLen) → durlen_ops.plus (durlen_ops.plus a b) c ≡ durlen_ops.plus a (durlen_ops.plus b c)

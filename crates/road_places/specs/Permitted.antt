@@ -10,8 +10,9 @@ use Rattle.search_graph.specs.declared.ends.Target.{Target}
 use Rattle.search_graph.specs.Digraph.{Weighting, IsOpen}
 use Rattle.search_graph.specs.Durations.{durlen_ops}
 use Rattle.search_graph.specs.Walks.{IsBetween}
+use Rattle.edge_graph.specs.NetworkView.{turn_graph}
 use Rattle.road_places.specs.Places.{IsDirection, parts_along, before}
-use Rattle.road_places.specs.RoadMetric.{RoadMetric, turn_graph}
+use Rattle.metric_make.specs.RoadMetric.{RoadMetric}
 
 -- `walk` is the open vertex v alone, a direction of both places' segment on which p lies no farther on than
 -- q; it costs what the part between the two costs: with what lies before p, that is what lies before q

@@ -1,11 +1,11 @@
 //! Places on road segments, and the walks between two of them that are permitted, with what they cost.
 //! Lengths are decimetres, durations deciseconds; a place is so many 1024ths along a segment.
 //!
-//! `specs/` is to be read in this order: `RoadMetric` (a network with its costs, and the graph of its turns),
-//! `Places` (how a place lies on the two directions of its segment, and what a part of a vertex costs),
-//! `Permitted` (walks from place to place), `Paid` (what a walk pays at each of its vertices and turns) and `Ends`
-//! (where walks from a place start, and where walks to one end). `PartLaws`, `PaidLaws` and `EndLaws` have what
-//! follows from these.
+//! `specs/` is to be read in this order: `RoadMetric` (a network with its costs), `Places` (how a place lies on the
+//! two directions of its segment, and what a part of a vertex costs), `Permitted` (walks from place to place), `Paid`
+//! (what a walk pays at each of its vertices and turns) and `Ends` (where walks from a place start, and where walks
+//! to one end). `PartLaws`, `PaidLaws` and `EndLaws` have what follows from these, and `GraphLaws` how the graph that
+//! is searched lies beside that of the turns.
 //!
 //! Nothing here knows of a search. A segment's parts and their costs are this project's rule.
 #![tactic(auto)]

@@ -1,6 +1,6 @@
 //! A door over TCP.
 
-ghost use Rattle.std.specs.Prelude.{◌<◌, ◌≤◌, ◌↔◌, IsTrue};
+ghost use Rattle.std.specs.Prelude.{◌<◌, ◌≤◌};
 ghost use Rattle.road_io.specs.DoorOpening.{IsNewDoor};
 
 use crate::accepting::accept_retrying;
@@ -57,13 +57,6 @@ impl TcpDoor {
         self.silence
     }
 
-    /// Whether the door has counted a fault.
-    pub fn has_fault(&self) -> bool
-        ensures { IsTrue result ↔ (0 < (door_view self.now).faults) }
-    {
-        self.faults > 0
-    }
-
     // The next stream; None where the flag was raised before one came. One that came later is let go: it is
     // the closer's, which wakes the door, or too late.
     fn arrival(&self) -> Result<Option<TcpStream>, Failed> {
@@ -109,5 +102,9 @@ impl Door for TcpDoor {
 
     fn finish(&mut self, _conn: TcpConn) {
         self.finished += 1;
+    }
+
+    fn has_fault(&self) -> bool {
+        self.faults > 0
     }
 }

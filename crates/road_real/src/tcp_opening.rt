@@ -1,13 +1,13 @@
 //! What opens doors over TCP, closes them and takes them back.
 
-ghost use Rattle.std.specs.Prelude.{◌≡◌, ◌+◌, ◌<◌, ◌≤◌, ◌↔◌, All, IsTrue, IfOk, Ok, length, map, sum_by};
+ghost use Rattle.std.specs.Prelude.{◌≡◌, ◌+◌, ◌<◌, ◌≤◌, All, IfOk, Ok, length, map};
 ghost use Rattle.road_io.specs.DoorOpening.{BackGives, IsNewDoor, door_set};
 ghost use Rattle.road_real.specs.TcpDoorsTold.{doors_told};
 ghost use Rattle.road_real.specs.TcpStates.{door_view};
 
 use crate::silence_limits::SilenceLimits;
 use crate::tcp_doors::TcpDoor;
-use road_io::{Closer, Doors, DoorsFault, Opened};
+use road_io::{Closer, Doors, DoorsFault, Opened, any_fault};
 use std::alloc::{AllocError, Global};
 use std::io;
 use std::net::{Net, SocketAddr, TcpListener, TcpStream};
@@ -155,7 +155,7 @@ impl<'a, N: Net + Eprint> Doors for TcpDoors<'a, N> {
         requires { length queries.items + 1 ≤ self.old.out }
         ensures takes { BackGives (doors_told self.old.out self.old.faults) (door_set (map door_view queries.items) (door_view control)) (doors_told self.new.out self.new.faults) }
     {
-        if control.has_fault() || any_fault(&queries) {
+        if any_fault(&queries, &control) {
             self.faults = self.faults.saturating_add(1);
         }
         self.out -= queries.len() as u64 + 1;
@@ -258,16 +258,4 @@ fn door_at(
 {
     let listener = listener.try_clone()?;
     Ok(TcpDoor::of(listener, Arc::try_clone(close)?, silence))
-}
-
-// Whether one of these doors has counted a fault.
-fn any_fault(doors: &[TcpDoor]) -> bool
-    ensures { IsTrue result ↔ (0 < sum_by (λ door. door.faults) (map door_view doors.now)) }
-{
-    for door in doors {
-        if door.has_fault() {
-            return true;
-        }
-    }
-    false
 }

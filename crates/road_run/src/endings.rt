@@ -10,8 +10,7 @@ ghost use Rattle.road_run.specs.Ending.{EndsRun, EndsWordless};
 use crate::running::run;
 use program_ends::end_exhausted;
 use road_base::Status;
-use road_io::{Door, Files, Gate, Sink, Source};
-use serve_command::CountedDoors;
+use road_io::{Door, Doors, Files, Gate, Sink, Source};
 use std::alloc::{AllocError, Global};
 use std::io::Eprint;
 use std::net::{Net, TcpListener, TcpStream};
@@ -38,7 +37,7 @@ pub fn run_to_end<
     F: Files,
     I: Source,
     O: Sink,
-    N: CountedDoors,
+    N: Doors,
     G: Gate + Sync,
     R: Threads + Wait + Net<Listener = TcpListener, Stream = TcpStream> + Sync,
 >(

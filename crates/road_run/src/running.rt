@@ -19,8 +19,8 @@ use line_session::{Published, Stop, answer_lines};
 use map_loading::{LoadFault, Loaded, check_text, load};
 use program_ends::{close, end_exhausted, end_refused, end_unread, read_both};
 use road_base::Status;
-use road_io::{Door, FileFault, Files, Gate, Sink, Source, put_all};
-use serve_command::{CountedDoors, serve};
+use road_io::{Door, Doors, FileFault, Files, Gate, Sink, Source, put_all};
+use serve_command::serve;
 use std::alloc::Global;
 use std::net::{Net, TcpListener, TcpStream};
 use std::sync::Wait;
@@ -156,7 +156,7 @@ pub fn run<
     F: Files,
     I: Source,
     O: Sink,
-    N: CountedDoors,
+    N: Doors,
     G: Gate + Sync,
     R: Threads + Wait + Net<Listener = TcpListener, Stream = TcpStream> + Sync,
 >(

@@ -6,7 +6,7 @@ use Rattle.search_graph.specs.Costs.{NoDearer}
 use Rattle.search_graph.specs.Durations.{durlen_ops, durlen_laws}
 use Rattle.std.specs.Prelude.{IfSome}
 use Rattle.edge_graph.specs.NetworkView.{NetworkView}
-use Rattle.road_places.specs.RoadMetric.{RoadMetric}
+use Rattle.metric_make.specs.RoadMetric.{RoadMetric}
 use Rattle.road_places.specs.declared.walks.Route.{Route}
 use Rattle.road_walks.specs.Choosing.{IsLeastOf, IsCheaperOf, Either}
 use Rattle.road_walks.specs.Least.{IsRouteAnswer, most_units}

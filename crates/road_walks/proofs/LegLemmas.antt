@@ -5,7 +5,7 @@ use Rattle.std.proofs.lemmas.Option.{slice_get-get_or}
 use Rattle.std.proofs.lemmas.Slice.Zip.{length-zip}
 use Rattle.list_lemmas.proofs.Fronts.{all_zip-each, slice_get-rest, slice_get-zip}
 use Rattle.road_base.specs.declared.segments.Place.{Place}
-use Rattle.road_places.specs.RoadMetric.{RoadMetric}
+use Rattle.metric_make.specs.RoadMetric.{RoadMetric}
 use Rattle.road_places.specs.declared.walks.Route.{Route}
 use Rattle.road_walks.specs.Least.{IsRouteAnswer}
 use Rattle.road_walks.specs.Legs.{AreAlong, AreLeastRoutes, CostsLeast, HasNoWalk, IsAlongLeg, IsLeastAlong, legs_of}

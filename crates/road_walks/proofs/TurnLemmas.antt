@@ -1,5 +1,5 @@
 -- The cheapest answer of a search is the least walk by turns.
-use Rattle.std.proofs.Common.{◌≡◌, ℕ, ◌*◌, ◌<◌, inl, inr, List, [], ◌∷◌, length, Option, Some, None, sym, subst, arith}
+use Rattle.std.proofs.Common.{◌≡◌, ℕ, ◌<◌, inl, inr, List, [], ◌∷◌, Option, Some, None, sym, subst, arith}
 use Rattle.std.specs.List.{Contains}
 use Rattle.std.proofs.lemmas.List.Elements.{Contains-push, Contains-push_cases}
 use Rattle.road_base.specs.declared.segments.Place.{Place}
@@ -13,17 +13,19 @@ use Rattle.std.specs.Prelude.{IfSome, option_map}
 use Rattle.search_graph.specs.Walks.{IsBetween}
 use Rattle.plain_search.specs.declared.found.Found.{Found}
 use Rattle.path_unpack.specs.Cheapest.{IsCheapest}
+use Rattle.edge_graph.specs.NetworkView.{graph_of, turn_graph}
 use Rattle.metric_make.specs.MetricOf.{AreWithinUnit}
 use Rattle.road_places.specs.EndLaws.{start_unit, target_unit}
 use Rattle.road_places.specs.Ends.{AreAll}
+use Rattle.road_places.specs.GraphLaws.{segments-in-graph}
 use Rattle.road_places.specs.Places.{IsDirection, IsPlaceOn}
 use Rattle.road_places.specs.Permitted.{IsByTurns, IsStart, IsTarget}
-use Rattle.road_places.specs.RoadMetric.{RoadMetric, turn_graph}
+use Rattle.metric_make.specs.RoadMetric.{RoadMetric}
 use Rattle.road_walks.specs.Choosing.{IsLeastOf, route_of}
 use Rattle.road_walks.specs.Least.{most_units}
 
 -- a list of one has that one alone
-pub only : (x y : Start DurLen) → Contains (x ∷ []) y → x ≡ y
+only : (x y : Start DurLen) → Contains (x ∷ []) y → x ≡ y
 only x y h = elim (Contains-push_cases [] x y h) [ inl n ↦ absurd (omega (arith, n.1)) | inr e ↦ e ]
 
 module _ (road : RoadMetric) (p q : Place) (starts : List (Start DurLen)) (targets : List (Target DurLen)) (are_starts : AreAll (IsStart road.weights p) starts) (are_targets : AreAll (IsTarget road.weights q) targets) where
@@ -74,21 +76,25 @@ module _ (road : RoadMetric) (p q : Place) (starts : List (Start DurLen)) (targe
   cheapest-least None h = λ walk d b. h b.last (are_targets.every b.last b.ends) walk d (by_turns-to walk d b)
   cheapest-least (Some f) h = (by_turns-from h.0 h.1 f.walk f.cost h.2.leads, λ walk d b. h.3 b.last walk d (are_targets.every b.last b.ends) (by_turns-to walk d b))
 
-  -- and it costs no more than the network's vertices allow
-  pub cheapest-bound : AreSmall durlen_ops (turn_graph road.network) road.weights → ((s : Start DurLen) → Contains starts s → durlen_ops.units s.cost 1) → ((t : Target DurLen) → Contains targets t → durlen_ops.units t.cost 1)
-      → (found : Option (Found DurLen)) → IsCheapest durlen_ops (turn_graph road.network) road.weights starts targets found → IfSome (option_map route_of found) (λ route. durlen_ops.units route.cost (most_units road.network))
-  cheapest-bound small start_units target_units None h = tt
-  cheapest-bound small start_units target_units (Some f) h =
-      least_walk_units durlen_laws (turn_graph road.network) road.weights small starts h.0 start_units (target_units h.0 h.1) f.walk f.cost h.2
+-- what a search over a network's graph finds costs no more than the graph's vertices allow
+pub cheapest-bound : (road : RoadMetric) (starts : List (Start DurLen)) (targets : List (Target DurLen)) → AreSmall durlen_ops (graph_of road.network) road.weights
+    → ((s : Start DurLen) → Contains starts s → durlen_ops.units s.cost 1) → ((t : Target DurLen) → Contains targets t → durlen_ops.units t.cost 1)
+    → (found : Option (Found DurLen)) → IsCheapest durlen_ops (graph_of road.network) road.weights starts targets found → IfSome (option_map route_of found) (λ route. durlen_ops.units route.cost (most_units road.network))
+cheapest-bound road starts targets small start_units target_units None h = tt
+cheapest-bound road starts targets small start_units target_units (Some f) h =
+    least_walk_units durlen_laws (graph_of road.network) road.weights small starts h.0 start_units (target_units h.0 h.1) f.walk f.cost h.2
 
 module _ (road : RoadMetric) (p : Place) (on : IsPlaceOn road.network p) (unit : AreWithinUnit road.weights) where
-  direction-within : (v : ℕ) → IsDirection p.segment v → v < 2 * length road.network.segments
-  direction-within v d = let lt = on.on_segment in elim d [ inl e ↦ omega (arith, e, lt) | inr e ↦ omega (arith, e, lt) ]
+  direction-within : (v : ℕ) → IsDirection p.segment v → v < (graph_of road.network).vertices
+  direction-within v d =
+      let lt = on.on_segment in
+      let all = segments-in-graph road.network in
+      elim d [ inl e ↦ omega (arith, e, lt, all) | inr e ↦ omega (arith, e, lt, all) ]
 
   -- a start is a vertex, and costs at most one unit
-  pub start-fits : (s : Start DurLen) → IsStart road.weights p s → (s.vertex < 2 * length road.network.segments) × durlen_ops.units s.cost 1
-  start-fits s h = (subst (λ v. v < 2 * length road.network.segments) (sym h.2.is_vertex) (direction-within h.0 h.1), start_unit road.weights p s unit h)
+  pub start-fits : (s : Start DurLen) → IsStart road.weights p s → (s.vertex < (graph_of road.network).vertices) × durlen_ops.units s.cost 1
+  start-fits s h = (subst (λ v. v < (graph_of road.network).vertices) (sym h.2.is_vertex) (direction-within h.0 h.1), start_unit road.weights p s unit h)
 
   -- and so a target
-  pub target-fits : (t : Target DurLen) → IsTarget road.weights p t → (t.vertex < 2 * length road.network.segments) × durlen_ops.units t.cost 1
-  target-fits t h = (subst (λ v. v < 2 * length road.network.segments) (sym h.2.is_vertex) (direction-within h.0 h.1), target_unit road.weights p t on.within unit h)
+  pub target-fits : (t : Target DurLen) → IsTarget road.weights p t → (t.vertex < (graph_of road.network).vertices) × durlen_ops.units t.cost 1
+  target-fits t h = (subst (λ v. v < (graph_of road.network).vertices) (sym h.2.is_vertex) (direction-within h.0 h.1), target_unit road.weights p t on.within unit h)

@@ -5,8 +5,8 @@ use Rattle.search_graph.specs.declared.costs.DurLen.{DurLen}
 use Rattle.search_graph.specs.Costs.{NoDearer}
 use Rattle.search_graph.specs.Durations.{durlen_ops}
 use Rattle.road_places.specs.Permitted.{IsPermitted}
-use Rattle.edge_graph.specs.NetworkView.{NetworkView}
-use Rattle.road_places.specs.RoadMetric.{RoadMetric, turn_graph}
+use Rattle.edge_graph.specs.NetworkView.{NetworkView, graph_of}
+use Rattle.metric_make.specs.RoadMetric.{RoadMetric}
 use Rattle.road_places.specs.declared.walks.Route.{Route}
 
 -- `walk` is a permitted walk from p to q that costs d, and no permitted walk costs less
@@ -23,6 +23,6 @@ abbrev pub IsRouteAnswer : RoadMetric → Place → Place → Option Route → T
 IsRouteAnswer road p q None = HasNoRoute road p q
 IsRouteAnswer road p q (Some route) = IsLeastRoute road p q route.walk route.cost
 
--- in how many units each least route costs: two for each vertex of the network, and one
+-- in how many units each least route costs: two for each vertex of the graph that is searched, and one
 abbrev pub most_units : NetworkView → ℕ
-most_units network = 2 * (turn_graph network).vertices + 1
+most_units network = 2 * (graph_of network).vertices + 1

@@ -6,7 +6,7 @@ use Rattle.search_graph.specs.declared.costs.DurLen.{DurLen}
 use Rattle.search_graph.specs.Costs.{NoDearer}
 use Rattle.search_graph.specs.Durations.{durlen_ops}
 use Rattle.road_places.specs.Permitted.{IsPermitted}
-use Rattle.road_places.specs.RoadMetric.{RoadMetric}
+use Rattle.metric_make.specs.RoadMetric.{RoadMetric}
 use Rattle.road_places.specs.declared.walks.Route.{Route}
 use Rattle.road_walks.specs.FirstFailure.{IsFirstFailure}
 use Rattle.road_walks.specs.Least.{HasNoRoute, IsLeastRoute}

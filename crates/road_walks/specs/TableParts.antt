@@ -1,6 +1,7 @@
 -- The crate's own: of what a table of costs is made.
 use Rattle.std.specs.Prelude.{ℕ, ◌<◌, List, Option}
 use Rattle.std.specs.List.{AllZip, Contains}
+use Rattle.std.specs.Option.{ForSome}
 use Rattle.road_base.specs.declared.segments.Place.{Place}
 use Rattle.search_graph.specs.declared.costs.DurLen.{DurLen}
 use Rattle.search_graph.specs.declared.ends.Start.{Start}
@@ -10,7 +11,9 @@ use Rattle.search_graph.specs.Durations.{durlen_ops}
 use Rattle.table_query.specs.LeastCosts.{IsLeastAmong}
 use Rattle.road_places.specs.Ends.{AreAll}
 use Rattle.road_places.specs.Permitted.{IsAlongOne, IsByTurns, IsStart, IsTarget}
-use Rattle.road_places.specs.RoadMetric.{RoadMetric}
+use Rattle.metric_make.specs.RoadMetric.{RoadMetric}
+use Rattle.road_walks.specs.Least.{most_units}
+use Rattle.road_walks.specs.Tables.{IsCellOf}
 
 -- the starts are all where walks from p may start, each one of n vertices and at most of one unit
 pub record AreStartsFrom (n : ℕ) (w : Weighting DurLen) (p : Place) (starts : List (Start DurLen)) : Type 0 where
@@ -30,10 +33,22 @@ CanCostAlong w p q d = (walk : List ℕ) × IsAlongOne w p q walk d
 abbrev pub CanCostByTurns : RoadMetric → Place → Place → DurLen → Type 0
 CanCostByTurns road p q d = (walk : List ℕ) × IsByTurns road p q walk d
 
--- the least that such a walk costs
+-- it is within the units of least routes, where there is one
+abbrev pub IsWithin : RoadMetric → Option DurLen → Type 0
+IsWithin road value = ForSome value (λ d. durlen_ops.units d (most_units road.network))
+
+-- the least that a walk of two or more vertices costs
 abbrev pub IsCellByTurns : RoadMetric → Place → Place → Option DurLen → Type 0
-IsCellByTurns road p q value = IsLeastAmong durlen_ops (CanCostByTurns road p q) value
+IsCellByTurns road p q value = IsLeastAmong durlen_ops (CanCostByTurns road p q) value × IsWithin road value
 
 -- from p to each of the destinations, in their order
 abbrev pub IsRowByTurns : RoadMetric → List Place → Place → List (Option DurLen) → Type 0
 IsRowByTurns road destinations p row = AllZip (IsCellByTurns road p) destinations row
+
+-- the least that any permitted walk costs
+abbrev pub IsCellWithin : RoadMetric → Place → Place → Option DurLen → Type 0
+IsCellWithin road p q value = IsCellOf road p q value × IsWithin road value
+
+-- from p to each of the destinations, in their order
+abbrev pub IsRowWithin : RoadMetric → List Place → Place → List (Option DurLen) → Type 0
+IsRowWithin road destinations p row = AllZip (IsCellWithin road p) destinations row

@@ -7,7 +7,7 @@ use Rattle.search_graph.specs.declared.costs.DurLen.{DurLen}
 use Rattle.search_graph.specs.Durations.{durlen_ops}
 use Rattle.table_query.specs.LeastCosts.{IsLeastAmong}
 use Rattle.road_places.specs.Permitted.{IsPermitted}
-use Rattle.road_places.specs.RoadMetric.{RoadMetric}
+use Rattle.metric_make.specs.RoadMetric.{RoadMetric}
 
 -- some permitted walk from p to q costs d
 abbrev pub CanCost : RoadMetric → Place → Place → DurLen → Type 0

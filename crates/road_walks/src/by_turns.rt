@@ -4,10 +4,10 @@ ghost use Rattle.std.specs.Prelude.{◌<◌, IfOk, IfSome};
 ghost use Rattle.std.specs.List.{Contains};
 ghost use Rattle.path_unpack.specs.Cheapest.{IsCheapest};
 ghost use Rattle.search_graph.specs.Durations.{durlen_ops};
+ghost use Rattle.edge_graph.specs.NetworkView.{graph_of};
 ghost use Rattle.road_places.specs.Ends.{AreAll};
 ghost use Rattle.road_places.specs.Permitted.{IsByTurns, IsStart, IsTarget};
 ghost use Rattle.road_places.specs.Places.{IsPlaceOn};
-ghost use Rattle.road_places.specs.RoadMetric.{turn_graph};
 ghost use Rattle.road_walks.specs.Choosing.{IsLeastOf};
 ghost use Rattle.road_walks.specs.Least.{most_units};
 
@@ -55,8 +55,8 @@ pub(crate) fn targets_to(
     Ok(targets)
 }
 
-// The least walk over the turns from one of the starts to one of the targets, or none.
-fn over_turns(
+// The least walk over the network's graph from one of the starts to one of the targets, or none.
+fn over_graph(
     alloc: Global,
     under: &Under<'_>,
     starts: &[Start<DurLen>],
@@ -64,7 +64,7 @@ fn over_turns(
 ) -> Result<Option<Found<DurLen>>, AllocError>
     requires starts { (s : _) → Contains starts.now s → (s.vertex < under.now.frame.graph.vertices) × durlen_ops.units s.cost 1 }
     requires targets { (t : _) → Contains targets.now t → (t.vertex < under.now.frame.graph.vertices) × durlen_ops.units t.cost 1 }
-    ensures { IfOk result (IsCheapest durlen_ops (turn_graph under.now.road.network) under.now.road.weights starts.now targets.now) }
+    ensures { IfOk result (IsCheapest durlen_ops (graph_of under.now.road.network) under.now.road.weights starts.now targets.now) }
 {
     let frame = under.frame();
     let base = under.base();
@@ -99,6 +99,6 @@ pub(crate) fn by_turns(
     let starts = starts_from(alloc, under, from)?;
     let targets = targets_to(alloc, under, to)?;
     let _small = under.base();
-    let found = over_turns(alloc, under, &starts, &targets)?;
+    let found = over_graph(alloc, under, &starts, &targets)?;
     Ok(route_of(found))
 }

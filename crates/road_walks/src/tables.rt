@@ -4,11 +4,11 @@ ghost use Rattle.std.specs.Prelude.{◌≡◌, ℕ, ◌<◌, Some, IfOk, option_
 ghost use Rattle.std.specs.List.{AllZip, Contains, slice_get};
 ghost use Rattle.search_graph.specs.Durations.{durlen_ops};
 ghost use Rattle.table_query.specs.Tables.{IsTable};
+ghost use Rattle.edge_graph.specs.NetworkView.{graph_of};
 ghost use Rattle.road_places.specs.Places.{IsPlaceOn};
-ghost use Rattle.road_places.specs.RoadMetric.{turn_graph};
 ghost use Rattle.road_walks.specs.Least.{most_units};
-ghost use Rattle.road_walks.specs.TableParts.{IsCellByTurns, IsRowByTurns};
-ghost use Rattle.road_walks.specs.Tables.{AreRowsOf, AreWithin, IsCellOf, IsRowOf};
+ghost use Rattle.road_walks.specs.TableParts.{IsCellByTurns, IsCellWithin, IsRowByTurns, IsRowWithin};
+ghost use Rattle.road_walks.specs.Tables.{AreRowsOf, AreWithin};
 
 use crate::along_one::along_one;
 use crate::rows::Rows;
@@ -22,8 +22,8 @@ use std::alloc::{AllocError, Global};
 use std::thread::Threads;
 use table_query::{Row, Starts, Targets, lesser, table};
 
-// What the least walks over the turns cost from each list of starts to each list of targets.
-fn over_turns(
+// What the least walks over the network's graph cost from each list of starts to each list of targets.
+fn over_graph(
     rt: &(impl Threads + Sync),
     alloc: Global,
     under: &Under<'_>,
@@ -32,7 +32,7 @@ fn over_turns(
 ) -> Result<Vec<Row<DurLen>>, AllocError>
     requires sources { (list : _) (s : _) → Contains sources.now list → Contains list s → (s.vertex < under.now.frame.graph.vertices) × durlen_ops.units s.cost 1 }
     requires targets { (list : _) (t : _) → Contains targets.now list → Contains list t → (t.vertex < under.now.frame.graph.vertices) × durlen_ops.units t.cost 1 }
-    ensures { IfOk result (λ rows. IsTable durlen_ops (turn_graph under.now.road.network) under.now.road.weights sources.now targets.now rows.items) }
+    ensures { IfOk result (λ rows. IsTable durlen_ops (graph_of under.now.road.network) under.now.road.weights sources.now targets.now rows.items) }
 {
     let frame = under.frame();
     let base = under.base();
@@ -57,7 +57,8 @@ fn rows_by_turns(
 {
     let starts = starts_of(alloc, under, sources)?;
     let targets = targets_of(alloc, under, destinations)?;
-    let rows = over_turns(rt, alloc, under, &starts, &targets)?;
+    let _small = under.base();
+    let rows = over_graph(rt, alloc, under, &starts, &targets)?;
     Ok(rows)
 }
 
@@ -80,7 +81,7 @@ fn cell_of(
     requires from { IsPlaceOn under.now.road.network from }
     requires to { IsPlaceOn under.now.road.network to }
     requires by_turns { IsCellByTurns under.now.road from to by_turns }
-    ensures { IfOk result (IsCellOf under.now.road from to) }
+    ensures { IfOk result (IsCellWithin under.now.road from to) }
 {
     let along = along_one(alloc, under.base(), from, to)?;
     let along = cost_of(along);
@@ -98,7 +99,7 @@ fn row_of(
     requires from { IsPlaceOn under.now.road.network from }
     requires destinations { (k : ℕ) (place : _) → slice_get destinations.now k ≡ Some place → IsPlaceOn under.now.road.network place }
     requires by_turns { IsRowByTurns under.now.road destinations.now from by_turns.now }
-    ensures { IfOk result (IsRowOf under.now.road destinations.now from) }
+    ensures { IfOk result (IsRowWithin under.now.road destinations.now from) }
 {
     let mut values = Vec::with_capacity(alloc, destinations.len())?;
     for column in 0..destinations.len() {
@@ -125,7 +126,6 @@ pub fn cost_rows(
     ensures bound { IfOk result (AreWithin (most_units under.now.road.network)) }
 {
     let by_turns = rows_by_turns(rt, alloc, under, sources, destinations)?;
-    let _small = under.base();
     let mut rows = Vec::with_capacity(alloc, sources.len())?;
     for number in 0..sources.len() {
         let values = by_turns[number].as_slice();

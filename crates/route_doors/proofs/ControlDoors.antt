@@ -3,10 +3,10 @@ use Rattle.std.proofs.Common.{◌≡◌, ◌∙◌, ◌⊎◌, ◌↔◌, ℕ, t
 use Rattle.std.proofs.lemmas.Option.{same_Some}
 use Rattle.control_port.specs.Controlling.{Board}
 use Rattle.customized.specs.Framing.{RoadsView}
-use Rattle.door_service.specs.Leading.{LedToEnd, LedToStop, TendGives}
-use Rattle.door_service.specs.Serving.{Tended}
-use Rattle.door_service.specs.declared.turns.End.{End}
-use Rattle.door_service.specs.declared.turns.End.TheVariants.{Broken, Stopped, UsedUp}
+use Rattle.door_workers.specs.Leading.{LedToEnd, LedToStop, TendGives}
+use Rattle.door_workers.specs.Serving.{Tended}
+use Rattle.door_workers.specs.declared.turns.End.{End}
+use Rattle.door_workers.specs.declared.turns.End.TheVariants.{Broken, Stopped, UsedUp}
 use Rattle.road_io.specs.DoorOpening.{IsNewDoor}
 use Rattle.road_io.specs.Doorway.{DoorView}
 use Rattle.road_io.specs.Faults.{Rose}

@@ -4,8 +4,8 @@ use Rattle.std.specs.List.{All, AllZip}
 use Rattle.std.proofs.lemmas.List.Elements.{All-cons, All-head, All-nil, All-tail}
 use mathlib.Core.List.{IsPrefix}
 use Rattle.control_port.specs.Controlling.{Board}
-use Rattle.door_service.specs.Passing.{Ends, Passed}
-use Rattle.door_service.specs.Serving.{Answered, AnsweredUnder}
+use Rattle.door_workers.specs.Passing.{Ends, Passed}
+use Rattle.door_workers.specs.Serving.{Answered, AnsweredUnder}
 use Rattle.road_io.specs.DoorOpening.{IsNewDoor, IsNoneYet}
 use Rattle.road_io.specs.Doorway.{DoorView}
 use Rattle.road_io.specs.Faults.{Rose}

@@ -4,9 +4,9 @@ use Rattle.std.specs.Prelude.{◌≡◌, ◌⊎◌, true, false, List, [], ◌�
 use mathlib.Core.List.{IsPrefix}
 use Rattle.control_port.specs.Controlling.{Board, IsOn}
 use Rattle.customized.specs.Framing.{RoadsView}
-use Rattle.door_service.specs.Leading.{Leads}
-use Rattle.door_service.specs.declared.sessions.Then.{Then}
-use Rattle.door_service.specs.declared.sessions.Then.TheVariants as then
+use Rattle.door_workers.specs.Leading.{Leads}
+use Rattle.door_workers.specs.declared.sessions.Then.{Then}
+use Rattle.door_workers.specs.declared.sessions.Then.TheVariants as then
 use Rattle.http_session.specs.declared.ended.Ended.{Ended}
 use Rattle.road_io.specs.DoorOpening.{DoorViews}
 use Rattle.road_io.specs.Doorway.{DoorView, IsUsedUp}

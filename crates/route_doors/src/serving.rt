@@ -5,7 +5,7 @@ ghost use Rattle.std.specs.Vec.{vec_len, vec_capacity};
 ghost use Rattle.left_right.specs.Sides.{view};
 ghost use mathlib.Core.List.{IsPrefix};
 ghost use Rattle.control_port.specs.Controlling.{Board};
-ghost use Rattle.door_service.specs.Settling.{HasReadAll};
+ghost use Rattle.door_workers.specs.Settling.{HasReadAll};
 ghost use Rattle.metric_publish.specs.Calls.{Each};
 ghost use Rattle.metric_publish.specs.History.{IsRun, last_number};
 ghost use Rattle.road_io.specs.DoorOpening.{IsNewDoor, door_set};
@@ -15,7 +15,7 @@ ghost use Rattle.snap_index.specs.Ends.{all_ends};
 
 use crate::sessions::{Controls, Queries};
 use customized::{Metric, Roads};
-use door_service::{Post, Served};
+use door_workers::{Post, Served};
 use metric_publish::desk::DeskOf;
 use metric_publish::history::Naming;
 use metric_publish::seat::Seat;
@@ -83,5 +83,5 @@ where
 {
     let queries = Queries { alloc, gate, grid };
     let controls = Controls { alloc, roads };
-    door_service::serve(rt, &queries, &controls, opened, seats, room, desk)
+    door_workers::serve(rt, &queries, &controls, opened, seats, room, desk)
 }

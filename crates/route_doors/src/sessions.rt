@@ -1,7 +1,7 @@
 //! The sessions of query doors and of the control door.
 
 use customized::{Metric, Roads};
-use door_service::{Controlling, Querying, Then};
+use door_workers::{Controlling, Querying, Then};
 use metric_publish::meaning::{Publishing, Reading};
 use road_io::{Conn, Gate};
 use route_server::{ControlEnded, serve_connection, serve_control};

@@ -1,7 +1,10 @@
 mod CutLemmas
+mod IntersectionLemmas
 mod ListLemmas
 mod PointLemmas
+mod SortLemmas
 mod StepLemmas
 mod SumLemmas
 mod VertexLemmas
 mod WalkLemmas
+mod WayLemmas

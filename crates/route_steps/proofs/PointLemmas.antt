@@ -8,9 +8,9 @@ use Rattle.road_base.specs.declared.coordinates.Point.{Point}
 use Rattle.road_base.specs.declared.segments.Place.{Place}
 use Rattle.geo_integer.specs.Position.{Position, position_of}
 use Rattle.geo_integer.specs.Project.{position_at}
-use Rattle.edge_graph.specs.Laws.{vertices-even, vertices-odd}
-use Rattle.edge_graph.specs.Segment.{Segment}
-use Rattle.edge_graph.specs.Vertex.{Vertex}
+use Rattle.road_segments.specs.Laws.{vertices-even, vertices-odd}
+use Rattle.road_segments.specs.Segment.{Segment}
+use Rattle.road_segments.specs.Vertex.{Vertex}
 use Rattle.route_steps.specs.LineLaws.{point_of-position}
 use Rattle.route_steps.specs.Points.{end_of, point_of, point_on}
 

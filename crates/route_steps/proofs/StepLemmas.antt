@@ -10,12 +10,13 @@ use Rattle.edge_graph.specs.Turn.{IsSimple}
 use Rattle.road_places.specs.Paid.{paid_along, total_of}
 use Rattle.road_places.specs.PaidLaws.{permitted_adds_up}
 use Rattle.road_places.specs.Permitted.{IsPermitted}
-use Rattle.road_places.specs.RoadMetric.{RoadMetric}
-use Rattle.route_steps.specs.Points.{points_along}
+use Rattle.metric_make.specs.RoadMetric.{RoadMetric}
+use Rattle.route_steps.specs.Points.{point_in, points_along}
 use Rattle.route_steps.specs.StepParts.{IsCourse}
-use Rattle.route_steps.specs.Steps.{arrival_at, begins_along, pieces, point_in, step_between, steps_along}
+use Rattle.route_steps.specs.Steps.{arrival_at, begins_along, pieces, step_between, steps_along}
 use Rattle.route_steps.specs.Turnings.{turns_paid}
 use Rattle.route_steps.specs.declared.begins.Begin.{Begin}
+use Rattle.route_steps.specs.declared.intersection_lists.Intersection.{Intersection}
 use Rattle.route_steps.specs.declared.maneuvers.Maneuver.{Maneuver}
 use Rattle.route_steps.specs.declared.step_lists.Step.{Step}
 use Rattle.route_steps.specs.StepLaws.{length-paid_along, length-turns_paid}
@@ -27,9 +28,10 @@ point_in-read points part i x e lt is =
     sym (ap (λ (o : Option Point). unwrap_or o (point_in [] 0)) (slice_get_read points (length points) i x refl lt (is ∙ ap (λ (l : List Point). get_or l i x) e)))
 
 -- a step by its parts
-pub step-same : (cost cost' : DurLen) (points points' : List Point) (name name' : List ℕ) (maneuver maneuver' : Maneuver) → cost ≡ cost' → points ≡ points' → name ≡ name' → maneuver ≡ maneuver'
-    → ◌≡◌ {A = Step} (record { cost = cost; points = points; name = name; maneuver = maneuver }) (record { cost = cost'; points = points'; name = name'; maneuver = maneuver' })
-step-same cost cost' points points' name name' maneuver maneuver' e f g h = cc
+pub step-same : (cost cost' : DurLen) (points points' : List Point) (name name' : List ℕ) (maneuver maneuver' : Maneuver) (intersections intersections' : List Intersection)
+    → cost ≡ cost' → points ≡ points' → name ≡ name' → maneuver ≡ maneuver' → intersections ≡ intersections'
+    → ◌≡◌ {A = Step} (record { cost = cost; points = points; name = name; maneuver = maneuver; intersections = intersections }) (record { cost = cost'; points = points'; name = name'; maneuver = maneuver'; intersections = intersections' })
+step-same cost cost' points points' name name' maneuver maneuver' intersections intersections' e f g h i = cc
 
 pub course-same : (n : ℕ) (points points' : List Point) (paid paid' turns turns' : List DurLen) → points ≡ points' → paid ≡ paid' → turns ≡ turns' → IsCourse n points' paid' turns' → IsCourse n points paid turns
 course-same n points points' paid paid' turns turns' e f g h = record {

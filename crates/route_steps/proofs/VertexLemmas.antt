@@ -7,10 +7,10 @@ use Rattle.std.proofs.lemmas.Option.{same_Some}
 use Rattle.road_base.specs.declared.coordinates.Point.{Point}
 use Rattle.geo_integer.specs.Bearing.{bearing_of}
 use Rattle.geo_integer.specs.Position.{position_of}
-use Rattle.edge_graph.specs.Laws.{vertices-even, vertices-odd}
+use Rattle.road_segments.specs.Laws.{vertices-even, vertices-odd}
 use Rattle.edge_graph.specs.NetworkView.{NetworkView, vertices_of}
-use Rattle.edge_graph.specs.Segment.{Segment}
-use Rattle.edge_graph.specs.Vertex.{Vertex}
+use Rattle.road_segments.specs.Segment.{Segment}
+use Rattle.road_segments.specs.Vertex.{Vertex}
 use Rattle.metric_make.specs.MetricOf.{bearing_along}
 use Rattle.route_steps.specs.Turnings.{bearing_on, name_on}
 use Rattle.route_steps.proofs.PointLemmas.{told}

@@ -2,8 +2,8 @@
 use Rattle.std.specs.Prelude.{ℕ, ℤ, ◌*◌, ◌/◌, ◌==◌, List, ◌++◌, Option, if◌then◌else◌, option_map, take}
 use Rattle.std.specs.List.{filter_map, slice_get}
 use Rattle.search_graph.specs.declared.costs.DurLen.{DurLen}
-use Rattle.edge_graph.specs.Segment.{Segment}
-use Rattle.edge_graph.specs.Vertex.{vertices}
+use Rattle.road_segments.specs.Segment.{Segment}
+use Rattle.road_segments.specs.Vertex.{vertices}
 
 -- the ids of the nodes where vertex v begins and where it ends, if there is such a vertex
 abbrev pub tail_of : List Segment → ℕ → Option ℤ

@@ -1,5 +1,6 @@
 pub mod Annotations
 pub mod CutLaws
+pub mod Intersections
 pub mod LineLaws
 pub mod Maneuvers
 pub mod Points
@@ -10,3 +11,4 @@ pub mod Steps
 pub mod TurnLaws
 pub mod Turnings
 pub mod WalkLaws
+pub mod Ways

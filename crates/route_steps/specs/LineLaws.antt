@@ -15,10 +15,10 @@ use Rattle.road_base.specs.declared.coordinates.Point.{Point}
 use Rattle.road_base.specs.declared.segments.Place.{Place}
 use Rattle.geo_integer.specs.Position.{position_of}
 use Rattle.geo_integer.specs.Project.{coordinate_at, position_at}
-use Rattle.edge_graph.specs.Laws.{length-vertices}
+use Rattle.road_segments.specs.Laws.{length-vertices}
 use Rattle.edge_graph.specs.NetworkView.{NetworkView}
-use Rattle.edge_graph.specs.Segment.{Segment}
-use Rattle.edge_graph.specs.Vertex.{Vertex, vertices}
+use Rattle.road_segments.specs.Segment.{Segment}
+use Rattle.road_segments.specs.Vertex.{Vertex, vertices}
 use Rattle.road_places.specs.Places.{IsPlaceOn}
 use Rattle.route_steps.specs.Points.{end_of, point_of, point_on, points_along}
 

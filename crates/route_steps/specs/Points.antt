@@ -1,6 +1,6 @@
 -- Where a walk between two places leads (a leg's geometry in OSRM's route service; the rounding of the places'
 -- points is this project's rule).
-use Rattle.std.specs.Prelude.{ℕ, ◌-◌, List, ◌++◌, Option, length, option_map, take}
+use Rattle.std.specs.Prelude.{ℕ, ◌-◌, pos, List, ◌++◌, Option, length, option_map, take, unwrap_or}
 use Rattle.std.specs.List.{filter_map, slice_get}
 use Rattle.std.specs.Option.{option_and_then, option_to_list}
 use Rattle.road_base.specs.declared.coordinates.Point.{Point}
@@ -11,8 +11,8 @@ use Rattle.geo_integer.specs.Project.{position_at}
 use Rattle.search_graph.specs.declared.costs.DurLen.{DurLen}
 use Rattle.search_graph.specs.Digraph.{Weighting}
 use Rattle.edge_graph.specs.NetworkView.{NetworkView}
-use Rattle.edge_graph.specs.Segment.{Segment}
-use Rattle.edge_graph.specs.Vertex.{vertices}
+use Rattle.road_segments.specs.Segment.{Segment}
+use Rattle.road_segments.specs.Vertex.{vertices}
 use Rattle.road_places.specs.Permitted.{IsPermitted}
 
 -- the walk is permitted from p to q, under some costs of the network
@@ -35,3 +35,11 @@ end_of segments v = option_map (λ x. x.to) (slice_get (vertices segments) v)
 abbrev pub points_along : List Segment → Place → Place → List ℕ → List Point
 points_along segments p q walk =
     option_to_list (point_on segments p) ++ (filter_map (end_of segments) (take (length walk - 1) walk) ++ option_to_list (point_on segments q))
+
+-- the point of no longitude and no latitude
+abbrev pub origin : Point
+origin = record { lon = pos 0; lat = pos 0; in_range = record { west = record { le = tt }; east = record { le = tt }; south = record { le = tt }; north = record { le = tt } } }
+
+-- the point at place i; the origin where there is none, which no permitted walk meets
+abbrev pub point_in : List Point → ℕ → Point
+point_in points i = unwrap_or (slice_get points i) origin

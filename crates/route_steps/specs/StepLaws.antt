@@ -19,11 +19,11 @@ use Rattle.road_places.specs.Paid.{paid_along, paid_to, steps_of, total_of}
 use Rattle.road_places.specs.PaidLaws.{permitted_adds_up, total_of-append}
 use Rattle.road_places.specs.Permitted.{IsPermitted}
 use Rattle.road_places.specs.Places.{IsPlaceOn}
-use Rattle.road_places.specs.RoadMetric.{RoadMetric}
+use Rattle.metric_make.specs.RoadMetric.{RoadMetric}
 use Rattle.route_steps.specs.CutLaws.{cost_of, cuts-ahead, pieces-cost, pieces-line, points_of}
-use Rattle.route_steps.specs.Points.{points_along}
+use Rattle.route_steps.specs.Points.{point_in, points_along}
 use Rattle.route_steps.specs.StepSums.{AddUp, IsLineCut}
-use Rattle.route_steps.specs.Steps.{AreAhead, arrival_at, begin_at, begins_along, cost_between, departure, joined, pieces, point_in, step_between, steps_along}
+use Rattle.route_steps.specs.Steps.{AreAhead, arrival_at, begin_at, begins_along, cost_between, departure, joined, pieces, step_between, steps_along}
 use Rattle.route_steps.specs.Turnings.{maneuver_at, turn_paid, turns_paid}
 use Rattle.route_steps.specs.declared.begins.Begin.{Begin}
 use Rattle.route_steps.specs.declared.maneuvers.ManeuverKind.{ManeuverKind}

@@ -4,7 +4,7 @@ use Rattle.road_base.specs.declared.segments.Place.{Place}
 use Rattle.search_graph.specs.declared.costs.DurLen.{DurLen}
 use Rattle.road_places.specs.Paid.{total_of}
 use Rattle.road_places.specs.Permitted.{IsPermitted}
-use Rattle.road_places.specs.RoadMetric.{RoadMetric}
+use Rattle.metric_make.specs.RoadMetric.{RoadMetric}
 use Rattle.route_steps.specs.Points.{points_along}
 use Rattle.route_steps.specs.Steps.{joined}
 use Rattle.route_steps.specs.declared.step_lists.Step.{Step}

@@ -1,16 +1,17 @@
 -- The steps of a walk (those of OSRM's route service; which turns are told is this project's rule): the walk is
 -- cut where a driver is told of a turn, and what a step says is told by the two places between which it lies.
 -- Place k of a walk is where its vertex k begins; the place behind the last vertex is where the walk ends.
-use Rattle.std.specs.Prelude.{ℕ, ◌+◌, ◌-◌, ◌==◌, ◌<◌, ◌≤◌, pos, List, [], ◌∷◌, ◌++◌, All, Option, None, Some, drop, if◌then◌else◌, length, map, option_map, slice_index, slice_range, unwrap_or}
-use Rattle.std.specs.List.{filter_map, flat_map, range_with_len, slice_get, zip}
+use Rattle.std.specs.Prelude.{ℕ, ◌+◌, ◌-◌, ◌==◌, ◌<◌, ◌≤◌, List, [], ◌∷◌, ◌++◌, All, Option, None, Some, drop, if◌then◌else◌, length, map, option_map, slice_index, slice_range}
+use Rattle.std.specs.List.{filter_map, flat_map, range_with_len, zip}
 use Rattle.road_base.specs.declared.coordinates.Point.{Point}
 use Rattle.road_base.specs.declared.segments.Place.{Place}
 use Rattle.search_graph.specs.declared.costs.DurLen.{DurLen}
 use Rattle.search_graph.specs.Durations.{durlen_ops}
 use Rattle.edge_graph.specs.NetworkView.{NetworkView}
 use Rattle.road_places.specs.Paid.{paid_along, total_of}
-use Rattle.road_places.specs.RoadMetric.{RoadMetric}
-use Rattle.route_steps.specs.Points.{points_along}
+use Rattle.metric_make.specs.RoadMetric.{RoadMetric}
+use Rattle.route_steps.specs.Intersections.{arrival_on, intersections_between}
+use Rattle.route_steps.specs.Points.{point_in, points_along}
 use Rattle.route_steps.specs.Turnings.{bearing_on, maneuver_at, name_on, turns_paid}
 use Rattle.route_steps.specs.declared.begins.Begin.{Begin}
 use Rattle.route_steps.specs.declared.maneuvers.Maneuver.{Maneuver}
@@ -49,14 +50,6 @@ cost_between paid turns i j = durlen_ops.plus (total_of (slice_range paid i j)) 
 abbrev pub points_between : List Point → ℕ → ℕ → List Point
 points_between points i j = slice_range points i (j + 1)
 
--- the point of no longitude and no latitude
-abbrev pub origin : Point
-origin = record { lon = pos 0; lat = pos 0; in_range = record { west = record { le = tt }; east = record { le = tt }; south = record { le = tt }; north = record { le = tt } } }
-
--- the point at place i; the origin where there is none, which no permitted walk meets
-abbrev pub point_in : List Point → ℕ → Point
-point_in points i = unwrap_or (slice_get points i) origin
-
 -- how a walk comes to place i: at its begin from nowhere, else along the vertex before
 abbrev pub bearing_to : NetworkView → List ℕ → ℕ → ℕ
 bearing_to network walk i = if i == 0 then 0 else bearing_on network (slice_index walk (i - 1))
@@ -79,6 +72,7 @@ step_between network walk points paid turns piece = record {
   points = points_between points piece.0.place piece.1;
   name = name_on network (slice_index walk piece.0.place);
   maneuver = begin_told network walk points piece.0;
+  intersections = intersections_between network walk points piece.0.place piece.1;
 }
 
 -- the arrival at the end of the last vertex's part: nothing more is paid, and it leads nowhere
@@ -88,6 +82,7 @@ arrival_at network last point = record {
   points = point ∷ point ∷ [];
   name = name_on network last;
   maneuver = record { location = point; before = bearing_on network last; after = 0; kind = Arrive; modifier = None };
+  intersections = arrival_on network point last ∷ [];
 }
 
 -- the steps of a permitted walk from p to q: those between its cuts, and the arrival

@@ -9,10 +9,10 @@ use Rattle.search_graph.specs.declared.costs.DurLen.{DurLen}
 use Rattle.search_graph.specs.Durations.{durlen_ops}
 use Rattle.edge_graph.specs.NetworkView.{NetworkView, vertices_of}
 use Rattle.edge_graph.specs.Turn.{exits}
-use Rattle.edge_graph.specs.Vertex.{opposite}
+use Rattle.road_segments.specs.Vertex.{opposite}
 use Rattle.metric_make.specs.MetricOf.{bearing_along}
 use Rattle.road_places.specs.Paid.{steps_of}
-use Rattle.road_places.specs.RoadMetric.{RoadMetric}
+use Rattle.metric_make.specs.RoadMetric.{RoadMetric}
 use Rattle.route_steps.specs.Maneuvers.{told}
 use Rattle.route_steps.specs.declared.maneuvers.ManeuverKind.{ManeuverKind}
 

@@ -10,9 +10,10 @@ use Rattle.search_graph.specs.Digraph.{IsOpen}
 use Rattle.search_graph.specs.Durations.{durlen_ops}
 use Rattle.search_graph.specs.Faults.{AllInRange}
 use Rattle.search_graph.specs.Walks.{Walk}
+use Rattle.edge_graph.specs.NetworkView.{turn_graph}
 use Rattle.road_places.specs.Permitted.{IsPermitted}
 use Rattle.road_places.specs.Places.{IsDirection, IsPlaceOn, parts_along}
-use Rattle.road_places.specs.RoadMetric.{RoadMetric, turn_graph}
+use Rattle.metric_make.specs.RoadMetric.{RoadMetric}
 
 -- a direction of a segment is a vertex
 direction-below : (s n v : ℕ) → s < n → IsDirection s v → v < 2 * n

@@ -5,7 +5,7 @@ ghost use Rattle.search_graph.specs.declared.costs.DurLen.{DurLen};
 ghost use Rattle.road_places.specs.Paid.{AddUpTo, paid_along};
 ghost use Rattle.road_places.specs.Permitted.{IsPermitted};
 ghost use Rattle.road_places.specs.Places.{IsPlaceOn};
-ghost use Rattle.road_places.specs.RoadMetric.{road_of};
+ghost use Rattle.metric_make.specs.RoadMetric.{road_of};
 ghost use Rattle.route_steps.specs.Annotations.{nodes_along};
 
 use crate::paid::{Costs, paid_along};

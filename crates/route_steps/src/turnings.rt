@@ -2,9 +2,9 @@
 
 ghost use Rattle.std.specs.Prelude.{◌≡◌, ◌*◌, ◌<◌, List, All, IfOk, length};
 ghost use Rattle.search_graph.specs.declared.costs.DurLen.{DurLen};
-ghost use Rattle.edge_graph.specs.Vertex.{opposite};
+ghost use Rattle.road_segments.specs.Vertex.{opposite};
 ghost use Rattle.road_places.specs.Paid.{AreTurnsAlong, IsTurnCosting};
-ghost use Rattle.road_places.specs.RoadMetric.{road_of};
+ghost use Rattle.metric_make.specs.RoadMetric.{road_of};
 ghost use Rattle.route_steps.specs.Turnings.{bearing_on, turn_paid, turn_told, turns_paid};
 
 use crate::maneuvers::{ManeuverKind, told};
@@ -29,8 +29,8 @@ pub(crate) fn bearing_on(network: &Network, v: u32) -> u32
     }
 }
 
-// The other direction of a vertex's segment.
-fn other_way(v: u32) -> u32
+/// The other direction of a vertex's segment.
+pub(crate) fn other_way(v: u32) -> u32
     ensures { result ≡ opposite v }
 {
     if v % 2 == 0 { v + 1 } else { v - 1 }

@@ -7,7 +7,7 @@ ghost use Rattle.search_graph.specs.declared.costs.DurLen.{DurLen};
 ghost use Rattle.road_places.specs.Paid.{paid_along, total_of};
 ghost use Rattle.road_places.specs.Permitted.{IsPermitted};
 ghost use Rattle.road_places.specs.Places.{IsPlaceOn};
-ghost use Rattle.road_places.specs.RoadMetric.{road_of};
+ghost use Rattle.metric_make.specs.RoadMetric.{road_of};
 ghost use Rattle.route_steps.specs.Points.{points_along};
 ghost use Rattle.route_steps.specs.StepParts.{IsCourse};
 ghost use Rattle.route_steps.specs.StepSums.{AddUp, IsLineCut};
@@ -15,6 +15,8 @@ ghost use Rattle.route_steps.specs.Steps.{AreAhead, arrival_at, begin_told, cost
 ghost use Rattle.route_steps.specs.Turnings.{turns_paid};
 
 use crate::begins::{Begin, begins_along};
+use crate::intersection_lists::Intersections;
+use crate::intersections::{arrival_on, intersections_between};
 use crate::maneuvers::{Maneuver, ManeuverKind};
 use crate::paid::{Costs, paid_along};
 use crate::step_lists::{Step, Steps};
@@ -114,13 +116,16 @@ fn step_between(
     requires within { end ≤ length walk.now }
     ensures { IfOk result (λ step. step ≡ step_between network.now walk.now course.now.points course.now.paid course.now.turns (begin, end)) }
 {
-    let points = Vec::from_slice(alloc, &course.points.as_slice()[begin.place..end + 1])?;
+    let line = course.points.as_slice();
+    let points = Vec::from_slice(alloc, &line[begin.place..end + 1])?;
     let name = Text::copy_of(alloc, network.name(walk[begin.place]))?;
+    let intersections = intersections_between(alloc, network, walk, line, begin.place, end)?;
     Ok(Step {
         cost: cost_between(course, begin.place, end),
         points: Points::of(points),
         name,
-        maneuver: begin_told(network, walk, course.points.as_slice(), begin),
+        maneuver: begin_told(network, walk, line, begin),
+        intersections,
     })
 }
 
@@ -131,6 +136,8 @@ fn arrival_at(alloc: Global, network: &Network, last: u32, point: Point) -> Resu
 {
     let points = Vec::from_slice(alloc, &[point, point])?;
     let name = Text::copy_of(alloc, network.name(last))?;
+    let mut intersections = Vec::with_capacity(alloc, 1)?;
+    intersections.push(arrival_on(alloc, network, point, last)?)?;
     Ok(Step {
         cost: DurLen::ZERO,
         points: Points::of(points),
@@ -142,6 +149,7 @@ fn arrival_at(alloc: Global, network: &Network, last: u32, point: Point) -> Resu
             kind: ManeuverKind::Arrive,
             modifier: None,
         },
+        intersections: Intersections::of(intersections),
     })
 }
 
@@ -208,9 +216,10 @@ fn push_steps(
 
 /// The steps of a permitted walk, of at most 2^30 units, from one place to another. The first one begins with the
 /// departure, a further one at each turn of which the driver is told, and the last is the arrival, which costs
-/// nothing and has the walk's last point twice. A turn's cost belongs to the step that begins at it, or else
-/// to the one in which it lies. Together the steps cost what the walk costs, and the lines of those before the
-/// arrival are the walk's line, cut. It answers an error only where memory runs out.
+/// nothing and has the walk's last point twice. A turn's cost belongs to the step that begins at it, or else to the
+/// one in which it lies. Together the steps cost what the walk costs, and the lines of those before the arrival are
+/// the walk's line, cut. Each has the intersections from its begin on that lie before its end, and the arrival one. It
+/// answers an error only where memory runs out.
 pub fn steps(
     alloc: Global,
     base: &BaseMetric,

@@ -131,7 +131,7 @@ module _ {C : Type 0} {ops : CostOps C} (laws : CostLaws ops) {Hop : ℕ → ℕ
       laws.units_more d ((m + k) + length vs * k) (m + length (v ∷ vs) * k) (Chain-units k small v z (m + k) h.0 d vs here h.2) (one_part_more m k (length vs))
 
   -- the vertices of a chain
-  Chain-below : (n : ℕ) → ((u v : ℕ) (s : C) → Hop u v s → v < n) → (u z : ℕ) (c d : C) (vs : List ℕ) → Chain (Paying ops Hop) u c vs z d → AllByRecursion (λ y. y < n) vs
+  pub Chain-below : (n : ℕ) → ((u v : ℕ) (s : C) → Hop u v s → v < n) → (u z : ℕ) (c d : C) (vs : List ℕ) → Chain (Paying ops Hop) u c vs z d → AllByRecursion (λ y. y < n) vs
   Chain-below n heads u z c d [] h = tt
   Chain-below n heads u z c d (v ∷ vs) h = (heads u v h.1.0 h.1.1, Chain-below n heads v z h.0 d vs h.2)
 

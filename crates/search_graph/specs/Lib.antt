@@ -7,6 +7,7 @@ pub mod Faults
 pub mod Indexed
 pub mod OrderLaws
 pub mod Shortened
+pub mod UnitLaws
 pub mod Walks
 pub mod Weighted
 pub mod WeightLaws

@@ -30,14 +30,14 @@ module _ {C : Type 0} {ops : CostOps C} (laws : CostLaws ops) (g : Digraph) (w :
   pub small_move_units : (u v : ℕ) (s : C) → IsMove ops g w u v s → ops.units s 2
   small_move_units u v s h = subst (λ x. ops.units x 2) (sym h.4) (laws.plus_units h.0 h.1 1 1 (small.arc_unit h.2.0 h.0 h.2.2) (small.vertex_unit v h.1 h.3))
 
-  move_valid : (u v : ℕ) (s : C) → IsMove ops g w u v s → ops.valid s
+  pub move_valid : (u v : ℕ) (s : C) → IsMove ops g w u v s → ops.valid s
   move_valid u v s m = laws.units_valid s 2 (small_move_units u v s m)
 
   -- an open vertex is one of the graph's
-  open_below : (v : ℕ) (x : C) → IsOpen w v x → v < g.vertices
+  pub open_below : (v : ℕ) (x : C) → IsOpen w v x → v < g.vertices
   open_below v x o = subst (λ (n : ℕ). v < n) small.vertices (slice_get_within w.vertex v (Some x) o)
 
-  move_below : (u v : ℕ) (s : C) → IsMove ops g w u v s → v < g.vertices
+  pub move_below : (u v : ℕ) (s : C) → IsMove ops g w u v s → v < g.vertices
   move_below u v s m = open_below v m.1 m.3
 
   -- small weights are a weighting

@@ -9,11 +9,10 @@ ghost use Rattle.road_io.specs.Told.{AppendsFront};
 ghost use Rattle.serve_command.specs.InnerEnds.{EndsLines};
 ghost use Rattle.serve_command.specs.ServeEnding.{last_lines};
 
-use crate::counted_doors::{CountedDoors, any_fault};
-use door_service::Served;
+use door_workers::Served;
 use program_ends::{end_exhausted, put_line};
 use road_base::Status;
-use road_io::{Closer, DoorSet, Failed, Opened, Sink};
+use road_io::{Closer, DoorSet, Doors, Failed, Opened, Sink, any_fault};
 
 /// What serving came to, once its doors are back.
 #[derive(Clone, Copy, Debug)]
@@ -29,7 +28,7 @@ pub struct Told {
 }
 
 /// Gives the doors back that were served.
-pub fn take_back<N: CountedDoors>(doors: &mut N, served: Served<N::Door, N::Closer>) -> Told
+pub fn take_back<N: Doors>(doors: &mut N, served: Served<N::Door, N::Closer>) -> Told
     requires out { length served.doors.queries.items + 1 ≤ (N.Doors.view doors.old).out }
     ensures back { BackGives (N.Doors.view doors.old) (door_set (map N.Door.view served.doors.queries.items) (N.Door.view served.doors.control)) (N.Doors.view doors.new) }
     ensures numbers { (result.connections ≡ served.connections) × (result.metric ≡ served.metric) }
@@ -43,7 +42,7 @@ pub fn take_back<N: CountedDoors>(doors: &mut N, served: Served<N::Door, N::Clos
         closer,
         short,
     } = served;
-    let rose = any_fault::<N>(&queries, &control);
+    let rose = any_fault(&queries, &control);
     doors.back(queries, control);
     if let Some(closer) = closer {
         closer.close();
@@ -57,7 +56,7 @@ pub fn take_back<N: CountedDoors>(doors: &mut N, served: Served<N::Door, N::Clos
 }
 
 /// Gives the doors back as they were opened.
-pub fn hand_back<N: CountedDoors>(doors: &mut N, opened: Opened<N::Door, N::Closer>)
+pub fn hand_back<N: Doors>(doors: &mut N, opened: Opened<N::Door, N::Closer>)
     requires out { length opened.queries.items + 1 ≤ (N.Doors.view doors.old).out }
     ensures { BackGives (N.Doors.view doors.old) (door_set (map N.Door.view opened.queries.items) (N.Door.view opened.control)) (N.Doors.view doors.new) }
 {

@@ -6,12 +6,10 @@
 //! stands in the output, and what was done with the doors.
 #![tactic(auto)]
 
-mod counted_doors;
 mod ending;
 mod laws;
 mod preparing;
 mod serving;
 
-pub use counted_doors::CountedDoors;
 pub use laws::steady_runs_never_end_for_the_outside;
 pub use serving::serve;

@@ -5,12 +5,10 @@ ghost use Rattle.std.specs.Arc.{arc_value};
 ghost use Rattle.std.specs.Fmt.{decimal};
 ghost use Rattle.command_words.specs.Commands.{serving_seen};
 ghost use Rattle.control_port.specs.Controlling.{IsBaseOf, IsOn};
-ghost use Rattle.edge_graph.specs.NetworkView.{graph_of};
 ghost use Rattle.map_loading.specs.Loading.{load_of};
+ghost use Rattle.metric_make.specs.MetricOf.{IsMetricOn};
 ghost use Rattle.metric_publish.specs.History.{entry};
 ghost use Rattle.program_ends.specs.FileReads.{IsLeft};
-ghost use Rattle.search_graph.specs.Durations.{durlen_ops};
-ghost use Rattle.search_graph.specs.Weighted.{IsWeighting};
 ghost use Rattle.serve_command.specs.InnerEnds.{IsFirstMetric, IsRowFault, IsStartFault};
 ghost use Rattle.serve_command.specs.Start.{IsOpening, IsStartRead, names_in, row_line, start_bytes};
 ghost use Rattle.snap_index.specs.Ends.{all_ends};
@@ -81,7 +79,7 @@ fn start_costs(
     turns: &[u8],
 ) -> Result<BaseMetric, LoadFault>
     ensures base { IfOk result (IsBaseOf network.now speeds.now turns.now) }
-    ensures weighting { IfOk result (λ base. IsWeighting durlen_ops (graph_of network.now) base.weights) }
+    ensures on { IfOk result (λ base. IsMetricOn network.now base.weights) }
     ensures fault { IfErr result (IsRowFault speeds.now turns.now) }
 {
     match base_of_files(alloc, network, speeds, turns) {

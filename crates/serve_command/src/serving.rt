@@ -17,12 +17,11 @@ ghost use Rattle.serve_command.specs.ServeEnding.{EndsServe, IsReady, asked_in, 
 ghost use Rattle.serve_command.specs.Start.{IsOpening, start_bytes};
 ghost use Rattle.snap_index.specs.Ends.{all_ends};
 
-use crate::counted_doors::CountedDoors;
 use crate::ending::{end_served, hand_back, take_back};
 use crate::preparing::{Start, StartFiles, prepare, read_start};
 use command_words::ServeWords;
 use customized::Metric;
-use door_service::Post;
+use door_workers::Post;
 use map_loading::LoadFault;
 use metric_publish::desk::DeskOf;
 use metric_publish::history::{Naming, Opened as History};
@@ -53,7 +52,7 @@ fn put_ready<O: Sink>(output: &mut O) -> Result<(), Failed>
 // Serves doors that were opened, and gives them back.
 fn serve_opened<
     J: Naming + Send + Sync,
-    N: CountedDoors,
+    N: Doors,
     G: Gate + Sync,
     O: Sink,
     R: Threads + Wait + Sync,
@@ -112,7 +111,7 @@ where
 // Opens doors, and serves them.
 fn serve_in<
     J: Naming + Send + Sync,
-    N: CountedDoors,
+    N: Doors,
     G: Gate + Sync,
     O: Sink,
     R: Threads + Wait + Net<Listener = TcpListener, Stream = TcpStream> + Sync,
@@ -158,7 +157,7 @@ where
 // Takes the room for the doors' posts, and serves.
 fn serve_from<
     J: Naming + Send + Sync,
-    N: CountedDoors,
+    N: Doors,
     G: Gate + Sync,
     O: Sink,
     R: Threads + Wait + Net<Listener = TcpListener, Stream = TcpStream> + Sync,
@@ -194,7 +193,7 @@ where
 // Opens a board with a seat for each worker, and serves from its first metric on.
 fn serve_board<
     J: Naming + Send + Sync,
-    N: CountedDoors,
+    N: Doors,
     G: Gate + Sync,
     O: Sink,
     R: Threads + Wait + Net<Listener = TcpListener, Stream = TcpStream> + Sync,
@@ -235,7 +234,7 @@ where
 
 // Serves what was prepared.
 fn serve_start<
-    N: CountedDoors,
+    N: Doors,
     G: Gate + Sync,
     O: Sink,
     R: Threads + Wait + Net<Listener = TcpListener, Stream = TcpStream> + Sync,
@@ -274,7 +273,7 @@ where
 
 // Serves over the files that were read, or refuses them.
 fn serve_over<
-    N: CountedDoors,
+    N: Doors,
     G: Gate + Sync,
     O: Sink,
     R: Threads + Wait + Net<Listener = TcpListener, Stream = TcpStream> + Sync,
@@ -321,7 +320,7 @@ where
 pub fn serve<
     F: Files,
     O: Sink,
-    N: CountedDoors,
+    N: Doors,
     G: Gate + Sync,
     R: Threads + Wait + Net<Listener = TcpListener, Stream = TcpStream> + Sync,
 >(

@@ -4,7 +4,7 @@ use Rattle.std.specs.Prelude.{Option, Some, None, option_map}
 use Rattle.std.specs.List.{slice_get}
 use Rattle.std.proofs.lemmas.Option.{same_Some, slice_get-map}
 use Rattle.road_base.specs.declared.coordinates.Point.{Point}
-use Rattle.edge_graph.specs.Segment.{Segment}
+use Rattle.road_segments.specs.Segment.{Segment}
 use Rattle.snap_index.specs.Ends.{ends_of, all_ends}
 use Rattle.snap_index.specs.declared.grids.SegmentEnds.{SegmentEnds}
 

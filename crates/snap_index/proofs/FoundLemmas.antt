@@ -10,7 +10,7 @@ use Rattle.geo_integer.specs.Position.{Position, position_of}
 use Rattle.geo_integer.specs.Project.{place_of, position_at, scalar_product}
 use Rattle.search_graph.specs.declared.costs.DurLen.{DurLen}
 use Rattle.search_graph.specs.Digraph.{Weighting}
-use Rattle.edge_graph.specs.Segment.{Segment}
+use Rattle.road_segments.specs.Segment.{Segment}
 use Rattle.snap_index.specs.Candidates.{AreSlots, Ascend, IsCandidate, IsSlot, PrecedesSlot, Stands, is_near, line_remoteness, places_found}
 use Rattle.snap_index.specs.Ends.{all_ends, ends_of}
 use Rattle.snap_index.specs.Firsts.{AreFirsts, AreInOrder, ComesBefore, IsAmong, IsBefore, IsFound}

@@ -1,6 +1,6 @@
 -- Where the segments of a network lie.
 use Rattle.std.specs.Prelude.{List, map}
-use Rattle.edge_graph.specs.Segment.{Segment}
+use Rattle.road_segments.specs.Segment.{Segment}
 use Rattle.snap_index.specs.declared.grids.SegmentEnds.{SegmentEnds}
 
 -- a segment's two ends, in the order of its way

@@ -5,7 +5,7 @@ use Rattle.std.specs.List.{AllByRecursion, slice_get}
 use Rattle.geo_integer.specs.Position.{Position, position_of}
 use Rattle.search_graph.specs.declared.costs.DurLen.{DurLen}
 use Rattle.search_graph.specs.Digraph.{Weighting}
-use Rattle.edge_graph.specs.Segment.{Segment}
+use Rattle.road_segments.specs.Segment.{Segment}
 use Rattle.snap_index.specs.Kept.{IsKept, decimetres_between}
 use Rattle.snap_index.specs.Nearest.{nearest_on, nearest_spot, remoteness, remoteness_of}
 use Rattle.snap_index.specs.declared.filters.Filter.{Filter}

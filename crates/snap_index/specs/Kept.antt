@@ -6,7 +6,7 @@ use Rattle.geo_integer.specs.Plane.{distance_of}
 use Rattle.geo_integer.specs.Position.{Position, position_of}
 use Rattle.search_graph.specs.declared.costs.DurLen.{DurLen}
 use Rattle.search_graph.specs.Digraph.{Weighting, IsOpen}
-use Rattle.edge_graph.specs.Segment.{Segment}
+use Rattle.road_segments.specs.Segment.{Segment}
 use Rattle.snap_index.specs.Nearest.{nearest_spot}
 use Rattle.snap_index.specs.declared.filters.Filter.{Filter}
 use Rattle.snap_index.specs.declared.filters.Heading.{Heading}

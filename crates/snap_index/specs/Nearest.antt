@@ -3,7 +3,7 @@ use Rattle.std.specs.Prelude.{ℕ}
 use Rattle.geo_integer.specs.Position.{Position, position_of}
 use Rattle.geo_integer.specs.Plane.{plane_between}
 use Rattle.geo_integer.specs.Project.{place_of, position_at}
-use Rattle.edge_graph.specs.Segment.{Segment}
+use Rattle.road_segments.specs.Segment.{Segment}
 
 -- the position `at` 1024ths along a segment, in the order of its way
 unfoldable pub spot_on : Segment → ℕ → Position

@@ -5,7 +5,7 @@ use Rattle.road_base.specs.declared.segments.Place.{Place}
 use Rattle.geo_integer.specs.Position.{Position}
 use Rattle.search_graph.specs.declared.costs.DurLen.{DurLen}
 use Rattle.search_graph.specs.Digraph.{Weighting}
-use Rattle.edge_graph.specs.Segment.{Segment}
+use Rattle.road_segments.specs.Segment.{Segment}
 use Rattle.snap_index.specs.Kept.{IsKept}
 use Rattle.snap_index.specs.Nearest.{nearest_on, remoteness_of}
 use Rattle.snap_index.specs.declared.filters.Filter.{Filter}

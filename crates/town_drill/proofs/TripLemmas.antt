@@ -9,7 +9,7 @@ use Rattle.road_places.specs.declared.walks.Route.{Route}
 use Rattle.road_walks.specs.Least.{IsRouteAnswer}
 use Rattle.town_drill.specs.Drill.{AreTrips, IsLine, line_text, metric_road}
 use Rattle.geo_integer.specs.Position.{Position}
-use Rattle.road_places.specs.RoadMetric.{RoadMetric}
+use Rattle.metric_make.specs.RoadMetric.{RoadMetric}
 use Rattle.town_drill.specs.Asked.{node_position, start_of, stop_of}
 use Rattle.town_drill.specs.Trips.{IsTrip, StandsAt}
 use Rattle.town_drill.specs.declared.trips.Trip.{Trip}

@@ -5,7 +5,7 @@ use Rattle.std.specs.List.{AllZip, flat_map, range_with_len}
 use Rattle.edge_graph.specs.NetworkView.{NetworkView}
 use Rattle.map_loading.specs.Loading.{load_of}
 use Rattle.metric_make.specs.MetricOf.{metric_of}
-use Rattle.road_places.specs.RoadMetric.{RoadMetric, road_of}
+use Rattle.metric_make.specs.RoadMetric.{RoadMetric, road_of}
 use Rattle.town_text.specs.Town.{town_text}
 use Rattle.town_drill.specs.Asked.{node_position, settings_text, speed_rows, start_of, stop_of}
 use Rattle.town_drill.specs.Trips.{IsTrip}

@@ -2,7 +2,7 @@
 use Rattle.std.specs.Prelude.{◌≡◌, ℕ, ◌⊎◌, List, None}
 use Rattle.geo_integer.specs.Position.{Position}
 use Rattle.road_base.specs.declared.segments.Place.{Place}
-use Rattle.road_places.specs.RoadMetric.{RoadMetric}
+use Rattle.metric_make.specs.RoadMetric.{RoadMetric}
 use Rattle.road_walks.specs.Least.{HasNoRoute, IsLeastRoute}
 use Rattle.search_graph.specs.declared.costs.DurLen.{DurLen}
 use Rattle.snap_index.specs.Snapped.{HasNoPlace, IsSnapped}

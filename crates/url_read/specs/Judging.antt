@@ -3,7 +3,7 @@
 use Rattle.std.specs.Prelude.{ℕ, Bool, true, false, not, ◌==◌, ◌&&◌, List, [], codes, Option, None, Result, Ok, option_map}
 use Rattle.std.specs.List.{find, list_any}
 use Rattle.std.specs.Str.{byte}
-use Rattle.option_values.specs.Values.{truth_of, radius_of, bearing_of, approach_of, hint_of, snapping_of, since_of, number_of, alternatives_of, route_annotations_of, every_annotation, geometries_of, overview_of, continue_straight_of, table_annotations_of}
+use Rattle.option_values.specs.Values.{truth_of, radius_of, bearing_of, approach_of, hint_of, snapping_of, since_of, number_of, alternatives_of, route_annotations_of, every_annotation, geometries_of, overview_of, continue_straight_of, source_of, destination_of, table_annotations_of}
 use Rattle.option_values.specs.Entries.{one_each, chosen_among}
 use Rattle.url_read.specs.Options.{name_of, value_of, is_of, last_value_of, read_or}
 use Rattle.url_read.specs.Refusals.{bad_option, and_then, or_else}
@@ -17,14 +17,18 @@ use Rattle.option_values.specs.declared.option_types.Alternatives.TheVariants as
 use Rattle.option_values.specs.declared.option_types.Geometries.TheVariants.{Polyline}
 use Rattle.option_values.specs.declared.option_types.Overview.TheVariants as overview
 use Rattle.option_values.specs.declared.option_types.ContinueStraight.TheVariants as straight
+use Rattle.option_values.specs.declared.option_types.Source.TheVariants as source
+use Rattle.option_values.specs.declared.option_types.Destination.TheVariants as destination
 use Rattle.option_values.specs.declared.option_types.TableAnnotations.{TableAnnotations}
 use Rattle.option_values.specs.declared.option_types.Chosen.{Chosen}
+use Rattle.url_read.specs.declared.requests.Telling.{Telling}
 use Rattle.url_read.specs.declared.requests.RouteOptions.{RouteOptions}
 use Rattle.url_read.specs.declared.requests.TableOptions.{TableOptions}
 use Rattle.url_read.specs.declared.requests.NearestOptions.{NearestOptions}
+use Rattle.url_read.specs.declared.requests.TripOptions.{TripOptions}
 use Rattle.url_read.specs.declared.requests.OptionValues.{OptionValues}
 use Rattle.url_read.specs.declared.requests.Service.{Service}
-use Rattle.url_read.specs.declared.requests.Service.TheVariants.{Route, Table, Nearest}
+use Rattle.url_read.specs.declared.requests.Service.TheVariants.{Route, Table, Nearest, Trip}
 
 -- the option has a value, which its service knows; a value that is lacking is not the empty one
 abbrev pub is_legal : ServiceName → List ℕ → Bool
@@ -53,14 +57,28 @@ approaches_for count options = or_else (one_each None approach_of count (last_va
 abbrev pub chosen_for : ℕ → List ℕ → List (List ℕ) → Result Chosen Refusal
 chosen_for count name options = or_else (chosen_among count (last_value_of name options)) (bad_option name)
 
-abbrev pub route_options : List (List ℕ) → RouteOptions
-route_options options = record {
-  alternatives = read_or alternatives.Off alternatives_of (codes "alternatives") options;
+-- what a reply tells of its routes
+abbrev pub telling_of : List (List ℕ) → Telling
+telling_of options = record {
   steps = read_or false truth_of (codes "steps") options;
   annotations = read_or (every_annotation false) route_annotations_of (codes "annotations") options;
   geometries = read_or Polyline geometries_of (codes "geometries") options;
   overview = read_or overview.Simplified overview_of (codes "overview") options;
+}
+
+abbrev pub route_options : List (List ℕ) → RouteOptions
+route_options options = record {
+  alternatives = read_or alternatives.Off alternatives_of (codes "alternatives") options;
+  telling = telling_of options;
   continue_straight = read_or straight.Default continue_straight_of (codes "continue_straight") options;
+}
+
+abbrev pub trip_options : List (List ℕ) → TripOptions
+trip_options options = record {
+  telling = telling_of options;
+  roundtrip = read_or true truth_of (codes "roundtrip") options;
+  source = read_or source.Any source_of (codes "source") options;
+  destination = read_or destination.Any destination_of (codes "destination") options;
 }
 
 abbrev pub table_annotations : List (List ℕ) → TableAnnotations
@@ -80,6 +98,7 @@ abbrev pub service_for : ServiceName → ℕ → List (List ℕ) → Result Serv
 service_for name.Route count options = Ok (Route (route_options options))
 service_for name.Table count options = and_then (table_options count options) (λ own. Ok (Table own))
 service_for name.Nearest count options = Ok (Nearest (nearest_options options))
+service_for name.Trip count options = Ok (Trip (trip_options options))
 
 -- the values of all options over so many coordinates, or the first list that does not fit
 abbrev pub values_for : ServiceName → ℕ → List (List ℕ) → Result OptionValues Refusal

@@ -4,9 +4,9 @@ use Rattle.std.specs.Prelude.{ℕ, Bool, true, false, ◌==◌, ◌||◌, List, 
 use Rattle.std.specs.Option.{option_or}
 use Rattle.std.specs.List.{before_first, after_first, slice_split}
 use Rattle.std.specs.Str.{byte}
-use Rattle.option_values.specs.Values.{truth_of, all_read, radius_of, bearing_of, approach_of, snapping_of, since_of, number_of, alternatives_of, route_annotations_of, geometries_of, overview_of, continue_straight_of, table_annotations_of, chosen_of}
+use Rattle.option_values.specs.Values.{truth_of, all_read, radius_of, bearing_of, approach_of, snapping_of, since_of, number_of, alternatives_of, route_annotations_of, geometries_of, overview_of, continue_straight_of, source_of, destination_of, table_annotations_of, chosen_of}
 use Rattle.url_read.specs.declared.service_names.ServiceName.{ServiceName}
-use Rattle.url_read.specs.declared.service_names.ServiceName.TheVariants.{Route, Table, Nearest}
+use Rattle.url_read.specs.declared.service_names.ServiceName.TheVariants.{Route, Table, Nearest, Trip}
 
 -- the options of a query; an empty query has none, but an empty piece of a query is an option
 abbrev pub options_of : List ℕ → List (List ℕ)
@@ -45,18 +45,23 @@ is_common name value =
     else (if bytes_eq name (codes "since") then is_some (since_of value)
     else false)))))))
 
--- of `route` alone
-abbrev pub is_of_route : List ℕ → List ℕ → Bool
-is_of_route name value =
-    if bytes_eq name (codes "alternatives") then is_some (alternatives_of value)
-    else (if bytes_eq name (codes "steps") then is_some (truth_of value)
+-- of the services that tell of routes
+abbrev pub is_of_telling : List ℕ → List ℕ → Bool
+is_of_telling name value =
+    if bytes_eq name (codes "steps") then is_some (truth_of value)
     else (if bytes_eq name (codes "annotations") then is_some (route_annotations_of value)
     else (if bytes_eq name (codes "geometries") then is_some (geometries_of value)
     else (if bytes_eq name (codes "overview") then is_some (overview_of value)
-    else (if bytes_eq name (codes "continue_straight") then is_some (continue_straight_of value)
-    else false)))))
+    else false)))
 
--- of `table` alone
+-- of `route`
+abbrev pub is_of_route : List ℕ → List ℕ → Bool
+is_of_route name value =
+    if bytes_eq name (codes "alternatives") then is_some (alternatives_of value)
+    else (if bytes_eq name (codes "continue_straight") then is_some (continue_straight_of value)
+    else is_of_telling name value)
+
+-- of `table`
 abbrev pub is_of_table : List ℕ → List ℕ → Bool
 is_of_table name value =
     if bytes_eq name (codes "sources") then is_some (chosen_of value)
@@ -64,12 +69,21 @@ is_of_table name value =
     else (if bytes_eq name (codes "annotations") then is_some (table_annotations_of value)
     else false))
 
--- of `nearest` alone
+-- of `nearest`
 abbrev pub is_of_nearest : List ℕ → List ℕ → Bool
 is_of_nearest name value = if bytes_eq name (codes "number") then is_some (number_of value) else false
+
+-- of `trip`
+abbrev pub is_of_trip : List ℕ → List ℕ → Bool
+is_of_trip name value =
+    if bytes_eq name (codes "roundtrip") then is_some (truth_of value)
+    else (if bytes_eq name (codes "source") then is_some (source_of value)
+    else (if bytes_eq name (codes "destination") then is_some (destination_of value)
+    else is_of_telling name value))
 
 -- an option of a service, of its grammar
 abbrev pub is_of : ServiceName → List ℕ → List ℕ → Bool
 is_of Route name value = is_common name value || is_of_route name value
 is_of Table name value = is_common name value || is_of_table name value
 is_of Nearest name value = is_common name value || is_of_nearest name value
+is_of Trip name value = is_common name value || is_of_trip name value

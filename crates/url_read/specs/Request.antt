@@ -17,31 +17,35 @@ use Rattle.option_values.specs.Entries.{AreThere}
 use Rattle.url_read.specs.declared.requests.OptionValues.{OptionValues}
 use Rattle.url_read.specs.declared.requests.Request.{Request}
 use Rattle.url_read.specs.declared.requests.Service.{Service}
-use Rattle.url_read.specs.declared.requests.Service.TheVariants.{Route, Table, Nearest}
+use Rattle.url_read.specs.declared.requests.Service.TheVariants.{Route, Table, Nearest, Trip}
 
 -- the service of a name
 abbrev pub service_named : List ℕ → Option ServiceName
 service_named text =
     if bytes_eq text (codes "route") then Some name.Route
     else (if bytes_eq text (codes "table") then Some name.Table
-    else (if bytes_eq text (codes "nearest") then Some name.Nearest else None))
+    else (if bytes_eq text (codes "nearest") then Some name.Nearest
+    else (if bytes_eq text (codes "trip") then Some name.Trip else None)))
 
 abbrev pub name_of_service : Service → ServiceName
 name_of_service (Route own) = name.Route
 name_of_service (Table own) = name.Table
 name_of_service (Nearest own) = name.Nearest
+name_of_service (Trip own) = name.Trip
 
 -- the fewest coordinates of a service
 abbrev pub fewest : ServiceName → ℕ
 fewest name.Route = 2
 fewest name.Table = 1
 fewest name.Nearest = 1
+fewest name.Trip = 2
 
 -- and the most
 abbrev pub most : ServiceName → ℕ
 most name.Route = 500
 most name.Table = 100
 most name.Nearest = 1
+most name.Trip = 9
 
 -- the most results of `nearest`
 abbrev pub most_results : ℕ
@@ -52,12 +56,14 @@ abbrev pub is_count : ServiceName → ℕ → Bool
 is_count name.Route count = not (nat_lt count (fewest name.Route))
 is_count name.Table count = not (nat_lt count (fewest name.Table))
 is_count name.Nearest count = count == 1
+is_count name.Trip count = not (nat_lt count (fewest name.Trip))
 
 -- ninth, a service has so many coordinates at most, and then so many results
 abbrev pub results_refusal : Service → Option Refusal
 results_refusal (Route own) = None
 results_refusal (Table own) = None
 results_refusal (Nearest own) = if nat_lt most_results own.number then Some (too_many_results own.number most_results) else None
+results_refusal (Trip own) = None
 
 abbrev pub size_refusal : Service → ℕ → Option Refusal
 size_refusal service count =
@@ -119,6 +125,7 @@ abbrev pub AreOwn : ℕ → Service → Type 0
 AreOwn count (Route own) = Unit {0}
 AreOwn count (Table own) = AreThere count own.sources × AreThere count own.destinations
 AreOwn count (Nearest own) = 1 ≤ own.number
+AreOwn count (Trip own) = Unit {0}
 
 -- values with an entry for each of so many coordinates
 pub record HasEach (count : ℕ) (values : OptionValues) : Type 0 where
@@ -133,6 +140,7 @@ abbrev pub AreFew : Service → Type 0
 AreFew (Route own) = Unit {0}
 AreFew (Table own) = Unit {0}
 AreFew (Nearest own) = own.number ≤ most_results
+AreFew (Trip own) = Unit {0}
 
 -- a request of so many coordinates as its service may have, with an entry for each
 pub record IsFitting (request : Request) : Type 0 where

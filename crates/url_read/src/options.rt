@@ -1,13 +1,13 @@
 //! One option, its name and its value.
 
 ghost use Rattle.std.specs.Prelude.{◌≡◌, option_copied};
-ghost use Rattle.url_read.specs.Options.{name_of, value_named, is_common, is_of_route, is_of_table, is_of_nearest, is_of};
+ghost use Rattle.url_read.specs.Options.{name_of, value_named, is_common, is_of_telling, is_of_route, is_of_table, is_of_nearest, is_of_trip, is_of};
 
 use crate::service_names::ServiceName;
 use option_values::{
-    Approach, Bearing, alternatives_of, are_read, continue_straight_of, cut, geometries_of,
-    is_chosen, number_of, overview_of, route_annotations_of, since_of, snapping_of,
-    table_annotations_of, truth_of,
+    Approach, Bearing, alternatives_of, are_read, continue_straight_of, cut, destination_of,
+    geometries_of, is_chosen, number_of, overview_of, route_annotations_of, since_of, snapping_of,
+    source_of, table_annotations_of, truth_of,
 };
 
 // The value of an option of this name, None where it has another.
@@ -40,6 +40,7 @@ pub(crate) fn is_of(service: ServiceName, name: &str, value: &str) -> bool
             ServiceName::Route => is_of_route(name, value),
             ServiceName::Table => is_of_table(name, value),
             ServiceName::Nearest => is_of_nearest(name, value),
+            ServiceName::Trip => is_of_trip(name, value),
         }
 }
 
@@ -58,17 +59,26 @@ fn is_common(name: &str, value: &str) -> bool
     }
 }
 
+// Whether it says what a reply tells of its routes.
+fn is_of_telling(name: &str, value: &str) -> bool
+    ensures { result ≡ is_of_telling name.now value.now }
+{
+    match name {
+        "steps" => truth_of(value).is_some(),
+        "annotations" => route_annotations_of(value).is_some(),
+        "geometries" => geometries_of(value).is_some(),
+        "overview" => overview_of(value).is_some(),
+        _ => false,
+    }
+}
+
 fn is_of_route(name: &str, value: &str) -> bool
     ensures { result ≡ is_of_route name.now value.now }
 {
     match name {
         "alternatives" => alternatives_of(value).is_some(),
-        "steps" => truth_of(value).is_some(),
-        "annotations" => route_annotations_of(value).is_some(),
-        "geometries" => geometries_of(value).is_some(),
-        "overview" => overview_of(value).is_some(),
         "continue_straight" => continue_straight_of(value).is_some(),
-        _ => false,
+        _ => is_of_telling(name, value),
     }
 }
 
@@ -88,5 +98,16 @@ fn is_of_nearest(name: &str, value: &str) -> bool
     match name {
         "number" => number_of(value).is_some(),
         _ => false,
+    }
+}
+
+fn is_of_trip(name: &str, value: &str) -> bool
+    ensures { result ≡ is_of_trip name.now value.now }
+{
+    match name {
+        "roundtrip" => truth_of(value).is_some(),
+        "source" => source_of(value).is_some(),
+        "destination" => destination_of(value).is_some(),
+        _ => is_of_telling(name, value),
     }
 }

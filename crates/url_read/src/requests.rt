@@ -1,8 +1,8 @@
 //! What a target asks for.
 
 use option_values::{
-    Alternatives, Approaches, Bearings, Chosen, ContinueStraight, Geometries, Hints, Overview,
-    Radiuses, RouteAnnotations, Snapping, TableAnnotations,
+    Alternatives, Approaches, Bearings, Chosen, ContinueStraight, Destination, Geometries, Hints,
+    Overview, Radiuses, RouteAnnotations, Snapping, Source, TableAnnotations,
 };
 use road_base::Points;
 
@@ -56,16 +56,25 @@ pub enum Service {
     Table(TableOptions),
     /// The places on roads next to one coordinate.
     Nearest(NearestOptions),
+    /// The least route through all coordinates in the order that is best.
+    Trip(TripOptions),
+}
+
+/// What a reply tells of its routes.
+#[derive(Clone, Copy, Drop, Debug)]
+pub struct Telling {
+    /// Whether each leg has its steps.
+    pub steps: bool,
+    pub annotations: RouteAnnotations,
+    pub geometries: Geometries,
+    pub overview: Overview,
 }
 
 /// The options of `route`.
 #[derive(Clone, Copy, Drop, Debug)]
 pub struct RouteOptions {
     pub alternatives: Alternatives,
-    pub steps: bool,
-    pub annotations: RouteAnnotations,
-    pub geometries: Geometries,
-    pub overview: Overview,
+    pub telling: Telling,
     pub continue_straight: ContinueStraight,
 }
 
@@ -92,6 +101,16 @@ impl Drop for TableOptions {
 pub struct NearestOptions {
     /// How many places are asked for, at least 1.
     pub number: u32,
+}
+
+/// The options of `trip`.
+#[derive(Clone, Copy, Drop, Debug)]
+pub struct TripOptions {
+    pub telling: Telling,
+    /// Whether the trip goes back to its beginning.
+    pub roundtrip: bool,
+    pub source: Source,
+    pub destination: Destination,
 }
 
 // The values of all options of a request.

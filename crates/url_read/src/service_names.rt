@@ -8,6 +8,7 @@ pub(crate) enum ServiceName {
     Route,
     Table,
     Nearest,
+    Trip,
 }
 
 // The service of a name, None where there is none.
@@ -18,6 +19,7 @@ pub(crate) fn service_named(text: &str) -> Option<ServiceName>
         "route" => Some(ServiceName::Route),
         "table" => Some(ServiceName::Table),
         "nearest" => Some(ServiceName::Nearest),
+        "trip" => Some(ServiceName::Trip),
         _ => None,
     }
 }

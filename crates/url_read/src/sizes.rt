@@ -18,9 +18,8 @@ fn fewest(service: ServiceName) -> usize
     ensures { result ≡ fewest service }
 {
     match service {
-        ServiceName::Route => 2,
-        ServiceName::Table => 1,
-        ServiceName::Nearest => 1,
+        ServiceName::Route | ServiceName::Trip => 2,
+        ServiceName::Table | ServiceName::Nearest => 1,
     }
 }
 
@@ -32,6 +31,7 @@ fn most(service: ServiceName) -> usize
         ServiceName::Route => 500,
         ServiceName::Table => 100,
         ServiceName::Nearest => 1,
+        ServiceName::Trip => 9,
     }
 }
 
@@ -52,6 +52,7 @@ fn name_of_service(service: &Service) -> ServiceName
         Service::Route(_) => ServiceName::Route,
         Service::Table(_) => ServiceName::Table,
         Service::Nearest(_) => ServiceName::Nearest,
+        Service::Trip(_) => ServiceName::Trip,
     }
 }
 

@@ -25,7 +25,8 @@ use std::alloc::Global;
 /// and query. Coordinates are parted by `;`, each a longitude and a latitude in decimal degrees with a comma
 /// between; six digits after the point are kept, and a seventh rounds; or they are `polyline(..)` or `polyline6(..)`,
 /// an encoded polyline of 5 or 6 digits. A route has 2 to 500 of them, a table 1 to
-/// 100, `nearest` one, within 180 degrees of longitude and 90 of latitude either way. The profile may be any text.
+/// 100, `nearest` one, a trip 2 to 9, within 180 degrees of longitude and 90 of latitude either way. The profile may
+/// be any text.
 /// Of an option that is given more than once the last counts, and each is judged.
 ///
 /// Refusals come in this order: `InvalidUrl` with the message `path` for what isn't UTF-8, or a path that isn't

@@ -1,14 +1,16 @@
 //! The values of all options of a request.
 
 ghost use Rattle.std.specs.Prelude.{◌≡◌, ◌≤◌, Ok, IfOk, IfErr, codes, false, length};
-ghost use Rattle.url_read.specs.Judging.{hints_for, radiuses_for, bearings_for, approaches_for, chosen_for, route_options, table_annotations, table_options, nearest_options, service_for, values_for};
+ghost use Rattle.url_read.specs.Judging.{hints_for, radiuses_for, bearings_for, approaches_for, chosen_for, telling_of, route_options, trip_options, table_annotations, table_options, nearest_options, service_for, values_for};
 ghost use Rattle.url_read.specs.Options.{options_of, read_or};
-ghost use Rattle.option_values.specs.Values.{truth_of, snapping_of, since_of, alternatives_of, route_annotations_of, every_annotation, geometries_of, overview_of, continue_straight_of};
+ghost use Rattle.option_values.specs.Values.{truth_of, snapping_of, since_of, alternatives_of, route_annotations_of, every_annotation, geometries_of, overview_of, continue_straight_of, source_of, destination_of};
 ghost use Rattle.option_values.specs.declared.option_types.Alternatives.TheVariants as alternatives;
 ghost use Rattle.option_values.specs.declared.option_types.Geometries.TheVariants.{Polyline};
 ghost use Rattle.option_values.specs.declared.option_types.Snapping.TheVariants as snapping;
 ghost use Rattle.option_values.specs.declared.option_types.Overview.TheVariants as overview;
 ghost use Rattle.option_values.specs.declared.option_types.ContinueStraight.TheVariants as straight;
+ghost use Rattle.option_values.specs.declared.option_types.Source.TheVariants as source;
+ghost use Rattle.option_values.specs.declared.option_types.Destination.TheVariants as destination;
 ghost use Rattle.url_read.specs.Refusals.{IsFaultOf};
 ghost use Rattle.option_values.specs.Entries.{AreThere};
 ghost use Rattle.url_read.specs.Request.{name_of_service, AreOwn, HasEach};
@@ -16,13 +18,16 @@ ghost use Rattle.url_read.specs.Request.{name_of_service, AreOwn, HasEach};
 use crate::last_values::last_value_of;
 use crate::messages::bad_option;
 use crate::refusals::RequestFault;
-use crate::requests::{NearestOptions, OptionValues, RouteOptions, Service, TableOptions};
+use crate::requests::{
+    NearestOptions, OptionValues, RouteOptions, Service, TableOptions, Telling, TripOptions,
+};
 use crate::service_names::ServiceName;
 use option_values::{
-    Alternatives, Approaches, Bearings, Chosen, ContinueStraight, Geometries, Hints, Overview,
-    Radiuses, RouteAnnotations, Snapping, TableAnnotations, alternatives_of, chosen_among,
-    continue_straight_of, every_annotation, geometries_of, hints_each, number_of, one_each,
-    overview_of, route_annotations_of, since_of, snapping_of, table_annotations_of, truth_of,
+    Alternatives, Approaches, Bearings, Chosen, ContinueStraight, Destination, Geometries, Hints,
+    Overview, Radiuses, RouteAnnotations, Snapping, Source, TableAnnotations, alternatives_of,
+    chosen_among, continue_straight_of, destination_of, every_annotation, geometries_of,
+    hints_each, number_of, one_each, overview_of, route_annotations_of, since_of, snapping_of,
+    source_of, table_annotations_of, truth_of,
 };
 use std::alloc::Global;
 
@@ -150,6 +155,19 @@ fn service_for(
         ServiceName::Route => Ok(Service::Route(route_options(query))),
         ServiceName::Table => Ok(Service::Table(table_options(alloc, count, query)?)),
         ServiceName::Nearest => Ok(Service::Nearest(nearest_options(query))),
+        ServiceName::Trip => Ok(Service::Trip(trip_options(query))),
+    }
+}
+
+// What a reply tells of its routes.
+fn telling_of(query: &str) -> Telling
+    ensures { result ≡ telling_of (options_of query.now) }
+{
+    Telling {
+        steps: truth_or(false, "steps", query),
+        annotations: route_annotations_in(query),
+        geometries: geometries_in(query),
+        overview: overview_in(query),
     }
 }
 
@@ -158,11 +176,19 @@ fn route_options(query: &str) -> RouteOptions
 {
     RouteOptions {
         alternatives: alternatives_in(query),
-        steps: truth_or(false, "steps", query),
-        annotations: route_annotations_in(query),
-        geometries: geometries_in(query),
-        overview: overview_in(query),
+        telling: telling_of(query),
         continue_straight: continue_straight_in(query),
+    }
+}
+
+fn trip_options(query: &str) -> TripOptions
+    ensures { result ≡ trip_options (options_of query.now) }
+{
+    TripOptions {
+        telling: telling_of(query),
+        roundtrip: truth_or(true, "roundtrip", query),
+        source: source_in(query),
+        destination: destination_in(query),
     }
 }
 
@@ -208,6 +234,24 @@ fn continue_straight_in(query: &str) -> ContinueStraight
     match last_value_of("continue_straight", query) {
         Some(value) => continue_straight_of(value).unwrap_or(ContinueStraight::Default),
         None => ContinueStraight::Default,
+    }
+}
+
+fn source_in(query: &str) -> Source
+    ensures { result ≡ read_or source.Any source_of (codes "source") (options_of query.now) }
+{
+    match last_value_of("source", query) {
+        Some(value) => source_of(value).unwrap_or(Source::Any),
+        None => Source::Any,
+    }
+}
+
+fn destination_in(query: &str) -> Destination
+    ensures { result ≡ read_or destination.Any destination_of (codes "destination") (options_of query.now) }
+{
+    match last_value_of("destination", query) {
+        Some(value) => destination_of(value).unwrap_or(Destination::Any),
+        None => Destination::Any,
     }
 }
 

@@ -5,10 +5,10 @@ ghost use Rattle.std.specs.Prelude.{◌≤◌, All, IfOk};
 ghost use Rattle.road_io.specs.DoorOpening.{IsNewDoor};
 ghost use Rattle.road_io.specs.MemoryStates.{conn_state};
 ghost use Rattle.road_io.specs.Views.{IsFreshConn};
-ghost use Rattle.road_doors.specs.SteadyState.{steady_state};
+ghost use Rattle.memory_doors.specs.SteadyState.{steady_state};
 
 use flag_doors::{connection, flag};
-use road_doors::{
+use memory_doors::{
     Flag, FlagConn, FlagGate, MemDoors, QueueDoor, SteadyConn, SteadyDoor, SteadyDoors,
 };
 use road_io::{Closer, Door, Doors, DoorsFault, Gate, MemConn, Opened, Sink, Source};

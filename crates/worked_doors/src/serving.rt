@@ -5,12 +5,12 @@
 ghost use Rattle.std.specs.Prelude.{◌≡◌, ◌<◌};
 
 use crate::publishing::{Figure, new_figure};
-use door_service::{Controlling, Querying, Then, serve};
+use door_workers::{Controlling, Querying, Then, serve};
 use flag_doors::{Flags, Told, gate_of, new_flags, push_conn, push_door, put_back};
+use memory_doors::{FlagConn, FlagGate, MemDoors, QueueDoor};
 use metric_publish::history::{Naming, Opened as History};
 use metric_publish::meaning::{Publishing, Reading};
 use metric_publish::opening::open;
-use road_doors::{FlagConn, FlagGate, MemDoors, QueueDoor};
 use road_io::{Conn, Door, Doors, Gate, MemConn};
 use std::alloc::{AllocError, Global};
 use std::marker::Brand;

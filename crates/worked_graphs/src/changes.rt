@@ -1,11 +1,11 @@
 //! Where two weightings differ.
 
 use crate::drawings::{Drawing, STREETS, graph, vertices_told, weights};
+use cell_recustomize::{Changed, changed};
 use search_graph::Graph;
 use std::alloc::{AllocError, Global};
 use std::process::Abort;
 use std::test::Fail;
-use weight_changes::{Changed, changed};
 
 /// The two streets, with the second way closed.
 const CLOSED: Drawing = Drawing {

@@ -8,13 +8,12 @@ ghost use Rattle.cell_frame.specs.Cliqued.{AreExact};
 use crate::drawings::{Drawing, STREETS, frame, row_told, weights};
 use cell_customize::{customize, customize_in_threads};
 use cell_frame::{Cliques, Frame};
-use cell_recustomize::{Recustomized, recustomize, recustomize_in_threads};
+use cell_recustomize::{Recustomized, changed, recustomize, recustomize_in_threads};
 use search_graph::{DurLen, Weights};
 use std::alloc::{AllocError, Global};
 use std::process::Abort;
 use std::test::Fail;
 use std::thread::Threads;
-use weight_changes::changed;
 
 // What the walks cost inside the cell of this level that holds an entry, from there to each exit.
 fn walks_told(

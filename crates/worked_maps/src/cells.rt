@@ -69,8 +69,8 @@ fn level_told(alloc: Global, metric: &Metric, level: u32) -> Result<String, Allo
     Ok(text)
 }
 
-// All levels, the lowest first.
-fn told(alloc: Global, metric: &Metric) -> Result<String, AllocError> {
+/// All levels of a metric, the lowest first.
+pub fn told(alloc: Global, metric: &Metric) -> Result<String, AllocError> {
     let mut text = String::new(alloc);
     for below in 0..metric.frame().levels() {
         text.push_str(level_told(alloc, metric, below + 1)?.as_str())?;
@@ -79,8 +79,8 @@ fn told(alloc: Global, metric: &Metric) -> Result<String, AllocError> {
     Ok(text)
 }
 
-// The metric of roads by the settings alone, in a box.
-fn boxed_metric(
+/// The metric of roads by the settings alone, in a box.
+pub fn boxed_metric(
     rt: &(impl Threads + Sync),
     alloc: Global,
     roads: &Roads,
@@ -88,6 +88,18 @@ fn boxed_metric(
     let base = base(alloc, roads.network())?;
     let metric = Metric::make(rt, alloc, roads, base)?;
     Ok(Box::new(alloc, metric)?)
+}
+
+/// The roads of a map, cut into cells by these limits, in a box.
+pub fn boxed_roads(alloc: Global, map: &str, limits: &[u32]) -> Result<Box<Roads>, AllocError>
+    requires ascending { IsStrictlyIncreasing limits.now }
+    requires some { All (λ limit. 1 ≤ limit) limits.now }
+{
+    let Ok(network) = network_of(alloc, map, CAR) else {
+        return Err(AllocError);
+    };
+    let roads = Roads::of(alloc, Box::into_inner(network), limits)?;
+    Ok(Box::new(alloc, roads)?)
 }
 
 /// The metric of a map by the settings alone, cut into cells by these limits.
@@ -100,10 +112,7 @@ pub fn customized(
     requires ascending { IsStrictlyIncreasing limits.now }
     requires some { All (λ limit. 1 ≤ limit) limits.now }
 {
-    let Ok(network) = network_of(alloc, map, CAR) else {
-        return Err(AllocError);
-    };
-    let roads = Roads::of(alloc, Box::into_inner(network), limits)?;
+    let roads = boxed_roads(alloc, map, limits)?;
     boxed_metric(rt, alloc, &roads)
 }
 
@@ -146,8 +155,8 @@ fn a_way_into_a_street_turns_back_at_its_end(rt: HostRuntime) -> Result<(), Allo
     assert_cut(&rt, alloc, map.as_str(), &[2, 4], two)
 }
 
-// A street round a block, one way. Segment 3 lies in the west, segment 1 in the east.
-const RING: &str = "n1 x0 y0
+/// A street round a block, one way. Segment 3 lies in the west, segment 1 in the east.
+pub const RING: &str = "n1 x0 y0
 n2 x0.001 y0
 n3 x0.001 y0.001
 n4 x0 y0.001

@@ -1,7 +1,7 @@
 //! Networks of maps made to be hard: a way to and fro between two nodes, where each pair of its vertices
-//! meets. Expected values are from this project's rules, worked out by hand.
+//! meets, and a star of many streets. Expected values are from this project's rules, worked out by hand.
 
-use crate::networks::CAR;
+use crate::networks::{CAR, assert_leaving};
 use crate::towns::{network_of, to_and_fro};
 use std::alloc::{AllocError, Global};
 use std::process::Abort;
@@ -62,4 +62,35 @@ fn restrictions_of_a_way_to_and_fro(rt: HostRuntime) -> Result<(), AllocError> {
     assert_turn_count(&rt, alloc, map.as_str(), 802)?;
     restrict(alloc, &mut map, 4, "only_straight_on", "n1@via,w1@to")?;
     assert_turn_count(&rt, alloc, map.as_str(), 602)
+}
+
+// A star: from its middle, node 1, a street leads to each node from 2 up to 1001.
+fn star(alloc: Global) -> Result<String, AllocError> {
+    let mut text = String::from_str(alloc, "n1 x0 y0\n")?;
+    for node in 2..1002 {
+        let line = format!(in alloc;
+            "n{node} x0.001 y0\nw{node} Thighway=residential Nn{node},n1\n"
+        )?;
+        text.push_str(line.as_str())?;
+    }
+    Ok(text)
+}
+
+// The numbers 1, 3, 5 and so on of its streets back from the middle.
+fn rays(alloc: Global) -> Result<String, AllocError> {
+    let mut text = String::new(alloc);
+    for street in 0..1000 {
+        let v = 2 * street + 1;
+        text.push_str(format!(in alloc; "{v} ")?.as_str())?;
+    }
+    Ok(text)
+}
+
+#[test]
+fn a_star_is_left_by_each_of_its_streets(rt: HostRuntime) -> Result<(), AllocError> {
+    let alloc = rt.alloc();
+    let map = star(alloc)?;
+    let all = rays(alloc)?;
+    let want = format!(in alloc; "{all}| 0 | 1998 | | ")?;
+    assert_leaving(&rt, alloc, map.as_str(), &[1, 2, 1001, 1002], want.as_str())
 }

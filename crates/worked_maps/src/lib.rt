@@ -13,6 +13,8 @@ mod metrics;
 #[cfg(test)]
 mod networks;
 #[cfg(test)]
+mod refusals;
+#[cfg(test)]
 mod remaking;
 #[cfg(test)]
 mod towns;

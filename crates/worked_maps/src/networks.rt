@@ -269,3 +269,56 @@ fn names_are_kept(rt: HostRuntime) -> Result<(), AllocError> {
     let want = "1>2 0 40000 Main Street\r; 2>1 0 40000 Main Street\r; 0-1 1-0 ";
     assert_built(&rt, rt.alloc(), map, want)
 }
+
+// The vertices that leave each of these nodes.
+fn leaving_told(alloc: Global, network: &Network, nodes: &[i64]) -> Result<String, AllocError> {
+    let mut text = String::new(alloc);
+    for node in nodes {
+        for v in network.leaving(*node) {
+            text.push_str(format!(in alloc; "{v} ")?.as_str())?;
+        }
+        text.push_str("| ")?;
+    }
+    Ok(text)
+}
+
+/// Asserts which vertices leave each of these nodes in the network of a map.
+pub fn assert_leaving(
+    rt: &impl Abort,
+    alloc: Global,
+    map: &str,
+    nodes: &[i64],
+    want: &str,
+) -> Result<(), AllocError> {
+    let Ok(network) = network_of(alloc, map, CAR) else {
+        return Err(AllocError);
+    };
+    let got = leaving_told(alloc, &network, nodes)?;
+    assert_eq!(rt; got.as_str(), want);
+    Ok(())
+}
+
+// Vertices 1 and 3 lead against the one-way street. Node 9 lies nowhere, and no node is 4 or the least or the greatest
+// id.
+#[test]
+fn vertices_leave_a_node_permitted_or_not(rt: HostRuntime) -> Result<(), AllocError> {
+    let nodes = [1, 2, 3, 9, 4, i64::MIN, i64::MAX];
+    assert_leaving(
+        &rt,
+        rt.alloc(),
+        TWO_STREETS,
+        &nodes,
+        "3 4 | 0 5 | 1 2 | | | | | ",
+    )?;
+    assert_leaving(&rt, rt.alloc(), "", &[1], "| ")
+}
+
+// Nor does it matter that a barrier closes the node.
+#[test]
+fn vertices_leave_a_closed_node(rt: HostRuntime) -> Result<(), AllocError> {
+    let alloc = rt.alloc();
+    let closed = bend(alloc, "barrier=bollard")?;
+    assert_leaving(&rt, alloc, closed.as_str(), &[1, 2, 3], "0 | 1 2 | 3 | ")?;
+    let crossed = crossing(alloc, "barrier=bollard", "")?;
+    assert_leaving(&rt, alloc, crossed.as_str(), &[5, 4], "1 2 4 7 | 6 | ")
+}

@@ -10,8 +10,8 @@ use customized::{Metric, Remade};
 use std::alloc::{AllocError, Global};
 use std::thread::Threads;
 
-// The metric that is made from an old one by two traffic files, in a box.
-fn boxed_remade(
+/// The metric that is made from an old one by two traffic files, in a box.
+pub fn boxed_remade(
     rt: &(impl Threads + Sync),
     alloc: Global,
     old: &Metric,

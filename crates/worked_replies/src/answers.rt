@@ -6,8 +6,8 @@ ghost use Rattle.std.specs.List.Sorted.{IsStrictlyIncreasing};
 use crate::cases::{Case, assert_ends, assert_refused, case_of};
 use crate::towns::{Asked, BLOCK, CORNER, DESERT, LANE, Town, ask, ask_at, ask_over};
 use customized::SERVER_LIMITS;
+use refusal_texts::Code;
 use reply_core::{Answer, ReplyFault};
-use reply_texts::Code;
 use std::alloc::{AllocError, Global};
 use std::process::Abort;
 use std::thread::Threads;
@@ -258,7 +258,7 @@ fn a_route_has_500_coordinates_at_most(rt: HostRuntime) -> Result<(), ReplyFault
 // The whole text of each answer.
 const REFUSED: &str =
     "lane|/route/v1/car/0,0;0,0/?overview=false|{\"code\":\"InvalidUrl\",\"message\":\"path\"}
-lane|/trip/v1/car/0,0;0,0?overview=false|{\"code\":\"InvalidService\",\"message\":\"service trip\"}
+lane|/match/v1/car/0,0;0,0?overview=false|{\"code\":\"InvalidService\",\"message\":\"service match\"}
 lane|/route/v2/car/0,0;0,0?foo=1|{\"code\":\"InvalidVersion\",\"message\":\"version v2\"}
 lane|/route/v1/car/0,0;0,0?steps=on|{\"code\":\"InvalidOptions\",\"message\":\"option steps\"}
 lane|/route/v1/car/polyline(??g)|{\"code\":\"InvalidQuery\",\"message\":\"polyline byte 3\"}

@@ -7,10 +7,13 @@ mod answers;
 #[cfg(test)]
 mod cases;
 #[cfg(test)]
+#[cfg(test)]
 mod steps;
 #[cfg(test)]
 mod texts;
 #[cfg(test)]
 mod towns;
+#[cfg(test)]
+mod trips;
 #[cfg(test)]
 mod turns;

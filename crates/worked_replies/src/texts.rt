@@ -1,6 +1,6 @@
 //! Texts of replies without a result.
 
-use reply_texts::{Code, Lack, bad_request_text, busy_text, lack_text, refusal_text};
+use refusal_texts::{Code, Lack, bad_request_text, busy_text, lack_text, refusal_text};
 use std::alloc::{AllocError, Global};
 use std::process::Abort;
 
@@ -39,6 +39,13 @@ fn what_is_lacking_has_its_text(rt: HostRuntime) -> Result<(), AllocError> {
         1,
         Lack::Route(0),
         "{\"code\":\"NoRoute\",\"data_version\":\"1\",\"message\":\"leg 0\"}",
+    )?;
+    assert_lack(
+        &rt,
+        rt.alloc(),
+        0,
+        Lack::Trips,
+        "{\"code\":\"NoTrips\",\"data_version\":\"0\",\"message\":\"trip\"}",
     )
 }
 

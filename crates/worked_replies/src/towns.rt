@@ -167,8 +167,8 @@ fn network_of(alloc: Global, town: Town<'_>) -> Result<Box<Network>, ReplyFault>
     }
 }
 
-// The roads of a town, cut into cells by these limits.
-fn roads_of(alloc: Global, town: Town<'_>, limits: &[u32]) -> Result<Roads, ReplyFault>
+/// The roads of a town, cut into cells by these limits.
+pub(crate) fn roads_of(alloc: Global, town: Town<'_>, limits: &[u32]) -> Result<Roads, ReplyFault>
     requires ascending { IsStrictlyIncreasing limits.now }
     requires some { All (λ limit. 1 ≤ limit) limits.now }
 {

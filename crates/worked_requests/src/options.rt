@@ -13,6 +13,16 @@ const REFUSED: &[u8] = b"/nearest/v1/car/0,0;0,0?foo=1|InvalidQuery|2 coordinate
 /nearest/v1/car/0,0?steps=true|InvalidOptions|option steps$\
 /route/v1/car/0,0;0,0?number=1|InvalidOptions|option number$\
 /route/v1/car/0,0;0,0?sources=all|InvalidOptions|option sources$\
+/route/v1/car/0,0;0,0?roundtrip=true|InvalidOptions|option roundtrip$\
+/table/v1/car/0,0;0,0?source=first|InvalidOptions|option source$\
+/table/v1/car/0,0;0,0?destination=last|InvalidOptions|option destination$\
+/trip/v1/car/0,0;0,0?sources=all|InvalidOptions|option sources$\
+/trip/v1/car/0,0;0,0?destinations=all|InvalidOptions|option destinations$\
+/trip/v1/car/0,0;0,0?alternatives=false|InvalidOptions|option alternatives$\
+/trip/v1/car/0,0;0,0?continue_straight=default|InvalidOptions|option continue_straight$\
+/trip/v1/car/0,0;0,0?number=1|InvalidOptions|option number$\
+/trip/v1/car/0,0;0,0?source=last&source=first|InvalidOptions|option source$\
+/trip/v1/car/0,0;0,0?source=any&radiuses=1|InvalidOptions|option radiuses$\
 /table/v1/car/0,0;0,0?overview=false|InvalidOptions|option overview$\
 /table/v1/car/0,0;0,0?annotations=nodes|InvalidOptions|option annotations$\
 /table/v1/car/0,0;0,0?sources=2|InvalidOptions|option sources$\
@@ -61,6 +71,13 @@ const TAKEN: &[u8] = b"/route/v1/car/0,0;0,1?radiuses=;$\
 /table/v1/car/0,0;0,1?destinations=000000001$\
 /table/v1/car/0,0;0,1?annotations=duration$\
 /table/v1/car/0,0;0,1?annotations=distance,duration$\
+/trip/v1/car/0,0;0,1?steps=true$\
+/trip/v1/car/0,0;0,1?annotations=nodes,speed$\
+/trip/v1/car/0,0;0,1?geometries=geojson$\
+/trip/v1/car/0,0;0,1?overview=false$\
+/trip/v1/car/0,0;0,1?roundtrip=true$\
+/trip/v1/car/0,0;0,1?roundtrip=false&source=any&destination=any$\
+/trip/v1/car/0,0;0,1?source=first&destination=last&since=9$\
 /nearest/v1/car/0,0?number=100$\
 /nearest/v1/car/0,0?number=000000001$\
 /nearest/v1/car/0,0?radiuses=$\
@@ -116,6 +133,15 @@ const OF_ANOTHER_FORM: &[u8] = b"/route/v1/car/0,0;0,1?radiuses=|InvalidOptions|
 /route/v1/car/0,0;0,1?geometries=polyline5|InvalidOptions|option geometries$\
 /route/v1/car/0,0;0,1?overview=true|InvalidOptions|option overview$\
 /route/v1/car/0,0;0,1?continue_straight=true|InvalidOptions|option continue_straight$\
+/trip/v1/car/0,0;0,1?roundtrip=|InvalidOptions|option roundtrip$\
+/trip/v1/car/0,0;0,1?roundtrip=no|InvalidOptions|option roundtrip$\
+/trip/v1/car/0,0;0,1?source=|InvalidOptions|option source$\
+/trip/v1/car/0,0;0,1?source=last|InvalidOptions|option source$\
+/trip/v1/car/0,0;0,1?source=0|InvalidOptions|option source$\
+/trip/v1/car/0,0;0,1?destination=|InvalidOptions|option destination$\
+/trip/v1/car/0,0;0,1?destination=first|InvalidOptions|option destination$\
+/trip/v1/car/0,0;0,1?destination=Last|InvalidOptions|option destination$\
+/trip/v1/car/0,0;0,1?overview=true|InvalidOptions|option overview$\
 /table/v1/car/0,0;0,1?sources=2|InvalidOptions|option sources$\
 /table/v1/car/0,0;0,1?sources=0;|InvalidOptions|option sources$\
 /table/v1/car/0,0;0,1?sources=all;0|InvalidOptions|option sources$\
@@ -150,10 +176,11 @@ const MOST_OPTIONS_ASKED: &str = "Request { \
     points: Points { inner: [Point { lon: 0, lat: 0 }, Point { lon: 0, lat: 1000000 }] }, \
     service: Route(RouteOptions { \
     alternatives: UpTo(2), \
+    telling: Telling { \
     steps: true, \
     annotations: RouteAnnotations { distance: false, duration: false, weight: false, nodes: true, speed: true }, \
     geometries: Geojson, \
-    overview: Full, \
+    overview: Full }, \
     continue_straight: Off }), \
     radiuses: Radiuses { inner: [Some(536870911), Some(123)] }, \
     bearings: Bearings { inner: [Some(Bearing { value: 45, range: 10 }), None] }, \
@@ -179,10 +206,11 @@ const NO_OPTIONS_ASKED: &str = "Request { \
     points: Points { inner: [Point { lon: 0, lat: 0 }, Point { lon: 0, lat: 1000000 }] }, \
     service: Route(RouteOptions { \
     alternatives: Off, \
+    telling: Telling { \
     steps: false, \
     annotations: RouteAnnotations { distance: false, duration: false, weight: false, nodes: false, speed: false }, \
     geometries: Polyline, \
-    overview: Simplified, \
+    overview: Simplified }, \
     continue_straight: Default }), \
     radiuses: Radiuses { inner: [None, None] }, \
     bearings: Bearings { inner: [None, None] }, \
@@ -229,5 +257,28 @@ const NEAREST_ASKED: &str = "Nearest(NearestOptions { number: 99 })";
 #[test]
 fn a_nearest_has_a_number(rt: HostRuntime) -> Result<(), AllocError> {
     assert_eq!(rt; own_told(&rt, rt.alloc(), NEAREST)?.as_str(), NEAREST_ASKED);
+    Ok(())
+}
+
+const TRIP: &[u8] =
+    b"/trip/v1/car/0,0;0,1;1,0?roundtrip=false&source=any&source=first&destination=last&steps=true&overview=full";
+
+const TRIP_ASKED: &str = "Trip(TripOptions { telling: Telling { steps: true, \
+    annotations: RouteAnnotations { distance: false, duration: false, weight: false, nodes: false, speed: false }, \
+    geometries: Polyline, overview: Full }, roundtrip: false, source: First, destination: Last })";
+
+const TRIP_ALONE: &[u8] = b"/trip/v1/car/0,0;0,1";
+
+const TRIP_ALONE_ASKED: &str = "Trip(TripOptions { telling: Telling { steps: false, \
+    annotations: RouteAnnotations { distance: false, duration: false, weight: false, nodes: false, speed: false }, \
+    geometries: Polyline, overview: Simplified }, roundtrip: true, source: Any, destination: Any })";
+
+#[test]
+fn a_trip_has_two_ends_and_may_go_round(rt: HostRuntime) -> Result<(), AllocError> {
+    assert_eq!(rt; own_told(&rt, rt.alloc(), TRIP)?.as_str(), TRIP_ASKED);
+    assert_eq!(rt;
+        own_told(&rt, rt.alloc(), TRIP_ALONE)?.as_str(),
+        TRIP_ALONE_ASKED
+    );
     Ok(())
 }

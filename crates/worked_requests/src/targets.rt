@@ -50,6 +50,15 @@ route/v1/car/0,0;0,0|InvalidUrl|path$\
 /table/v1/car/0,0;0,0?overview=false|InvalidOptions|option overview$\
 /nearest/v1/car/0,0?overview=false|InvalidOptions|option overview$\
 /Route/v1/car/0,0;0,0?overview=false|InvalidService|service Route$\
+/trips/v1/car/0,0;0,0|InvalidService|service trips$\
+/trip/v2/car/0,0?foo=1|InvalidVersion|version v2$\
+/trip/v1/car/0,0;0,0.flatbuffers|InvalidOptions|option format$\
+/trip/v1/car/0,0;x,0|InvalidQuery|coordinate 1$\
+/trip/v1/car/0,0?foo=1|InvalidQuery|1 coordinates$\
+/trip/v1/car/polyline()|InvalidQuery|0 coordinates$\
+/trip/v1/car/0,0;0,0;0,0;0,0;0,0;0,0;0,0;0,0;0,0;0,0|TooBig|10 coordinates, at most 9$\
+/trip/v1/car/0,0;0,0;0,0;0,0;0,0;0,0;0,0;0,0;0,0;0,0?source=last|InvalidOptions|option source$\
+/trip/v1/car/0,0;0,0;0,0;0,0;0,0;0,0;0,0;0,0;0,0;0,91|InvalidValue|coordinate 9$\
 /route/v2/car/0,0;0,0?foo=1|InvalidVersion|version v2$\
 /route/v2/car/x.flatbuffers|InvalidVersion|version v2$\
 /route/v1/car/0,0;0,0.flatbuffers|InvalidOptions|option format$\
@@ -89,6 +98,13 @@ route/v1/car/0,0;0,0|InvalidUrl|path$\
 #[test]
 fn the_first_refusal_of_a_target_is_told(rt: HostRuntime) -> Result<(), AllocError> {
     assert_refused(&rt, rt.alloc(), REFUSED)
+}
+
+const NINE: &[u8] = b"/trip/v1/car/0,0;0,0;0,0;0,0;0,0;0,0;0,0;0,0;0,0";
+
+#[test]
+fn a_trip_has_nine_coordinates_at_most(rt: HostRuntime) {
+    assert_eq!(rt; count_of_points(&rt, rt.alloc(), NINE), 9);
 }
 
 // The points of the request of a target.

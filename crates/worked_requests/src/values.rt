@@ -2,10 +2,10 @@
 //! tests of the crate above, over whole targets.
 
 use option_values::{
-    Alternatives, Approach, Bearing, ContinueStraight, Geometries, Overview, Snapping,
-    alternatives_of, are_read, chosen_among, continue_straight_of, cut, every_annotation,
-    geometries_of, hints_each, is_chosen, number_of, one_each, overview_of, route_annotations_of,
-    since_of, snapping_of, table_annotations_of, truth_of,
+    Alternatives, Approach, Bearing, ContinueStraight, Destination, Geometries, Overview, Snapping,
+    Source, alternatives_of, are_read, chosen_among, continue_straight_of, cut, destination_of,
+    every_annotation, geometries_of, hints_each, is_chosen, number_of, one_each, overview_of,
+    route_annotations_of, since_of, snapping_of, source_of, table_annotations_of, truth_of,
 };
 use std::alloc::{AllocError, Global};
 
@@ -21,6 +21,16 @@ fn each_name_is_read(rt: HostRuntime) {
             Some(ContinueStraight::Default)
         )
     );
+}
+
+#[test]
+fn the_ends_of_a_trip_are_read(rt: HostRuntime) {
+    assert!(rt; matches!(source_of("any"), Some(Source::Any)));
+    assert!(rt; matches!(source_of("first"), Some(Source::First)));
+    assert!(rt; source_of("last").is_none());
+    assert!(rt; matches!(destination_of("any"), Some(Destination::Any)));
+    assert!(rt; matches!(destination_of("last"), Some(Destination::Last)));
+    assert!(rt; destination_of("first").is_none());
 }
 
 #[test]

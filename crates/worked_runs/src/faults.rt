@@ -3,8 +3,8 @@
 
 use crate::cases::{Case, Fault, REPLY, pair_of, run_case};
 use crate::served::{ONE_WORKER, REPLIES, one_door, over_doors, served};
+use memory_doors::MemDoors;
 use road_base::Status;
-use road_doors::MemDoors;
 use road_io::{MemConn, OpenGate};
 use std::alloc::{AllocError, Global};
 use std::net::{Net, TcpListener, TcpStream};

@@ -6,7 +6,7 @@ ghost use Rattle.road_io.specs.MemoryStates.{conn_state};
 ghost use Rattle.road_io.specs.Views.{IsFreshConn};
 
 use crate::cases::{Case, Fault, files, input_of, output_of, words};
-use road_doors::{Flag, FlagConn, FlagGate, MemDoors, QueueDoor};
+use memory_doors::{Flag, FlagConn, FlagGate, MemDoors, QueueDoor};
 use road_io::{Conn, Gate, MemConn, MemSink, MemSource, OpenGate};
 use road_run::run;
 use std::alloc::{AllocError, Global};

@@ -1,13 +1,13 @@
 //! Runs over forms that never fail.
 
 ghost use Rattle.std.specs.Prelude.{◌≢◌, All, IfOk};
-ghost use Rattle.road_doors.specs.SteadyState.{steady_state};
+ghost use Rattle.memory_doors.specs.SteadyState.{steady_state};
 ghost use Rattle.road_io.specs.Views.{IsFreshConn};
 
 use crate::cases::{Case, files_of, words};
 use crate::served::ASKED;
+use memory_doors::{SteadyConn, SteadyDoors};
 use road_base::Status;
-use road_doors::{SteadyConn, SteadyDoors};
 use road_io::{OpenGate, SteadyFiles, SteadySink, SteadySource};
 use road_run::run;
 use std::alloc::{AllocError, Global};

@@ -123,10 +123,8 @@ fn waypoint(json: &mut Json, distance: u128, name: &str, p: Point) -> Result<(),
     ensures { OnOk result (json.new ≡ with_value (object_of ((codes "distance", tenths distance) ∷ (codes "name", text name.now) ∷ (codes "location", location p.lon p.lat) ∷ [])) json.old) }
 {
     json.begin_object()?;
-    json.key("distance")?;
-    json.tenths(distance)?;
-    json.key("name")?;
-    json.text(name)?;
+    json.tenths_member("distance", distance)?;
+    json.text_member("name", name)?;
     json.key("location")?;
     json.degrees(p)?;
     json.end_object()?;
@@ -142,7 +140,7 @@ fn waypoint_of(alloc: Global, point: Point) -> Result<Json, AllocError>
     Ok(json)
 }
 
-// A list of a text that was written before and the greatest count.
+// A list of a text that was written before, true, false and the greatest count.
 fn list_of(alloc: Global, part: &Json) -> Result<Json, AllocError>
     requires { IsFinished part.now }
 {
@@ -157,6 +155,8 @@ fn push_list(list: &mut Json, part: &Json) -> Result<(), AllocError>
 {
     list.begin_list()?;
     list.part(part)?;
+    list.boolean(true)?;
+    list.boolean(false)?;
     list.count(u128::MAX)?;
     list.end_list()?;
     Ok(())
@@ -168,7 +168,7 @@ fn list_of_a_waypoint(alloc: Global, point: Point) -> Result<Json, AllocError> {
 }
 
 const LIST: &str =
-    "[{\"distance\":1.5,\"name\":\"Stra\u{df}e\",\"location\":[-0.000001,0.000002]},340282366920938463463374607431768211455]";
+    "[{\"distance\":1.5,\"name\":\"Stra\u{df}e\",\"location\":[-0.000001,0.000002]},true,false,340282366920938463463374607431768211455]";
 
 #[test]
 fn text_is_handed_out(rt: HostRuntime) -> Result<(), AllocError> {

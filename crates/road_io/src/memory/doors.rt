@@ -1,6 +1,6 @@
 //! A door in memory.
 
-ghost use Rattle.std.specs.Prelude.{◌≡◌, ◌<◌, ◌≤◌, ◌+◌, ◌↔◌, IsTrue, All, IfOk, vec_len, vec_capacity};
+ghost use Rattle.std.specs.Prelude.{◌≡◌, ◌<◌, ◌≤◌, ◌+◌, All, IfOk, vec_len, vec_capacity};
 ghost use Rattle.road_io.specs.MemoryStates.{IsUnused, new_door};
 
 use crate::doorways::{Closer, Door};
@@ -61,13 +61,6 @@ impl MemDoor {
             faults: 0,
         })
     }
-
-    /// Whether the door has counted a fault.
-    pub fn has_fault(&self) -> bool
-        ensures { IsTrue result ↔ (0 < (door_view self.now).faults) }
-    {
-        self.faults > 0
-    }
 }
 
 impl Door for MemDoor {
@@ -100,6 +93,10 @@ impl Door for MemDoor {
             Ok(()) => {}
             Err(_) => unreachable!(),
         }
+    }
+
+    fn has_fault(&self) -> bool {
+        self.faults > 0
     }
 }
 

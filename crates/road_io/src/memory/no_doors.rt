@@ -1,11 +1,11 @@
 //! Doors for a program that has none.
 
-ghost use Rattle.std.specs.Prelude.{◌≡◌, ◌<◌, ◌↔◌, IsTrue, map, sum_by};
+ghost use Rattle.std.specs.Prelude.{◌≡◌, map};
 ghost use Rattle.road_io.specs.DoorOpening.{asked, door_set, OpenGives, BackGives};
 ghost use Rattle.road_io.specs.MemoryDoor.{door_view};
 ghost use Rattle.road_io.specs.NoDoors.{no_doors};
 
-use crate::doorways::{Doors, Opened};
+use crate::doorways::{Doors, Opened, any_fault};
 use crate::failures::DoorsFault;
 use crate::memory::doors::{MemCloser, MemDoor};
 use std::alloc::Global;
@@ -59,20 +59,8 @@ impl Doors for NoDoors {
     fn back(&mut self, queries: Vec<MemDoor>, control: MemDoor)
         ensures takes { BackGives (no_doors self.old) (door_set (map door_view queries.items) (door_view control)) (no_doors self.new) }
     {
-        if control.has_fault() || any_fault(&queries) {
+        if any_fault(&queries, &control) {
             self.faults = self.faults.saturating_add(1);
         }
     }
-}
-
-// Whether one of these doors has counted a fault.
-fn any_fault(doors: &[MemDoor]) -> bool
-    ensures { IsTrue result ↔ (0 < sum_by (λ door. door.faults) (map door_view doors.now)) }
-{
-    for door in doors {
-        if door.has_fault() {
-            return true;
-        }
-    }
-    false
 }

@@ -1,5 +1,5 @@
 use Rattle.std.proofs.Common.{◌≡◌, ◌++◌, drop, map}
-use Rattle.edge_graph.specs.Vertex.{vertices}
+use Rattle.road_segments.specs.Vertex.{vertices}
 use Rattle.customized.specs.Framing.{midpoint_of}
 use Rattle.customized.proofs.midpoints.midpoints.Given as goal
 

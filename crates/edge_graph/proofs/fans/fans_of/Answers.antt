@@ -4,10 +4,10 @@ use Rattle.std.specs.Ordering.{int_eq}
 use Rattle.std.proofs.lemmas.Int.{to_z-of_z}
 use Rattle.list_lemmas.proofs.Gets.{get_some}
 use Rattle.edge_graph.specs.Fans.{AreFans, fan_in}
-use Rattle.edge_graph.specs.Vertex.{vertices}
+use Rattle.road_segments.specs.Vertex.{vertices}
 use Rattle.edge_graph.specs.declared.fans.Fan.{Fan}
 use Rattle.edge_graph.proofs.FanLemmas.{AreFans-add, AreFans-skip, AreFans-start, fan-few, field-at}
-use Rattle.edge_graph.specs.Laws.{length-vertices}
+use Rattle.road_segments.specs.Laws.{length-vertices}
 use Rattle.edge_graph.proofs.fans.fans_of.Goals as goal
 
 pub loop-v-init : goal.loop-v-init
@@ -25,7 +25,7 @@ overflow_add-fan c =
     let few = fan-few vs c.loop-v.v c.loop-v.next.items c.loop-v.by_node c.tail-node.result c.loop-v.invariant in
     let is : c.fan_at-fan.result ≡ fan_in c.loop-v.by_node (2 * c.len-none.result) c.tail-node.result = simp to_z-of_z at c.fan_at-fan.ensures in
     let same : c.fan_at-fan.result ≡ fan_in c.loop-v.by_node (length vs) c.tail-node.result = is ∙ ap (λ (n : ℕ). fan_in c.loop-v.by_node n c.tail-node.result) all in
-    omega (arith, few, ap (λ (f : Fan). f.leaving) same, c.len-none.ensures.few, all)
+    omega (arith, few, ap (λ (f : Fan). f.leaving) same, c.len-none.ensures.fits, all)
 
 pub loop-v-preserved-in_ok-insert : goal.loop-v-preserved-in_ok-insert
 loop-v-preserved-in_ok-insert c =

@@ -1,5 +1,5 @@
 use Rattle.edge_graph.specs.Fans.{AreFans}
-use Rattle.edge_graph.specs.Vertex.{vertices}
+use Rattle.road_segments.specs.Vertex.{vertices}
 use Rattle.edge_graph.proofs.fans.fans_of.Given as goal
 
 -- the vertices from number v on are in their fans

@@ -6,10 +6,10 @@ use Rattle.std.proofs.Math.ListN.{drop_of_length-le}
 use Rattle.std.proofs.lemmas.Int.{to_z-of_z}
 use Rattle.list_lemmas.proofs.Gets.{get_some}
 use Rattle.edge_graph.specs.RestrictionParts.{pair_eq}
-use Rattle.edge_graph.specs.Vertex.{Vertex, vertices}
+use Rattle.road_segments.specs.Vertex.{Vertex, vertices}
 use Rattle.edge_graph.proofs.FanLemmas.{field-at}
 use Rattle.edge_graph.proofs.RuleLemmas.{HaveMet, begins, begins-vertices, met-add, met-skip}
-use Rattle.edge_graph.specs.Laws.{length-vertices}
+use Rattle.road_segments.specs.Laws.{length-vertices}
 use Rattle.edge_graph.proofs.restrictions.ways_met.Goals as goal
 
 pub loop-v-init : goal.loop-v-init

@@ -1,5 +1,5 @@
 use Rattle.std.proofs.Common.{drop}
-use Rattle.edge_graph.specs.Vertex.{vertices}
+use Rattle.road_segments.specs.Vertex.{vertices}
 use Rattle.edge_graph.proofs.RuleLemmas.{HaveMet}
 use Rattle.edge_graph.proofs.restrictions.ways_met.Given as goal
 

@@ -1,7 +1,7 @@
 use Rattle.std.proofs.Common.{◌≡◌, ℕ, Some, length}
 use Rattle.std.specs.List.{slice_get}
 use Rattle.edge_graph.specs.Turn.{exits}
-use Rattle.edge_graph.specs.Vertex.{vertices}
+use Rattle.road_segments.specs.Vertex.{vertices}
 use Rattle.edge_graph.proofs.turn_lists.exit_counts.Given as goal
 
 -- the vertices so far have their exits counted

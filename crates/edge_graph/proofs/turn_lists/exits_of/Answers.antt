@@ -5,13 +5,13 @@ use Rattle.std.proofs.lemmas.Int.{to_z-of_z}
 use Rattle.std.proofs.lemmas.Option.{slice_get_within}
 use Rattle.list_lemmas.proofs.Gets.{get_some}
 use Rattle.edge_graph.specs.Fans.{AreFans, FanMap, fan_in}
-use Rattle.edge_graph.specs.Segment.{Segment}
+use Rattle.road_segments.specs.Segment.{Segment}
 use Rattle.edge_graph.specs.Turn.{exits}
-use Rattle.edge_graph.specs.Vertex.{opposite, vertices}
+use Rattle.road_segments.specs.Vertex.{opposite, vertices}
 use Rattle.edge_graph.specs.declared.fans.Fan.{Fan}
 use Rattle.edge_graph.proofs.FanLemmas.{field-at}
 use Rattle.edge_graph.proofs.TurnLemmas.{bit, exits-leaving, opposite-get}
-use Rattle.edge_graph.specs.Laws.{length-vertices}
+use Rattle.road_segments.specs.Laws.{length-vertices}
 use Rattle.edge_graph.proofs.turn_lists.exits_of.Goals as goal
 
 -- the fan at the head counts the exits and the way back

@@ -5,11 +5,11 @@ use Rattle.std.proofs.lemmas.List.{append-nil}
 use Rattle.list_lemmas.proofs.Gets.{get_is}
 use Rattle.edge_graph.specs.Chains.{IsChain}
 use Rattle.edge_graph.specs.Fans.{fan_in, leavers}
-use Rattle.edge_graph.specs.Vertex.{vertices}
+use Rattle.road_segments.specs.Vertex.{vertices}
 use Rattle.edge_graph.specs.declared.fans.Fan.{Fan}
 use Rattle.edge_graph.proofs.FanLemmas.{field-at}
 use Rattle.edge_graph.proofs.TurnLemmas.{IsLeft-ahead, IsLeft-done, IsLeft-next, both-ways, turns_onto_all-at}
-use Rattle.edge_graph.specs.Laws.{length-vertices}
+use Rattle.road_segments.specs.Laws.{length-vertices}
 use Rattle.edge_graph.proofs.turn_lists.push_all.Goals.{then-is_other+in_ok-push, else-is_other}
 use Rattle.edge_graph.proofs.turn_lists.push_all.Goals as goal
 

@@ -1,6 +1,6 @@
 use Rattle.std.proofs.Common.{◌-◌, ◌++◌, ◌==◌, not}
 use Rattle.edge_graph.specs.TurnParts.{turns_onto_all}
-use Rattle.edge_graph.specs.Vertex.{opposite, vertices}
+use Rattle.road_segments.specs.Vertex.{opposite, vertices}
 use Rattle.edge_graph.proofs.TurnLemmas.{IsLeft}
 use Rattle.edge_graph.proofs.turn_lists.push_all.Given as goal
 

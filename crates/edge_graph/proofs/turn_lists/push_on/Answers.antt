@@ -5,7 +5,7 @@ use Rattle.edge_graph.specs.Fans.{leavers}
 use Rattle.edge_graph.specs.Leaving.{leaving_at, open_exits}
 use Rattle.edge_graph.specs.RestrictionParts.{has_via}
 use Rattle.edge_graph.specs.TurnParts.{turns_onto}
-use Rattle.edge_graph.specs.Vertex.{Vertex, vertices}
+use Rattle.road_segments.specs.Vertex.{Vertex, vertices}
 use Rattle.edge_graph.proofs.FanLemmas.{field-at}
 use Rattle.edge_graph.proofs.TurnLemmas.{both-ways, turns_on-all, turns_on-open}
 use Rattle.edge_graph.proofs.turn_lists.push_on.Goals as goal

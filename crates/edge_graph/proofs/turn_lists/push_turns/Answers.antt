@@ -1,9 +1,9 @@
 use Rattle.std.proofs.Common.{◌≡◌, ◌<◌, ℕ, ◌++◌, length, arith, List, [], ◌∷◌, Bool, cond, sym, ap, subst, ◌∙◌}
 use Rattle.std.specs.Result.{OnOk}
 use Rattle.std.proofs.lemmas.List.{append-nil}
-use Rattle.edge_graph.specs.Vertex.{opposite, vertices}
+use Rattle.road_segments.specs.Vertex.{opposite, vertices}
 use Rattle.list_lemmas.proofs.Gets.{get_is}
-use Rattle.edge_graph.specs.Laws.{length-vertices}
+use Rattle.road_segments.specs.Laws.{length-vertices}
 use Rattle.edge_graph.proofs.FanLemmas.{field-at}
 use Rattle.edge_graph.proofs.TurnLemmas.{both-ways, turns-back, turns-none, turns-on}
 use Rattle.edge_graph.proofs.turn_lists.push_turns.Goals as goal

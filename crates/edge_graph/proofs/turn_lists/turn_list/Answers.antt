@@ -1,14 +1,14 @@
-use Rattle.std.proofs.Common.{◌≡◌, ℕ, ◌+◌, ◌*◌, ◌<◌, ◌≤◌, ◌++◌, List, drop, length, arith, sym, ap, ◌∙◌, append_assoc, length-append}
+use Rattle.std.proofs.Common.{◌≡◌, ℕ, ◌+◌, ◌*◌, ◌<◌, ◌≤◌, ◌++◌, List, drop, length, arith, sym, ap, ◌∙◌, append_assoc}
 use Rattle.std.specs.List.{enumerate_from, flat_map}
 use Rattle.std.proofs.lemmas.List.{append-nil}
 use Rattle.list_lemmas.proofs.Gets.{get_some}
 use Rattle.turn_rules.specs.Rules.{Rule}
 use Rattle.edge_graph.specs.Fans.{turns_at}
-use Rattle.edge_graph.specs.Segment.{Segment}
+use Rattle.road_segments.specs.Segment.{Segment}
 use Rattle.edge_graph.specs.Turn.{turns, turns_from}
-use Rattle.edge_graph.specs.Vertex.{vertices}
+use Rattle.road_segments.specs.Vertex.{vertices}
 use Rattle.edge_graph.proofs.TurnLemmas.{no-rows, turns-all, turns-end, turns-step}
-use Rattle.edge_graph.specs.Laws.{length-vertices}
+use Rattle.road_segments.specs.Laws.{length-vertices}
 use Rattle.edge_graph.proofs.turn_lists.turn_list.Goals as goal
 
 -- the turns from one more vertex are listed
@@ -25,27 +25,15 @@ step segments rules v list new lt added so_far =
     ∙ ap (λ (l : List (ℕ × ℕ)). list ++ l) (sym (turns-step vs rules v x.0 x.1))
     ∙ so_far
 
-pub room_for-requires : goal.room_for-requires
-room_for-requires c = omega (arith, c.requires.counts.as_many, length-vertices c.args.roads.now, c.deref.ensures.value)
-
 pub loop-v-init : goal.loop-v-init
 loop-v-init c = record {
   so_far = rw c.in_ok-list.ensures.items (turns-all (vertices c.args.roads.now) c.args.restrictions.now.kept);
-  few = rw c.in_ok-list.ensures.items (omega arith);
   rows = no-rows c.args.restrictions.now.kept c.args.exits.now.leaving.runs c.new-rows.result c.new-rows.ensures.empty;
 }
-
-pub returns-then-len-gt-MOST_TURNS-clause-err : goal.returns-then-len-gt-MOST_TURNS-clause-err
-returns-then-len-gt-MOST_TURNS-clause-err c =
-    let segments = c.args.roads.now in
-    let kept = c.args.restrictions.now.kept in
-    let more = step segments kept c.loop-v.v c.loop-v.list.items c.push_turns.new.turns.items (omega (arith, c.len-v-end.ensures.value)) c.in_ok-push_turns.ensures.turns c.loop-v.invariant.so_far in
-    omega (arith, ap length more, length-append c.push_turns.new.turns.items (flat_map (turns_from (vertices segments) kept) (enumerate_from (c.loop-v.v + 1) (drop (c.loop-v.v + 1) (vertices segments)))))
 
 pub loop-v-preserved : goal.loop-v-preserved
 loop-v-preserved c = record {
   so_far = step c.args.roads.now c.args.restrictions.now.kept c.loop-v.v c.loop-v.list.items c.push_turns.new.turns.items (omega (arith, c.len-v-end.ensures.value)) c.in_ok-push_turns.ensures.turns c.loop-v.invariant.so_far;
-  few = omega arith;
   rows = c.in_ok-push_turns.ensures.rows;
 }
 
@@ -55,10 +43,5 @@ all-listed segments rules v list le so_far =
     let end : length (vertices segments) ≤ v = omega (arith, length-vertices segments) in
     sym (append-nil list) ∙ ap (λ (l : List (ℕ × ℕ)). list ++ l) (sym (turns-end (vertices segments) rules v end)) ∙ so_far
 
-pub returns-clause-list : goal.returns-clause-list
-returns-clause-list c = all-listed c.args.roads.now c.args.restrictions.now.kept c.loop-v.v c.loop-v.list.items (omega (arith, c.len-v-end.ensures.value)) c.loop-v.invariant.so_far
-
-pub returns-clause-few : goal.returns-clause-few
-returns-clause-few c =
-    let listed = all-listed c.args.roads.now c.args.restrictions.now.kept c.loop-v.v c.loop-v.list.items (omega (arith, c.len-v-end.ensures.value)) c.loop-v.invariant.so_far in
-    omega (arith, c.loop-v.invariant.few, ap length listed)
+pub returns : goal.returns
+returns c = all-listed c.args.roads.now c.args.restrictions.now.kept c.loop-v.v c.loop-v.list.items (omega (arith, c.len-v-end.ensures.value)) c.loop-v.invariant.so_far

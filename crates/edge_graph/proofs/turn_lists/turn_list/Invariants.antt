@@ -1,14 +1,13 @@
-use Rattle.std.proofs.Common.{◌≡◌, ◌++◌, ◌≤◌, ◌^◌, drop, length}
+use Rattle.std.proofs.Common.{◌≡◌, ◌++◌, drop}
 use Rattle.std.specs.List.{enumerate_from, flat_map}
 use Rattle.edge_graph.specs.Turn.{turns, turns_from}
 use Rattle.edge_graph.specs.TurnParts.{AreOpenRows}
-use Rattle.edge_graph.specs.Vertex.{vertices}
+use Rattle.road_segments.specs.Vertex.{vertices}
 use Rattle.edge_graph.proofs.turn_lists.turn_list.Given as goal
 
--- the turns from the vertices so far are listed, and they are not too many
+-- the turns from the vertices so far are listed
 abbrev pub invariant-loop-v : goal.invariant-loop-v
 invariant-loop-v l = record {
   so_far : l.list.items ++ flat_map (turns_from (vertices l.roads) l.restrictions.kept) (enumerate_from l.v (drop l.v (vertices l.roads))) ≡ turns (vertices l.roads) l.restrictions.kept;
-  few : length l.list.items ≤ 2 ^ 26;
   rows : AreOpenRows l.restrictions.kept l.exits.leaving.runs l.rows;
 }

@@ -1,7 +1,7 @@
 -- Nothing is told of an empty line; want of memory is told in place of a reply.
 use Rattle.std.proofs.Common.{◌≡◌, ◌<◌, ◌++◌, length, arith}
 use Rattle.std.proofs.lemmas.Bool.Decides.{nat_tests}
-use Rattle.reply_texts.specs.Refusals.{busy_text}
+use Rattle.refusal_texts.specs.Refusals.{busy_text}
 use Rattle.line_session.specs.Growing.{sides}
 use Rattle.line_session.specs.Publication.{newline}
 use Rattle.line_session.specs.Traffic.{traffic_names}

@@ -2,7 +2,7 @@ use Rattle.std.proofs.Common.{◌≡◌, ◌∙◌, ◌≤◌, ap, arith, count_
 use lib.Seq.{take_all}
 use Rattle.std.proofs.lemmas.Bool.Decides.{nat_tests}
 use Rattle.edge_graph.specs.NetworkView.{vertices_of}
-use Rattle.edge_graph.specs.Vertex.{Vertex}
+use Rattle.road_segments.specs.Vertex.{Vertex}
 use Rattle.map_loading.proofs.Tallies.{count_by-step, length-vertices}
 use Rattle.map_loading.proofs.counting.permitted_in.Goals as goal
 

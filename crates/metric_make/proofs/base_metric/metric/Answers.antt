@@ -5,7 +5,7 @@ use Rattle.search_graph.specs.Digraph.{Digraph}
 use Rattle.search_graph.specs.Durations.{durlen_ops}
 use Rattle.search_graph.specs.WeightLaws.{small_from_lists}
 use Rattle.edge_graph.specs.NetworkView.{vertices_of}
-use Rattle.edge_graph.specs.Laws.{length-vertices}
+use Rattle.road_segments.specs.Laws.{length-vertices}
 use Rattle.metric_make.specs.MetricOf.{vertex_cost, turn_cost}
 use Rattle.metric_make.proofs.base_metric.metric.Goals as goal
 

@@ -1,5 +1,5 @@
 use Rattle.std.proofs.Common.{◌≡◌, ◌++◌, drop, map}
-use Rattle.edge_graph.specs.Vertex.{vertices}
+use Rattle.road_segments.specs.Vertex.{vertices}
 use Rattle.metric_make.specs.MetricOf.{bearing_along}
 use Rattle.metric_make.proofs.turns.bearings_of.Given as goal
 

@@ -7,7 +7,7 @@ use Rattle.list_lemmas.proofs.Gets.{get_some}
 use Rattle.search_graph.specs.Digraph.{Digraph}
 use Rattle.search_graph.specs.Durations.{durlen_ops}
 use Rattle.search_graph.specs.declared.costs.DurLen.{DurLen}
-use Rattle.edge_graph.specs.Laws.{length-vertices}
+use Rattle.road_segments.specs.Laws.{length-vertices}
 use Rattle.edge_graph.specs.NetworkView.{vertices_of}
 use Rattle.metric_make.specs.LastRows.{AreMarked, triple_eq}
 use Rattle.metric_make.specs.MetricOf.{penalty_at, penalty_under, turn_cost}

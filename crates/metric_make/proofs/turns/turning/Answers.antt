@@ -3,8 +3,8 @@ use Rattle.std.proofs.lemmas.List.{length-map}
 use Rattle.list_lemmas.proofs.Gets.{get_some}
 use Rattle.geo_integer.specs.Bearing.{modifier_of}
 use Rattle.edge_graph.specs.NetworkView.{vertices_of}
-use Rattle.edge_graph.specs.Vertex.{opposite}
-use Rattle.edge_graph.specs.Laws.{length-vertices}
+use Rattle.road_segments.specs.Vertex.{opposite}
+use Rattle.road_segments.specs.Laws.{length-vertices}
 use Rattle.metric_make.specs.MetricOf.{bearing_along}
 use Rattle.metric_make.proofs.CostLemmas.{bearing-bound, bearing-read, turning-along, turning-back, turning-bend}
 use Rattle.way_profile.specs.Vehicle.{penalty_of}

@@ -4,7 +4,7 @@ use Rattle.std.specs.Prelude.{◌||◌}
 use Rattle.std.proofs.lemmas.Int.{to_z-of_z}
 use Rattle.list_lemmas.proofs.Gets.{get_some}
 use Rattle.edge_graph.specs.NetworkView.{vertices_of}
-use Rattle.edge_graph.specs.Laws.{length-vertices}
+use Rattle.road_segments.specs.Laws.{length-vertices}
 use Rattle.metric_make.specs.LastRows.{AreMarked, pair_eq}
 use Rattle.metric_make.specs.TrafficRows.{is_way}
 use Rattle.metric_make.proofs.MatchLemmas.{field-at, matched-closed, matched-permitted}

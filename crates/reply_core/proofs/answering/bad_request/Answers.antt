@@ -1,6 +1,6 @@
 -- The text is that of the value.
 use Rattle.std.proofs.Common.{◌∙◌}
-use Rattle.reply_texts.specs.Refusals.{bad_request_value}
+use Rattle.refusal_texts.specs.Refusals.{bad_request_value}
 use Rattle.reply_core.proofs.answering.bad_request.Goals as goal
 
 pub returns-clause-says : goal.returns-clause-says

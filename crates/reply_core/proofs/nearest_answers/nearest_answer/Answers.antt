@@ -6,7 +6,7 @@ use Rattle.geo_integer.specs.Position.{position_of}
 use Rattle.road_base.specs.declared.segments.Place.{Place}
 use Rattle.road_places.specs.Places.{IsPlaceOn}
 use Rattle.edge_graph.specs.NetworkView.{NetworkView}
-use Rattle.edge_graph.specs.Segment.{Segment}
+use Rattle.road_segments.specs.Segment.{Segment}
 use Rattle.snap_index.specs.Firsts.{AreFirsts}
 use Rattle.snap_index.specs.declared.snapping.Snapped.{Snapped}
 use Rattle.url_read.specs.Request.{AreOwn}

@@ -49,4 +49,4 @@ pub told-requires-clause-small : goal.told-requires-clause-small
 told-requires-clause-small c =
     let network = c.args.under.now.road.network in
     let same = ap (λ (n : NetworkView). length n.segments) c.network-network.ensures in
-    few-units network c.in_ok-routes.routes.items (omega (arith, c.segments.ensures.value, c.segments.ensures.few, same)) c.in_ok-routes.ensures.bound
+    few-units network c.in_ok-routes.routes.items (omega (arith, c.segments.ensures.value, c.segments.ensures.fits, same)) c.in_ok-routes.ensures.bound

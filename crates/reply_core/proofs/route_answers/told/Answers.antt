@@ -27,6 +27,6 @@ returns-clause-tells c =
       text = c.of-3.ensures
           ∙ c.in_ok-text.ensures
           ∙ ap compact_text
-          (route-told c.args.number request.skip_waypoints c.args.own.now request.points c.args.under.now.road c.network-network.result.now c.base-base.result.now c.args.places.items c.deref.result.now c.args.routes.items c.deref-2.result.now
+          (route-told c.args.number request.skip_waypoints c.args.own.now.telling request.points c.args.under.now.road c.network-network.result.now c.base-base.result.now c.args.places.items c.deref.result.now c.args.routes.items c.deref-2.result.now
           c.network-network.ensures c.base-base.ensures.value c.deref.ensures.value c.deref-2.ensures.value);
     }

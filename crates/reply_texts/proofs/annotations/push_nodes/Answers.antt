@@ -3,7 +3,7 @@ use mir.Val.{SFits}
 use Rattle.std.proofs.lemmas.Int.{to_z-of_z}
 use Rattle.json_text.specs.Values.{whole}
 use Rattle.reply_texts.specs.Legs.{nodes_value}
-use Rattle.reply_texts.proofs.Items.{all_written, may_come, may_end, one_more}
+use Rattle.json_text.specs.Items.{all_written, may_come, may_end, one_more}
 use Rattle.reply_texts.proofs.annotations.push_nodes.Goals as goal
 
 pub whole-requires : goal.whole-requires

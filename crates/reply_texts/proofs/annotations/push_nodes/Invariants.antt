@@ -1,6 +1,6 @@
 use Rattle.std.proofs.Common.{◌≡◌}
 use Rattle.json_text.specs.Values.{whole}
-use Rattle.reply_texts.proofs.Items.{so_far}
+use Rattle.json_text.specs.Items.{so_far}
 use Rattle.reply_texts.proofs.annotations.push_nodes.Given as goal
 
 -- what is written so far

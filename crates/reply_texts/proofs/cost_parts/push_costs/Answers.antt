@@ -1,6 +1,6 @@
 use Rattle.std.proofs.Common.{arith}
 use Rattle.reply_texts.specs.Costs.{part_value, costs_value}
-use Rattle.reply_texts.proofs.Items.{all_written, may_come, may_end, one_more}
+use Rattle.json_text.specs.Items.{all_written, may_come, may_end, one_more}
 use Rattle.reply_texts.proofs.cost_parts.push_costs.Goals as goal
 
 pub tenths-requires : goal.tenths-requires

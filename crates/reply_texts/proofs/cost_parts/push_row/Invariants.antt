@@ -1,6 +1,6 @@
 use Rattle.std.proofs.Common.{◌≡◌}
 use Rattle.reply_texts.specs.Costs.{cell_value}
-use Rattle.reply_texts.proofs.Items.{so_far}
+use Rattle.json_text.specs.Items.{so_far}
 use Rattle.reply_texts.proofs.cost_parts.push_row.Given as goal
 
 -- the cells so far

@@ -2,7 +2,7 @@ use Rattle.std.proofs.Common.{List, Option, ap, arith, ◌∙◌}
 use Rattle.search_graph.specs.declared.costs.DurLen.{DurLen}
 use Rattle.json_text.specs.Drafts.{with_value}
 use Rattle.reply_texts.specs.Costs.{row_value, rows_value}
-use Rattle.reply_texts.proofs.Items.{all_written, may_come, may_end, one_more}
+use Rattle.json_text.specs.Items.{all_written, may_come, may_end, one_more}
 use Rattle.reply_texts.proofs.cost_parts.push_rows.Goals as goal
 
 pub push_row-requires : goal.push_row-requires

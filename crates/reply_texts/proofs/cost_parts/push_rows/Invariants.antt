@@ -1,6 +1,6 @@
 use Rattle.std.proofs.Common.{◌≡◌}
 use Rattle.reply_texts.specs.Costs.{row_value}
-use Rattle.reply_texts.proofs.Items.{so_far}
+use Rattle.json_text.specs.Items.{so_far}
 use Rattle.reply_texts.proofs.cost_parts.push_rows.Given as goal
 
 -- what is written so far

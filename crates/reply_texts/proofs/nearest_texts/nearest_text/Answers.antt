@@ -3,10 +3,10 @@ use Rattle.std.specs.Prelude.{map}
 use Rattle.json_text.specs.Drafts.{Draft, empty_draft}
 use Rattle.json_text.specs.Wholes.{array_of}
 use Rattle.json_text.specs.WholeLaws.{object_written}
-use Rattle.reply_texts.specs.Refusals.{code_member, version_member}
+use Rattle.refusal_texts.specs.Refusals.{code_member, version_member}
 use Rattle.reply_texts.specs.Replies.{nearest_reply}
 use Rattle.reply_texts.specs.Waypoints.{neighbour_of}
-use Rattle.reply_texts.specs.declared.reply_codes.Code.TheVariants as code
+use Rattle.refusal_texts.specs.declared.reply_codes.Code.TheVariants as code
 use Rattle.reply_texts.proofs.nearest_texts.nearest_text.Goals as goal
 
 pub returns : goal.returns

@@ -6,12 +6,11 @@ use Rattle.std.proofs.lemmas.Option.{slice_get-get_or}
 use Rattle.list_lemmas.proofs.Fronts.{map-map}
 use Rattle.road_base.specs.declared.coordinates.Point.{Point}
 use Rattle.road_base.specs.declared.segments.Place.{Place}
-use Rattle.road_places.specs.RoadMetric.{road_of}
+use Rattle.metric_make.specs.RoadMetric.{road_of}
 use Rattle.road_places.specs.declared.walks.Route.{Route}
 use Rattle.route_steps.specs.Points.{points_along}
 use Rattle.route_steps.specs.Steps.{joined}
-use Rattle.reply_texts.specs.Legs.{Leg}
-use Rattle.reply_texts.specs.Lines.{points_behind}
+use Rattle.reply_texts.specs.Legs.{Leg, points_behind}
 use Rattle.reply_texts.specs.RouteLegs.{ends_and_routes, leg_told}
 use Rattle.reply_texts.proofs.LegLemmas.{joined-more, leg-at, legs-count, permitted-at, places-enough}
 use Rattle.reply_texts.proofs.route_lines.line_points.Goals as goal

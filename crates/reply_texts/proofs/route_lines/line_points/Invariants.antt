@@ -1,6 +1,6 @@
 use Rattle.std.proofs.Common.{◌≡◌, take}
 use Rattle.std.specs.Prelude.{map}
-use Rattle.road_places.specs.RoadMetric.{road_of}
+use Rattle.metric_make.specs.RoadMetric.{road_of}
 use Rattle.route_steps.specs.Steps.{joined}
 use Rattle.reply_texts.specs.RouteLegs.{ends_and_routes, leg_told}
 use Rattle.reply_texts.proofs.route_lines.line_points.Given as goal

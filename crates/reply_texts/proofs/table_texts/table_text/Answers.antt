@@ -5,11 +5,11 @@ use Rattle.json_text.specs.Wholes.{with_members}
 use Rattle.json_text.specs.WholeLaws.{object_written}
 use Rattle.reply_texts.specs.Costs.{rows_value}
 use Rattle.reply_texts.specs.Optional.{member_if}
-use Rattle.reply_texts.specs.Refusals.{code_member, version_member}
+use Rattle.refusal_texts.specs.Refusals.{code_member, version_member}
 use Rattle.reply_texts.specs.Replies.{table_reply, waypoints_member}
 use Rattle.reply_texts.specs.Waypoints.{waypoints_of}
 use Rattle.reply_texts.specs.declared.cost_parts.CostPart.TheVariants as part
-use Rattle.reply_texts.specs.declared.reply_codes.Code.TheVariants as code
+use Rattle.refusal_texts.specs.declared.reply_codes.Code.TheVariants as code
 use Rattle.reply_texts.proofs.MemberLemmas.{four-members}
 use Rattle.reply_texts.proofs.table_texts.table_text.Goals as goal
 

@@ -1,6 +1,6 @@
 use Rattle.std.proofs.Common.{arith}
 use Rattle.reply_texts.specs.Waypoints.{neighbour_of}
-use Rattle.reply_texts.proofs.Items.{all_written, may_come, may_end, one_more}
+use Rattle.json_text.specs.Items.{all_written, may_come, may_end, one_more}
 use Rattle.reply_texts.proofs.waypoints.push_neighbours.Goals as goal
 
 pub push_neighbour-requires-clause-takes : goal.push_neighbour-requires-clause-takes

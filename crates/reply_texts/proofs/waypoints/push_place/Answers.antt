@@ -9,6 +9,6 @@ use Rattle.reply_texts.proofs.waypoints.push_place.Goals as goal
 pub returns-clause-ok : goal.returns-clause-ok
 returns-clause-ok c =
     let segments = c.args.network.now.segments in
-    rw (c.in_ok-degrees.ensures.ok, c.in_ok-key.ensures.ok, c.in_ok-push_text_member.ensures.ok, c.in_ok-push_tenths_member.ensures.ok, c.from.ensures)
+    rw (c.in_ok-degrees.ensures.ok, c.in_ok-key.ensures.ok, c.in_ok-text_member.ensures.ok, c.in_ok-tenths_member.ensures.ok, c.from.ensures)
     (ap (λ (members : List (List ℕ × JsonValue)). with_members members c.args.json.now)
     (members-is segments c.args.coordinate c.args.place (position_of c.point-point.result) c.name-name.result.now c.distance.result (slice_get segments c.args.place.segment) refl c.point-point.ensures c.name-name.ensures.by_segment c.distance.ensures.value))

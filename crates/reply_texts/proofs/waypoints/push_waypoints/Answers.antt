@@ -7,7 +7,7 @@ use Rattle.road_base.specs.declared.segments.Place.{Place}
 use Rattle.json_text.specs.Drafts.{with_value}
 use Rattle.reply_texts.specs.Waypoints.{waypoint_of}
 use Rattle.reply_texts.proofs.WaypointLemmas.{pair-at}
-use Rattle.reply_texts.proofs.Items.{all_written, may_come, may_end, one_more}
+use Rattle.json_text.specs.Items.{all_written, may_come, may_end, one_more}
 use Rattle.reply_texts.proofs.waypoints.push_waypoints.Goals as goal
 
 pub push_waypoint-requires-clause-takes : goal.push_waypoint-requires-clause-takes

@@ -1,7 +1,7 @@
 use Rattle.std.proofs.Common.{◌≡◌}
 use Rattle.std.specs.List.{zip}
 use Rattle.reply_texts.specs.Waypoints.{waypoint_of}
-use Rattle.reply_texts.proofs.Items.{so_far}
+use Rattle.json_text.specs.Items.{so_far}
 use Rattle.reply_texts.proofs.waypoints.push_waypoints.Given as goal
 
 -- what is written so far

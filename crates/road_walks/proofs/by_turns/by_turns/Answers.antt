@@ -5,15 +5,16 @@ use Rattle.std.specs.List.{Contains}
 use Rattle.search_graph.specs.declared.costs.DurLen.{DurLen}
 use Rattle.search_graph.specs.declared.ends.Start.{Start}
 use Rattle.search_graph.specs.declared.ends.Target.{Target}
+use Rattle.road_walks.specs.WalkLaws.{stands_for_walks}
 use Rattle.road_walks.proofs.TurnLemmas.{cheapest-bound, cheapest-least}
 use Rattle.road_walks.proofs.by_turns.by_turns.Goals as goal
 
 -- the starts and targets fit
-pub over_turns-requires-clause-starts : goal.over_turns-requires-clause-starts
-over_turns-requires-clause-starts c = λ s h. c.in_ok-starts.ensures.fit s (subst (λ (x : List (Start DurLen)). Contains x s) c.deref.ensures.value h)
+pub over_graph-requires-clause-starts : goal.over_graph-requires-clause-starts
+over_graph-requires-clause-starts c = λ s h. c.in_ok-starts.ensures.fit s (subst (λ (x : List (Start DurLen)). Contains x s) c.deref.ensures.value h)
 
-pub over_turns-requires-clause-targets : goal.over_turns-requires-clause-targets
-over_turns-requires-clause-targets c = λ t h. c.in_ok-targets.ensures.fit t (subst (λ (x : List (Target DurLen)). Contains x t) c.deref-2.ensures.value h)
+pub over_graph-requires-clause-targets : goal.over_graph-requires-clause-targets
+over_graph-requires-clause-targets c = λ t h. c.in_ok-targets.ensures.fit t (subst (λ (x : List (Target DurLen)). Contains x t) c.deref-2.ensures.value h)
 
 -- what the search found is the least walk
 pub returns-clause-least : goal.returns-clause-least
@@ -23,17 +24,15 @@ returns-clause-least c =
     (cheapest-least road c.args.from c.args.to c.deref.result.now c.deref-2.result.now
     (subst (AreAll (IsStart road.weights c.args.from)) (sym c.deref.ensures.value) c.in_ok-starts.ensures.all)
     (subst (AreAll (IsTarget road.weights c.args.to)) (sym c.deref-2.ensures.value) c.in_ok-targets.ensures.all)
-    c.in_ok-found.found c.in_ok-found.ensures)
+    c.in_ok-found.found
+    (stands_for_walks road.network road.weights c.deref.result.now c.deref-2.result.now c.in_ok-found.found c.in_ok-found.ensures))
 
--- and it costs no more than the network's vertices allow
+-- and it costs no more than the graph's vertices allow
 pub returns-clause-bound : goal.returns-clause-bound
 returns-clause-bound c =
     let road = c.args.under.now.road in
     rw c.route_of.ensures
-    (cheapest-bound road c.args.from c.args.to c.deref.result.now c.deref-2.result.now
-    (subst (AreAll (IsStart road.weights c.args.from)) (sym c.deref.ensures.value) c.in_ok-starts.ensures.all)
-    (subst (AreAll (IsTarget road.weights c.args.to)) (sym c.deref-2.ensures.value) c.in_ok-targets.ensures.all)
-    c.base-small.ensures.small
+    (cheapest-bound road c.deref.result.now c.deref-2.result.now c.base-small.ensures.small
     (λ s h. (c.in_ok-starts.ensures.fit s (subst (λ (x : List (Start DurLen)). Contains x s) c.deref.ensures.value h)).1)
     (λ t h. (c.in_ok-targets.ensures.fit t (subst (λ (x : List (Target DurLen)). Contains x t) c.deref-2.ensures.value h)).1)
     c.in_ok-found.found c.in_ok-found.ensures)

@@ -3,18 +3,19 @@ use Rattle.search_graph.specs.declared.costs.DurLen.{DurLen}
 use Rattle.search_graph.specs.Digraph.{Digraph, Weighting}
 use Rattle.metric_make.specs.MetricOf.{AreWithinUnit}
 use Rattle.road_places.specs.Ends.{AreAll}
+use Rattle.road_places.specs.GraphLaws.{segments-in-graph}
 use Rattle.road_places.specs.Permitted.{IsStart}
 use Rattle.road_walks.proofs.TurnLemmas.{start-fits}
 use Rattle.road_walks.proofs.by_turns.starts_from.Goals as goal
 
 -- both vertices of a place's segment are vertices of the network
 pub starts-requires-clause-few : goal.starts-requires-clause-few
-starts-requires-clause-few c = omega (arith, c.requires.on_segment, c.base-base.ensures.small.vertices, c.base-base.ensures.small.few)
+starts-requires-clause-few c = omega (arith, c.requires.on_segment, segments-in-graph c.args.under.now.road.network, c.base-base.ensures.small.vertices, c.base-base.ensures.small.few)
 
 pub starts-requires-clause-in_range : goal.starts-requires-clause-in_range
 starts-requires-clause-in_range c =
     let same = ap (λ (w : Weighting DurLen). length w.vertex) c.base-base.ensures.value in
-    omega (arith, same, c.requires.on_segment, c.base-base.ensures.small.vertices)
+    omega (arith, same, c.requires.on_segment, segments-in-graph c.args.under.now.road.network, c.base-base.ensures.small.vertices)
 
 -- the starts are those under the road's own costs
 pub returns-clause-all : goal.returns-clause-all

@@ -3,18 +3,19 @@ use Rattle.search_graph.specs.declared.costs.DurLen.{DurLen}
 use Rattle.search_graph.specs.Digraph.{Digraph, Weighting}
 use Rattle.metric_make.specs.MetricOf.{AreWithinUnit}
 use Rattle.road_places.specs.Ends.{AreAll}
+use Rattle.road_places.specs.GraphLaws.{segments-in-graph}
 use Rattle.road_places.specs.Permitted.{IsTarget}
 use Rattle.road_walks.proofs.TurnLemmas.{target-fits}
 use Rattle.road_walks.proofs.by_turns.targets_to.Goals as goal
 
 -- both vertices of a place's segment are vertices of the network
 pub targets-requires-clause-few : goal.targets-requires-clause-few
-targets-requires-clause-few c = omega (arith, c.requires.on_segment, c.base-base.ensures.small.vertices, c.base-base.ensures.small.few)
+targets-requires-clause-few c = omega (arith, c.requires.on_segment, segments-in-graph c.args.under.now.road.network, c.base-base.ensures.small.vertices, c.base-base.ensures.small.few)
 
 pub targets-requires-clause-in_range : goal.targets-requires-clause-in_range
 targets-requires-clause-in_range c =
     let same = ap (λ (w : Weighting DurLen). length w.vertex) c.base-base.ensures.value in
-    omega (arith, same, c.requires.on_segment, c.base-base.ensures.small.vertices)
+    omega (arith, same, c.requires.on_segment, segments-in-graph c.args.under.now.road.network, c.base-base.ensures.small.vertices)
 
 -- the targets are those under the road's own costs
 pub returns-clause-all : goal.returns-clause-all

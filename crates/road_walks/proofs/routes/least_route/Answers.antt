@@ -2,6 +2,7 @@ use Rattle.std.proofs.Common.{arith, subst, ap}
 use Rattle.std.specs.Prelude.{length}
 use Rattle.search_graph.specs.declared.costs.DurLen.{DurLen}
 use Rattle.search_graph.specs.Digraph.{Weighting}
+use Rattle.road_places.specs.GraphLaws.{segments-in-graph}
 use Rattle.road_places.specs.Permitted.{IsAlongOne, IsByTurns}
 use Rattle.road_walks.specs.Choosing.{IsLeastOf}
 use Rattle.road_walks.specs.Least.{most_units}
@@ -10,12 +11,12 @@ use Rattle.road_walks.proofs.routes.least_route.Goals as goal
 
 -- a place on a segment has both its vertices among those of the network
 pub along_one-requires-clause-few : goal.along_one-requires-clause-few
-along_one-requires-clause-few c = omega (arith, c.requires.from.on_segment, c.base.ensures.small.vertices, c.base.ensures.small.few)
+along_one-requires-clause-few c = omega (arith, c.requires.from.on_segment, segments-in-graph c.args.under.now.road.network, c.base.ensures.small.vertices, c.base.ensures.small.few)
 
 pub along_one-requires-clause-in_range : goal.along_one-requires-clause-in_range
 along_one-requires-clause-in_range c =
     let same = ap (λ (w : Weighting DurLen). length w.vertex) c.base.ensures.value in
-    omega (arith, same, c.requires.from.on_segment, c.base.ensures.small.vertices)
+    omega (arith, same, c.requires.from.on_segment, segments-in-graph c.args.under.now.road.network, c.base.ensures.small.vertices)
 
 pub returns-clause-least : goal.returns-clause-least
 returns-clause-least c =

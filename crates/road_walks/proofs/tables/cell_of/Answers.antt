@@ -4,20 +4,21 @@ use Rattle.search_graph.specs.declared.costs.DurLen.{DurLen}
 use Rattle.search_graph.specs.Digraph.{Weighting}
 use Rattle.search_graph.specs.Durations.{durlen_ops}
 use Rattle.table_query.specs.LeastCosts.{IsLeastAmong}
+use Rattle.road_places.specs.GraphLaws.{segments-in-graph}
 use Rattle.road_places.specs.Permitted.{IsAlongOne}
 use Rattle.road_walks.specs.Choosing.{IsLeastOf}
-use Rattle.road_walks.specs.TableParts.{CanCostAlong}
-use Rattle.road_walks.proofs.TableLemmas.{along-cost, cell-of}
+use Rattle.road_walks.specs.TableParts.{CanCostAlong, IsWithin}
+use Rattle.road_walks.proofs.TableLemmas.{along-cost, along-within, cell-of}
 use Rattle.road_walks.proofs.tables.cell_of.Goals as goal
 
 -- a place on a segment has both its vertices among those of the network
 pub along_one-requires-clause-few : goal.along_one-requires-clause-few
-along_one-requires-clause-few c = omega (arith, c.requires.from.on_segment, c.base.ensures.small.vertices, c.base.ensures.small.few)
+along_one-requires-clause-few c = omega (arith, c.requires.from.on_segment, segments-in-graph c.args.under.now.road.network, c.base.ensures.small.vertices, c.base.ensures.small.few)
 
 pub along_one-requires-clause-in_range : goal.along_one-requires-clause-in_range
 along_one-requires-clause-in_range c =
     let same = ap (λ (w : Weighting DurLen). length w.vertex) c.base.ensures.value in
-    omega (arith, same, c.requires.from.on_segment, c.base.ensures.small.vertices)
+    omega (arith, same, c.requires.from.on_segment, segments-in-graph c.args.under.now.road.network, c.base.ensures.small.vertices)
 
 -- the lesser of the two ways
 pub returns : goal.returns
@@ -29,4 +30,5 @@ returns c =
     (subst (λ (value : Option DurLen). IsLeastAmong durlen_ops (CanCostAlong road.weights p q) value) (sym c.cost_of-along.ensures)
     (along-cost road.weights p q c.in_ok-along.along
     (subst (λ (w : Weighting DurLen). IsLeastOf (IsAlongOne w p q) c.in_ok-along.along) c.base.ensures.value c.in_ok-along.ensures.least)))
+    (subst (IsWithin road) (sym c.cost_of-along.ensures) (along-within road c.in_ok-along.along c.in_ok-along.ensures.unit))
     c.requires.by_turns

@@ -1,14 +1,16 @@
 -- Each turn has one row more.
 use Rattle.std.proofs.Common.{◌+◌, List, Option, get_or, take, sym, subst, arith}
+use Rattle.std.specs.List.{AllZip}
 use Rattle.std.proofs.lemmas.List.{take_all}
 use Rattle.std.proofs.lemmas.Option.{slice_get-get_or}
 use Rattle.list_lemmas.proofs.Fronts.{all_zip-length, all_zip-more}
 use Rattle.list_lemmas.proofs.Gets.{get_is}
 use Rattle.road_base.specs.declared.segments.Place.{Place}
 use Rattle.search_graph.specs.declared.costs.DurLen.{DurLen}
-use Rattle.road_walks.specs.TableParts.{IsRowByTurns}
-use Rattle.road_walks.specs.Tables.{AreRowsOf, IsRowOf}
-use Rattle.road_walks.proofs.TableLemmas.{all_zip-at, rows-within}
+use Rattle.road_walks.specs.Least.{most_units}
+use Rattle.road_walks.specs.TableParts.{IsRowByTurns, IsRowWithin}
+use Rattle.road_walks.specs.Tables.{AreRowsOf, AreWithin}
+use Rattle.road_walks.proofs.TableLemmas.{all_zip-at, rows-least, rows-within}
 use Rattle.road_walks.proofs.tables.cost_rows.Goals as goal
 
 -- there is a row for each of the sources
@@ -46,10 +48,11 @@ loop-number-preserved g c =
     let places = c.args.sources.now in
     let destinations = c.args.destinations.now in
     let k = c.loop-number.number in
-    subst (λ (rows : List (List (Option DurLen))). AreRowsOf road (take (k + 1) places) destinations rows) (sym c.in_ok-push.ensures.items)
-    (all_zip-more (IsRowOf road destinations) places c.loop-number.rows.items k (get_or places k nowhere) c.in_ok-row.row c.loop-number.invariant
+    subst (λ (rows : List (List (Option DurLen))). AllZip (IsRowWithin road destinations) (take (k + 1) places) rows) (sym c.in_ok-push.ensures.items)
+    (all_zip-more (IsRowWithin road destinations) places c.loop-number.rows.items k (get_or places k nowhere) c.in_ok-row.row c.loop-number.invariant
     (slice_get-get_or places k nowhere c.loop-number-test.true) c.in_ok-row.ensures)
 
+-- at the end all of them have theirs
 pub returns-clause-least : goal.returns-clause-least
 returns-clause-least g c =
     let road = c.args.under.now.road in
@@ -57,7 +60,15 @@ returns-clause-least g c =
     let destinations = c.args.destinations.now in
     let rows = c.loop-number.rows.items in
     subst (λ (all : List (List (Option DurLen))). AreRowsOf road sources destinations all) (sym c.of.ensures)
-    (subst (λ (front : List Place). AreRowsOf road front destinations rows) (take_all c.loop-number.number sources c.loop-number-test.false) c.loop-number.invariant)
+    (rows-least road destinations sources rows
+    (subst (λ (front : List Place). AllZip (IsRowWithin road destinations) front rows) (take_all c.loop-number.number sources c.loop-number-test.false) c.loop-number.invariant))
 
 pub returns-clause-bound : goal.returns-clause-bound
-returns-clause-bound g c = rows-within c.args.under.now.road c.base-small.ensures.small c.args.destinations.now c.requires.destinations c.args.sources.now c.of.result (returns-clause-least g c)
+returns-clause-bound g c =
+    let road = c.args.under.now.road in
+    let sources = c.args.sources.now in
+    let destinations = c.args.destinations.now in
+    let rows = c.loop-number.rows.items in
+    subst (AreWithin (most_units road.network)) (sym c.of.ensures)
+    (rows-within road destinations sources rows
+    (subst (λ (front : List Place). AllZip (IsRowWithin road destinations) front rows) (take_all c.loop-number.number sources c.loop-number-test.false) c.loop-number.invariant))

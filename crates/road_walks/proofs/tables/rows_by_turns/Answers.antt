@@ -5,14 +5,14 @@ use Rattle.road_walks.proofs.TableLemmas.{starts-fit, table-by_turns, targets-fi
 use Rattle.road_walks.proofs.tables.rows_by_turns.Goals as goal
 
 -- the starts and targets fit
-pub over_turns-requires-clause-sources : goal.over_turns-requires-clause-sources
-over_turns-requires-clause-sources g c κs within =
+pub over_graph-requires-clause-sources : goal.over_graph-requires-clause-sources
+over_graph-requires-clause-sources g c κs within =
     let under = c.args.under.now in
     starts-fit under.frame.graph.vertices under.road.weights c.args.sources.now c.deref.result.now
     (subst (AllZip (AreStartsFrom under.frame.graph.vertices under.road.weights) c.args.sources.now) (sym c.deref.ensures.value) c.in_ok-starts.ensures)
 
-pub over_turns-requires-clause-targets : goal.over_turns-requires-clause-targets
-over_turns-requires-clause-targets g c κs within =
+pub over_graph-requires-clause-targets : goal.over_graph-requires-clause-targets
+over_graph-requires-clause-targets g c κs within =
     let under = c.args.under.now in
     targets-fit under.frame.graph.vertices under.road.weights c.args.destinations.now c.deref-2.result.now
     (subst (AllZip (AreTargetsTo under.frame.graph.vertices under.road.weights) c.args.destinations.now) (sym c.deref-2.ensures.value) c.in_ok-targets.ensures)
@@ -21,7 +21,7 @@ over_turns-requires-clause-targets g c κs within =
 pub returns : goal.returns
 returns g c =
     let under = c.args.under.now in
-    table-by_turns under.road under.frame.graph.vertices c.args.sources.now c.args.destinations.now c.deref.result.now c.deref-2.result.now c.in_ok-rows.rows.items
+    table-by_turns under.road under.frame.graph.vertices c.base-small.ensures.small c.args.sources.now c.args.destinations.now c.deref.result.now c.deref-2.result.now c.in_ok-rows.rows.items
     (subst (AllZip (AreStartsFrom under.frame.graph.vertices under.road.weights) c.args.sources.now) (sym c.deref.ensures.value) c.in_ok-starts.ensures)
     (subst (AllZip (AreTargetsTo under.frame.graph.vertices under.road.weights) c.args.destinations.now) (sym c.deref-2.ensures.value) c.in_ok-targets.ensures)
     c.in_ok-rows.ensures

@@ -2,7 +2,7 @@ use Rattle.std.proofs.Common.{◌≡◌, ◌∙◌, sym, ap}
 use Rattle.std.proofs.lemmas.List.Elements.{All-weaker}
 use mathlib.Core.List.{IsPrefix}
 use Rattle.customized.specs.Exact.{Customized, ShareRoads}
-use Rattle.door_service.specs.Serving.{Answered, AnsweredUnder}
+use Rattle.door_workers.specs.Serving.{Answered, AnsweredUnder}
 use Rattle.edge_graph.specs.NetworkView.{NetworkView}
 use Rattle.metric_publish.specs.History.{IsKin}
 use Rattle.snap_index.specs.Ends.{all_ends}

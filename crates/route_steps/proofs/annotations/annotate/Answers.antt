@@ -4,7 +4,7 @@ use Rattle.search_graph.specs.Faults.{AllInRange}
 use Rattle.search_graph.specs.declared.costs.DurLen.{DurLen}
 use Rattle.road_places.specs.Paid.{AddUpTo}
 use Rattle.road_places.specs.PaidLaws.{permitted_adds_up}
-use Rattle.road_places.specs.RoadMetric.{RoadMetric, road_of}
+use Rattle.metric_make.specs.RoadMetric.{RoadMetric, road_of}
 use Rattle.route_steps.specs.WalkLaws.{vertices_of-walk}
 use Rattle.route_steps.proofs.annotations.annotate.Goals as goal
 

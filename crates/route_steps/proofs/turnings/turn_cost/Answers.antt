@@ -1,5 +1,5 @@
 use Rattle.std.proofs.Common.{sym}
-use Rattle.road_places.specs.RoadMetric.{road_of}
+use Rattle.metric_make.specs.RoadMetric.{road_of}
 use Rattle.route_steps.specs.TurnLaws.{turn_paid-costing}
 use Rattle.route_steps.proofs.turnings.turn_cost.Goals as goal
 

@@ -2,7 +2,7 @@ use Rattle.std.proofs.Common.{◌+◌, ◌∙◌, [], ap, arith, get_or, map}
 use Rattle.std.proofs.lemmas.List.{take_all}
 use Rattle.list_lemmas.proofs.Fronts.{all_zip-second}
 use Rattle.road_places.specs.Paid.{IsTurnCosting, steps_of}
-use Rattle.road_places.specs.RoadMetric.{road_of}
+use Rattle.metric_make.specs.RoadMetric.{road_of}
 use Rattle.route_steps.specs.Turnings.{turn_paid}
 use Rattle.route_steps.specs.TurnLaws.{length-steps_of}
 use Rattle.route_steps.proofs.ListLemmas.{map-more, steps_of-at}

@@ -1,6 +1,6 @@
 use Rattle.std.proofs.Common.{◌≡◌, map, take}
 use Rattle.road_places.specs.Paid.{steps_of}
-use Rattle.road_places.specs.RoadMetric.{road_of}
+use Rattle.metric_make.specs.RoadMetric.{road_of}
 use Rattle.route_steps.specs.Turnings.{turn_paid}
 use Rattle.route_steps.proofs.turnings.turns_paid.Given as goal
 

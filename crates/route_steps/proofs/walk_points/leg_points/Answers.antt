@@ -3,7 +3,7 @@ use Rattle.std.specs.List.{filter_map}
 use Rattle.std.proofs.lemmas.List.Elements.{All-take}
 use Rattle.search_graph.specs.Digraph.{Digraph}
 use Rattle.search_graph.specs.Faults.{AllInRange}
-use Rattle.road_places.specs.RoadMetric.{RoadMetric}
+use Rattle.metric_make.specs.RoadMetric.{RoadMetric}
 use Rattle.route_steps.specs.Points.{end_of, point_on}
 use Rattle.route_steps.proofs.PointLemmas.{point_on-told, points-pushed}
 use Rattle.route_steps.specs.WalkLaws.{vertices_of-walk}

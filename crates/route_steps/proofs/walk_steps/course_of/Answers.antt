@@ -2,7 +2,7 @@ use Rattle.std.proofs.Common.{◌*◌, length, subst, ◌∙◌}
 use Rattle.search_graph.specs.Digraph.{Digraph}
 use Rattle.search_graph.specs.Faults.{AllInRange}
 use Rattle.road_places.specs.PaidLaws.{permitted_adds_up}
-use Rattle.road_places.specs.RoadMetric.{RoadMetric, road_of}
+use Rattle.metric_make.specs.RoadMetric.{RoadMetric, road_of}
 use Rattle.route_steps.specs.Points.{points_along}
 use Rattle.road_places.specs.Paid.{paid_along}
 use Rattle.route_steps.specs.Turnings.{turns_paid}

@@ -2,7 +2,7 @@ use Rattle.std.proofs.Common.{◌-◌, ◌*◌, ◌<◌, List, ap, arith, length
 use Rattle.std.specs.Prelude.{slice_index}
 use Rattle.search_graph.specs.Digraph.{Digraph}
 use Rattle.search_graph.specs.Faults.{AllInRange}
-use Rattle.road_places.specs.RoadMetric.{RoadMetric, road_of}
+use Rattle.metric_make.specs.RoadMetric.{RoadMetric, road_of}
 use Rattle.route_steps.specs.StepSums.{AddUp, IsLineCut}
 use Rattle.route_steps.specs.Steps.{AreAhead, arrival_at, pieces}
 use Rattle.route_steps.specs.declared.begins.Begin.{Begin}

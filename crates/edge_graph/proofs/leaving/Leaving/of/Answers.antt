@@ -4,10 +4,10 @@ use Rattle.std.proofs.lemmas.Int.{to_z-of_z}
 use Rattle.list_lemmas.proofs.Gets.{get_some}
 use Rattle.edge_graph.specs.Leaving.{leaving_at}
 use Rattle.edge_graph.specs.RestrictionParts.{has_via}
-use Rattle.edge_graph.specs.Vertex.{vertices}
+use Rattle.road_segments.specs.Vertex.{vertices}
 use Rattle.edge_graph.proofs.FanLemmas.{field-at}
 use Rattle.edge_graph.proofs.LeavingLemmas.{exits-added, exits-all, exits-closed, exits-unruled}
-use Rattle.edge_graph.specs.Laws.{length-vertices}
+use Rattle.road_segments.specs.Laws.{length-vertices}
 use Rattle.edge_graph.proofs.leaving.Leaving.of.Goals.{then-permitted+then-any_at+in_ok-add, then-permitted+else-any_at, else-permitted}
 use Rattle.edge_graph.proofs.leaving.Leaving.of.Goals as goal
 

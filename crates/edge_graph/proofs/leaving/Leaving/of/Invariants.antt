@@ -2,7 +2,7 @@ use Rattle.std.proofs.Common.{◌≡◌, ℤ, ◌++◌, true, map}
 use Rattle.edge_graph.specs.Fans.{leavers}
 use Rattle.edge_graph.specs.Leaving.{AreGroups, leaving_at}
 use Rattle.edge_graph.specs.RestrictionParts.{has_via}
-use Rattle.edge_graph.specs.Vertex.{vertices}
+use Rattle.road_segments.specs.Vertex.{vertices}
 use Rattle.edge_graph.proofs.leaving.Leaving.of.Given as goal
 
 -- the vertices from number v on are still to be added

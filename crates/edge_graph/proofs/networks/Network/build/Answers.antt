@@ -1,10 +1,10 @@
 use Rattle.std.proofs.Common.{ℕ, ◌*◌, List, length, All, arith, sym, ap, subst, ◌∙◌}
 use Rattle.search_graph.specs.Faults.{AllInRange}
 use Rattle.way_profile.specs.Vehicle.{IsSpeed}
-use Rattle.edge_graph.specs.Segment.{Segment}
+use Rattle.road_segments.specs.Segment.{Segment}
 use Rattle.edge_graph.specs.Turn.{IsSimple}
 use Rattle.edge_graph.specs.TurnLaws.{turns-simple}
-use Rattle.edge_graph.specs.Vertex.{vertices}
+use Rattle.road_segments.specs.Vertex.{vertices}
 use Rattle.edge_graph.proofs.NetworkLemmas.{network-is}
 use Rattle.edge_graph.proofs.RangeLemmas.{turns-in_range}
 use Rattle.edge_graph.proofs.networks.Network.build.Goals as goal
@@ -22,8 +22,11 @@ invariant_of-result c =
       few_turns = omega (arith, ap length arcs, c.in_ok-turns.ensures.few);
       speeds = subst (λ (l : List Segment). All (λ s. IsSpeed s.street.speed) l) (sym c.in_ok-roads.ensures.ok) c.in_ok-roads.ensures.speeds;
       exits = c.in_ok-exits.ensures.counts;
+      departures = c.in_ok-departures.ensures;
       vertices = c.in-Ok.ensures.vertices;
       simple = subst (λ (l : List (ℕ × ℕ)). IsSimple l) (sym arcs) (turns-simple (vertices c.in_ok-roads.roads) c.in_ok-restrictions.restrictions.kept);
+      in_range =
+          subst (λ (l : List (ℕ × ℕ)). AllInRange (2 * length c.in_ok-roads.roads) l) (sym arcs) (turns-in_range c.in_ok-roads.roads c.in_ok-restrictions.restrictions.kept);
     }
 
 pub returns-clause-ok : goal.returns-clause-ok

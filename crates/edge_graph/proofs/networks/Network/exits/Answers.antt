@@ -1,10 +1,10 @@
 use Rattle.std.proofs.Common.{◌≡◌, List, ◌<◌, length, arith, sym, ap, ◌∙◌}
 use Rattle.list_lemmas.proofs.Gets.{get_is}
 use Rattle.edge_graph.specs.NetworkView.{NetworkView}
-use Rattle.edge_graph.specs.Segment.{Segment}
+use Rattle.road_segments.specs.Segment.{Segment}
 use Rattle.edge_graph.specs.Turn.{exits}
-use Rattle.edge_graph.specs.Vertex.{vertices}
-use Rattle.edge_graph.specs.Laws.{length-vertices}
+use Rattle.road_segments.specs.Vertex.{vertices}
+use Rattle.road_segments.specs.Laws.{length-vertices}
 use Rattle.edge_graph.proofs.networks.Network.exits.Goals as goal
 
 pub index-requires : goal.index-requires

@@ -1,4 +1,4 @@
-use Rattle.edge_graph.proofs.VertexLemmas.{speed-in_range}
+use Rattle.edge_graph.proofs.NetworkLemmas.{speed-in_range}
 use Rattle.edge_graph.proofs.networks.Network.speed.Goals as goal
 
 pub returns-clause-in_range : goal.returns-clause-in_range

@@ -1,9 +1,0 @@
-use Rattle.std.proofs.Common.{◌∙◌, ap, Some, refl}
-use Rattle.edge_graph.specs.declared.streets.Street.{Street}
-use Rattle.edge_graph.proofs.VertexLemmas.{either-read, street-read}
-use Rattle.edge_graph.proofs.roads.Roads.speed.Goals as goal
-
-pub returns : goal.returns
-returns c =
-    either-read (λ x. x.speed) _ _ _ _ _ c.self.view_is c.requires c.index.ensures refl
-    ∙ ap (λ (s : Street). Some s.speed) (street-read _ _ _ _ _ _ c.self.view_is c.requires c.self.invariant c.index.ensures c.index-2.ensures)

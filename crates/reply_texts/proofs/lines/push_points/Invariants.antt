@@ -1,8 +1,0 @@
-use Rattle.std.proofs.Common.{◌≡◌}
-use Rattle.reply_texts.specs.Lines.{point_value}
-use Rattle.reply_texts.proofs.Items.{so_far}
-use Rattle.reply_texts.proofs.lines.push_points.Given as goal
-
--- what is written so far
-abbrev pub invariant-loop-point : goal.invariant-loop-point
-invariant-loop-point l = l.json ≡ so_far point_value l.points l.fn.json l.point-index

@@ -1,0 +1,44 @@
+use Rattle.std.proofs.Common.{◌≡◌, ℕ, ◌<◌, ap, arith, get_or, length, sym, ◌∙◌}
+use Rattle.std.specs.List.{enumerate_from, zip}
+use Rattle.std.proofs.lemmas.List.FromFn.{length-enumerate_from}
+use Rattle.std.proofs.lemmas.Option.{get_or_from_slice_get, slice_get-get_or}
+use Rattle.std.proofs.lemmas.Slice.Zip.{length-zip}
+use Rattle.road_base.specs.declared.coordinates.Point.{Point}
+use Rattle.road_base.specs.declared.segments.Place.{Place}
+use Rattle.json_text.specs.Drafts.{with_value}
+use Rattle.json_text.specs.Items.{all_written, may_come, may_end, one_more}
+use Rattle.reply_texts.specs.Waypoints.{trip_waypoint_of}
+use Rattle.reply_texts.proofs.WaypointLemmas.{numbered-at, pair-at}
+use Rattle.reply_texts.proofs.trip_waypoints.push_trip_waypoints.Goals as goal
+
+pub push_trip_waypoint-requires-clause-takes : goal.push_trip_waypoint-requires-clause-takes
+push_trip_waypoint-requires-clause-takes c =
+    may_come (trip_waypoint_of c.args.network.now.segments c.args.order.now) (enumerate_from 0 (zip c.args.coordinates.now c.args.places.now)) c.args.json.now c.loop-number.number c.loop-number.json c.loop-number.invariant
+
+-- one more
+pub loop-number-preserved : goal.loop-number-preserved
+loop-number-preserved c =
+    let coordinates = c.args.coordinates.now in
+    let places = c.args.places.now in
+    let told = trip_waypoint_of c.args.network.now.segments c.args.order.now in
+    let k = c.loop-number.number in
+    let coordinate = c.index-coordinates-number.result in
+    let nowhere : Place = record { segment = 0; at = 0 } in
+    let place = get_or places k nowhere in
+    let inside : k < length places = omega arith in
+    let same : place ≡ get_or places k place = sym (get_or_from_slice_get places k place place (slice_get-get_or places k nowhere inside)) in
+    let pair = pair-at coordinates places k coordinate place c.index-coordinates-number.is same (omega arith) inside in
+    let item = numbered-at (zip coordinates places) k (coordinate, place) pair (omega (arith, length-zip coordinates places)) in
+    one_more told (enumerate_from 0 (zip coordinates places)) c.args.json.now k (k, (coordinate, place)) c.loop-number.json _ (omega (arith, length-zip coordinates places, length-enumerate_from 0 (zip coordinates places))) c.loop-number.invariant
+    (c.in_ok-push_trip_waypoint.ensures ∙ ap (λ (x : ℕ × (Point × Place)). with_value (told x) c.loop-number.json) (sym item))
+
+pub end_list-requires : goal.end_list-requires
+end_list-requires c =
+    may_end (trip_waypoint_of c.args.network.now.segments c.args.order.now) (enumerate_from 0 (zip c.args.coordinates.now c.args.places.now)) c.args.json.now c.loop-number.number c.loop-number.json c.loop-number.invariant
+
+-- all of them
+pub returns : goal.returns
+returns c =
+    let pairs = zip c.args.coordinates.now c.args.places.now in
+    all_written (trip_waypoint_of c.args.network.now.segments c.args.order.now) (enumerate_from 0 pairs) c.args.json.now c.loop-number.number c.loop-number.json _
+    (omega (arith, length-zip c.args.coordinates.now c.args.places.now, length-enumerate_from 0 pairs)) c.loop-number.invariant c.in_ok-end_list.ensures.ok

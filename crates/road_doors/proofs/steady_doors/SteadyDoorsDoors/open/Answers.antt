@@ -1,9 +1,0 @@
-use Rattle.road_io.specs.DoorOpening.{asked}
-use Rattle.road_doors.proofs.SteadyLaws.{opens}
-use Rattle.road_doors.proofs.steady_doors.SteadyDoorsDoors.open.Goals as goal
-
-pub returns-in-Ok : goal.returns-in-Ok
-returns-in-Ok g c = record {
-  gives = opens c.args.self.now c.give.new.self c.in-Ok.opened.queries.items c.in-Ok.opened.control (asked c.args.query.now c.args.control.now c.args.workers)
-      c.in-Ok.ensures.count c.in-Ok.ensures.queries c.in-Ok.ensures.control c.in-Ok.ensures.out;
-}

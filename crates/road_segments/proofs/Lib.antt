@@ -1,0 +1,6 @@
+pub mod SegmentLemmas
+pub mod VertexLemmas
+pub mod WayLemmas
+pub mod RouteLemmas
+pub mod RoadLemmas
+mod Drops

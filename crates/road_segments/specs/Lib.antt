@@ -1,0 +1,9 @@
+pub mod Spots
+pub mod Segment
+pub mod Vertex
+pub mod Located
+pub mod Rows
+pub mod Laws
+pub mod RoadCause
+pub mod Limits
+pub mod LimitLaws

@@ -1,0 +1,48 @@
+use Rattle.std.proofs.Common.{◌<◌, ◌∙◌, length, ap, subst, sym}
+use Rattle.search_graph.specs.declared.costs.DurLen.{DurLen}
+use Rattle.search_graph.specs.Digraph.{Digraph, Weighting}
+use Rattle.search_graph.specs.Durations.{durlen_ops}
+use Rattle.search_graph.specs.Weighted.{AreSmall}
+use Rattle.cell_frame.specs.Borders.{Framed}
+use Rattle.cell_frame.specs.Cliqued.{AreExact}
+use Rattle.edge_graph.specs.NetworkView.{graph_of}
+use Rattle.table_query.specs.Tables.{IsTable}
+use Rattle.road_walks.proofs.tables.over_graph.Goals as goal
+
+-- the costs are small for the frame's graph, which is the network's
+pub table-requires-clause-weights : goal.table-requires-clause-weights
+table-requires-clause-weights g c κs within =
+    let graph = ap (λ (f : Framed). f.graph) c.frame-frame.ensures.value ∙ c.frame-frame.ensures.graph in
+    let weights = c.weights.ensures.value ∙ c.base-base.ensures.value in
+    subst (λ (g : Digraph). AreSmall durlen_ops g c.weights.result.now) (sym graph)
+    (subst (λ (w : Weighting DurLen). AreSmall durlen_ops (graph_of c.args.under.now.road.network) w) (sym weights) c.base-base.ensures.small)
+
+-- the cliques are exact for just these costs
+pub table-requires-clause-cliques : goal.table-requires-clause-cliques
+table-requires-clause-cliques g c κs within =
+    let cliques = c.cliques-cliques.result.now in
+    let weights = c.weights.ensures.value ∙ c.base-base.ensures.value in
+    subst (λ (f : Framed). AreExact durlen_ops f c.weights.result.now cliques (length f.cells.levels)) (sym c.frame-frame.ensures.value)
+    (subst (λ (w : Weighting DurLen). AreExact durlen_ops c.args.under.now.frame w cliques (length c.args.under.now.frame.cells.levels)) (sym weights) c.cliques-cliques.ensures)
+
+-- starts and targets are the frame's vertices
+pub table-requires-clause-sources : goal.table-requires-clause-sources
+table-requires-clause-sources g c κs within = λ list s h i.
+    let fits = c.requires.sources list s h i in
+    (subst (λ (f : Framed). s.vertex < f.graph.vertices) (sym c.frame-frame.ensures.value) fits.0, fits.1)
+
+pub table-requires-clause-targets : goal.table-requires-clause-targets
+table-requires-clause-targets g c κs within = λ list t h i.
+    let fits = c.requires.targets list t h i in
+    (subst (λ (f : Framed). t.vertex < f.graph.vertices) (sym c.frame-frame.ensures.value) fits.0, fits.1)
+
+-- the frame's graph is the network's
+pub returns-in-Ok : goal.returns-in-Ok
+returns-in-Ok g c =
+    let road = c.args.under.now.road in
+    let graph = ap (λ (f : Framed). f.graph) c.frame-frame.ensures.value ∙ c.frame-frame.ensures.graph in
+    let weights = c.weights.ensures.value ∙ c.base-base.ensures.value in
+    let sources = c.args.sources.now in
+    let targets = c.args.targets.now in
+    subst (λ (g : Digraph). IsTable durlen_ops g road.weights sources targets c.in-Ok.rows.items) graph
+    (subst (λ (w : Weighting DurLen). IsTable durlen_ops c.frame-frame.result.now.graph w sources targets c.in-Ok.rows.items) weights c.in-Ok.ensures)

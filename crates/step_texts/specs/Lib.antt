@@ -1,0 +1,4 @@
+pub mod Totals
+pub mod Lines
+pub mod Intersections
+pub mod Steps

@@ -1,6 +1,0 @@
-use Rattle.weight_changes.proofs.ChangeLemmas.{AreChangesBelow}
-use Rattle.weight_changes.proofs.changes.changed_vertices.Given as goal
-
--- the places so far where the two differ
-abbrev pub invariant-loop-v : goal.invariant-loop-v
-invariant-loop-v g l = AreChangesBelow l.old.vertex l.new.vertex l.places.items l.v
