@@ -123,8 +123,10 @@ fn waypoint(json: &mut Json, distance: u128, name: &str, p: Point) -> Result<(),
     ensures { OnOk result (json.new ≡ with_value (object_of ((codes "distance", tenths distance) ∷ (codes "name", text name.now) ∷ (codes "location", location p.lon p.lat) ∷ [])) json.old) }
 {
     json.begin_object()?;
-    json.tenths_member("distance", distance)?;
-    json.text_member("name", name)?;
+    json.key("distance")?;
+    json.tenths(distance)?;
+    json.key("name")?;
+    json.text(name)?;
     json.key("location")?;
     json.degrees(p)?;
     json.end_object()?;
