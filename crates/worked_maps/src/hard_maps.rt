@@ -79,9 +79,10 @@ fn star(alloc: Global) -> Result<String, AllocError> {
 // The numbers 1, 3, 5 and so on of its streets back from the middle.
 fn rays(alloc: Global) -> Result<String, AllocError> {
     let mut text = String::new(alloc);
-    for street in 0..1000 {
-        let v = 2 * street + 1;
-        text.push_str(format!(in alloc; "{v} ")?.as_str())?;
+    for v in 1..2000 {
+        if v % 2 == 1 {
+            text.push_str(format!(in alloc; "{v} ")?.as_str())?;
+        }
     }
     Ok(text)
 }
