@@ -3,3 +3,4 @@ pub mod Points
 pub mod StatusCode
 pub mod TagBytes
 pub mod TagValue
+pub mod Words

@@ -13,6 +13,7 @@ mod program_status;
 mod segments;
 mod tag_lists;
 mod texts;
+mod word_lists;
 
 pub use coordinates::Point;
 pub use directions::Modifier;
@@ -23,3 +24,4 @@ pub use program_status::Status;
 pub use segments::Place;
 pub use tag_lists::Tags;
 pub use texts::Text;
+pub use word_lists::Words;

@@ -1,65 +1,63 @@
 -- The entries of a table's map beside the members that it stands for.
-use Rattle.std.proofs.Common.{◌≡◌, ℕ, Bool, true, false, not, cond, List, [], ◌∷◌, map, Option, Some, None, option_map, String, Global, string_bytes, refl, ap, ◌∙◌, ◌*◌, ◌&&◌, nat_le, pos, negsuc, arith, All, Ordering, Less, Equal, Greater, nat_cmp}
+use Rattle.std.proofs.Common.{◌≡◌, ℕ, Bool, true, false, not, cond, List, [], ◌∷◌, map, Option, Some, None, Result, Ok, Err, option_map, String, Global, string_bytes, refl, ap, ◌*◌, ◌&&◌, nat_le, pos, negsuc, arith, All, Ordering, Less, Equal, Greater, nat_cmp}
+use Rattle.std.proofs.lemmas.Bool.Decides.{nat_tests}
 use Rattle.std.proofs.lemmas.List.Elements.{All-nil, All-cons}
 use Rattle.std.specs.Cmp.Lexicographic.{slice_cmp}
 use Rattle.std.specs.Option.{option_map_or}
 use Rattle.std.specs.Ordering.{match_ordering}
-use Rattle.way_profile.specs.Vehicle.{IsSpeed}
-use Rattle.way_profile.specs.Words.{is_among}
-use Rattle.std.specs.Prelude.{find}
-use Rattle.std.specs.Map.{keys_of}
+use Rattle.std.specs.Prelude.{find, IfOk}
 use Rattle.toml.specs.declared.value.Value.{Value}
-use Rattle.std.proofs.lemmas.Bool.Decides.{nat_tests}
 use Rattle.toml.specs.Data.{Data, string, integer, float, boolean, datetime, array, table, Members, no_members, member, get_member}
 use Rattle.toml.specs.View.{view, members_view}
-use Rattle.way_profile.specs.Settings.{entries_of, key_beside, bad_at, bad_entry, is_speed, is_between, number_in, speeds_of}
+use Rattle.vehicle_settings.specs.Settings.{is_factor, is_speed}
+use Rattle.vehicle_settings.specs.SettingsData.{bad_at, bad_entry, entries_of, is_between}
+use Rattle.way_profile.specs.SettingsValues.{classes_of_table, number_in, scaled_numbers, tag_of, texts_in}
+use Rattle.way_profile.specs.Vehicle.{IsFactor, IsSpeed}
 
 abbrev pub Entry : Type 0
 Entry = String Global × Value
-
-found : {A B : Type 0} (f : A → B) (b : Bool) (x : A) (rest : Option A) (more : Option B) → option_map f rest ≡ more → option_map f (cond b (Some x) rest) ≡ cond b (Some (f x)) more
-found f true x rest more h = refl
-found f false x rest more h = h
-
--- the first key that is none of these, read from the map or from the members
-pub key_beside-entries : (known : List (List ℕ)) (es : List Entry) → option_map (λ k. string_bytes k) (find (λ k. not (is_among known (string_bytes k))) (keys_of es)) ≡ key_beside known (members_view es)
-key_beside-entries known [] = refl
-key_beside-entries known (e ∷ es) = found (λ k. string_bytes k) (not (is_among known (string_bytes e.0))) e.0 _ _ (key_beside-entries known es)
-
--- the first key whose value fails a test, read from the map or from the members
-pub bad_entry-entries : (test : Data → Bool) (es : List Entry) → option_map (λ e. string_bytes e.0) (find (λ e. not (test (view e.1))) es) ≡ bad_entry test (members_view es)
-bad_entry-entries test [] = refl
-bad_entry-entries test (e ∷ es) = bad_at_first (not (test (view e.1))) e es (bad_entry-entries test es)
-  where
-    bad_at_first : (b : Bool) (e : Entry) (es : List Entry) → option_map (λ e. string_bytes e.0) (find (λ e. not (test (view e.1))) es) ≡ bad_entry test (members_view es)
-        → option_map (λ (e : Entry). string_bytes e.0) (cond b (Some e) (find (λ e. not (test (view e.1))) es))
-        ≡ option_map (λ (e : List ℕ × Data). e.0) (cond b (Some (string_bytes e.0, view e.1)) (find (λ e. not (test e.1)) (entries_of (members_view es))))
-    bad_at_first true e es h = refl
-    bad_at_first false e es h = h
 
 none_from : {A B : Type 0} (f : A → B) (o : Option A) → option_map f o ≡ None → o ≡ None
 none_from f None h = refl
 none_from f (Some x) h = cc
 
--- where no member fails a test, no entry does
-pub no_bad_entry : (test : Data → Bool) (es : List Entry) → bad_entry test (members_view es) ≡ None → find (λ e. not (test (view e.1))) es ≡ None
-no_bad_entry test es h = none_from (λ e. string_bytes e.0) _ (bad_entry-entries test es ∙ h)
-
--- an entry as the profile keeps it
-abbrev pub speed_entry : Entry → List ℕ × ℕ
-speed_entry e = (string_bytes e.0, number_in (view e.1) * 1000)
-
-pub speeds_of-entries : (es : List Entry) → map speed_entry es ≡ speeds_of (members_view es)
-speeds_of-entries [] = refl
-speeds_of-entries (e ∷ es) = ap (λ more. speed_entry e ∷ more) (speeds_of-entries es)
-
 first_good : {A : Type 0} (b : Bool) (e : A) (rest : Option A) → cond (not b) (Some e) rest ≡ None → (b ≡ true) × (rest ≡ None)
 first_good true e rest h = (refl, h)
 first_good false e rest h = cc
 
+still_none : {A : Type 0} (b : Bool) (e : A) (rest : Option A) → b ≡ true → rest ≡ None → cond (not b) (Some e) rest ≡ None
+still_none true e rest here there = there
+still_none false e rest here there = cc
+
+-- where no member fails a test, no entry does
+each_good : (test : Data → Bool) (es : List Entry) → find (λ e. not (test e.1)) (entries_of (members_view es)) ≡ None → find (λ e. not (test (view e.1))) es ≡ None
+each_good test [] h = refl
+each_good test (e ∷ es) h =
+    let (here, more) = first_good (test (view e.1)) (string_bytes e.0, view e.1) _ h in
+    still_none (test (view e.1)) e _ here (each_good test es more)
+
+pub no_bad_entry : (test : Data → Bool) (es : List Entry) → bad_entry test (members_view es) ≡ None → find (λ e. not (test (view e.1))) es ≡ None
+no_bad_entry test es h = each_good test es (none_from (λ e. e.0) _ h)
+
 -- the first entry is good, and so are the others
 pub good_entries : (test : Data → Bool) (e : Entry) (es : List Entry) → find (λ e. not (test (view e.1))) (e ∷ es) ≡ None → (test (view e.1) ≡ true) × (find (λ e. not (test (view e.1))) es ≡ None)
 good_entries test e es h = first_good (test (view e.1)) e _ h
+
+-- an entry with so many times its number
+abbrev pub scaled_entry : ℕ → Entry → List ℕ × ℕ
+scaled_entry scale e = (string_bytes e.0, number_in (view e.1) * scale)
+
+pub scaled_numbers-entries : (scale : ℕ) (es : List Entry) → map (scaled_entry scale) es ≡ scaled_numbers scale (members_view es)
+scaled_numbers-entries scale [] = refl
+scaled_numbers-entries scale (e ∷ es) = ap (λ more. scaled_entry scale e ∷ more) (scaled_numbers-entries scale es)
+
+-- a class as the profile keeps it
+abbrev pub class_entry : Entry → List ℕ × List (List ℕ × List ℕ)
+class_entry e = (string_bytes e.0, map tag_of (texts_in (view e.1)))
+
+pub classes_of_table-entries : (es : List Entry) → map class_entry es ≡ classes_of_table (members_view es)
+classes_of_table-entries [] = refl
+classes_of_table-entries (e ∷ es) = ap (λ more. class_entry e ∷ more) (classes_of_table-entries es)
 
 found_good : (o : Ordering) (test : Data → Bool) (d : Data) (more : Option Data) → test d ≡ true → option_map_or test more true ≡ true → option_map_or test (match_ordering o more (Some d) more) true ≡ true
 found_good Less test d more here there = there
@@ -79,37 +77,49 @@ no_bad_member test key ms h = ap (λ (b : Bool). cond b None (Some key)) (good_m
 within : (n : ℕ) → nat_le 1 n && nat_le n 1000 ≡ true → nat_le 0 n && nat_le n 1000000 ≡ true
 within n h = grind (arith, nat_tests)
 
--- a speed is a number within a million
-pub speed_is_number : (d : Data) → is_speed d ≡ true → is_between 0 1000000 d ≡ true
-speed_is_number (integer (pos n)) h = within n h
-speed_is_number (integer (negsuc n)) h = h
-speed_is_number (string s) h = h
-speed_is_number (float x) h = h
-speed_is_number (boolean b) h = h
-speed_is_number (datetime t) h = h
-speed_is_number (array ds) h = h
-speed_is_number (table ms) h = h
+-- a number up to a thousand is one up to a million
+pub thousand_in_million : (d : Data) → is_between 1 1000 d ≡ true → is_between 0 1000000 d ≡ true
+thousand_in_million (integer (pos n)) h = within n h
+thousand_in_million (integer (negsuc n)) h = h
+thousand_in_million (string s) h = h
+thousand_in_million (float x) h = h
+thousand_in_million (boolean b) h = h
+thousand_in_million (datetime t) h = h
+thousand_in_million (array ds) h = h
+thousand_in_million (table ms) h = h
 
-in_thousandths : (n : ℕ) → nat_le 1 n && nat_le n 1000 ≡ true → IsSpeed (n * 1000)
-in_thousandths n h = record { least = grind (arith, nat_tests); greatest = grind (arith, nat_tests) }
+-- what holds of each scaled number of the range holds of those of a table with no bad entry
+module _ (scale : ℕ) (P : ℕ → Type 0) (each : (n : ℕ) → nat_le 1 n && nat_le n 1000 ≡ true → P (n * scale)) where
+  one : (d : Data) → is_between 1 1000 d ≡ true → P (number_in d * scale)
+  one (integer (pos n)) h = each n h
+  one (integer (negsuc n)) h = cc
+  one (string s) h = cc
+  one (float x) h = cc
+  one (boolean b) h = cc
+  one (datetime t) h = cc
+  one (array ds) h = cc
+  one (table ms) h = cc
 
--- where no member is bad, the speeds are in range
-speed_in_range : (d : Data) → is_speed d ≡ true → IsSpeed (number_in d * 1000)
-speed_in_range (integer (pos n)) h = in_thousandths n h
-speed_in_range (integer (negsuc n)) h = cc
-speed_in_range (string s) h = cc
-speed_in_range (float x) h = cc
-speed_in_range (boolean b) h = cc
-speed_in_range (datetime t) h = cc
-speed_in_range (array ds) h = cc
-speed_in_range (table ms) h = cc
+  all : (ms : Members) → find (λ e. not (is_between 1 1000 e.1)) (entries_of ms) ≡ None → All (λ e. P e.1) (scaled_numbers scale ms)
+  all no_members h = All-nil (λ e. P e.1)
+  all (member key d ms) h =
+      let (here, more) = first_good (is_between 1 1000 d) (key, d) _ h in
+      All-cons (λ e. P e.1) (key, number_in d * scale) (scaled_numbers scale ms) (one d here) (all ms more)
 
-pub speeds_in_range : (es : List Entry) → find (λ e. not (is_speed (view e.1))) es ≡ None → All (λ e. IsSpeed e.1) (map speed_entry es)
-speeds_in_range [] h = All-nil (λ e. IsSpeed e.1)
-speeds_in_range (e ∷ es) h =
-    let (here, more) = good_entries is_speed e es h in
-    All-cons (λ e. IsSpeed e.1) (speed_entry e) (map speed_entry es) (speed_in_range (view e.1) here) (speeds_in_range es more)
+speed_of_km : (n : ℕ) → nat_le 1 n && nat_le n 1000 ≡ true → IsSpeed (n * 1000)
+speed_of_km n h = record { least = grind (arith, nat_tests); greatest = grind (arith, nat_tests) }
 
--- an entry with a bad value is found first
-pub first_is_bad : (test : Data → Bool) (e : Entry) (es : List Entry) → test (view e.1) ≡ false → find (λ e. not (test (view e.1))) (e ∷ es) ≡ Some e
-first_is_bad test e es h = ap (λ (b : Bool). cond (not b) (Some e) (find (λ e. not (test (view e.1))) es)) h
+factor_of_thousandths : (n : ℕ) → nat_le 1 n && nat_le n 1000 ≡ true → IsFactor (n * 1)
+factor_of_thousandths n h = record { least = grind (arith, nat_tests); greatest = grind (arith, nat_tests) }
+
+-- where no member is bad, the speeds and the factors are in range
+pub speeds_in_range : (ms : Members) → bad_entry is_speed ms ≡ None → All (λ e. IsSpeed e.1) (scaled_numbers 1000 ms)
+speeds_in_range ms h = all 1000 IsSpeed speed_of_km ms (none_from (λ e. e.0) _ h)
+
+pub factors_in_range : (ms : Members) → bad_entry is_factor ms ≡ None → All (λ e. IsFactor e.1) (scaled_numbers 1 ms)
+factors_in_range ms h = all 1 IsFactor factor_of_thousandths ms (none_from (λ e. e.0) _ h)
+
+-- what follows of each good value follows of the value of a result
+pub IfOk-weaker : {T E : Type 0} (r : Result T E) (P Q : T → Type 0) → ((x : T) → P x → Q x) → IfOk r P → IfOk r Q
+IfOk-weaker (Ok x) P Q f h = f x h
+IfOk-weaker (Err e) P Q f h = tt

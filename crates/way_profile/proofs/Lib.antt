@@ -1,6 +1,4 @@
 pub mod Entries
-pub mod Firsts
-pub mod Groups
+pub mod Limits
 pub mod Lists
-pub mod Speeds
-pub mod Trees
+pub mod Numbers

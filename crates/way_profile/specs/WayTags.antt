@@ -1,16 +1,19 @@
--- What the tags of a way say of its directions and of who may enter, and the speed of a kind of way
--- (OpenStreetMap's `highway`, `oneway`, `junction` and access keys; which values count is this project's
--- rule).
+-- What the tags of a way say of its directions and of who may enter, and the number of a value of `highway`
+-- or `surface` (OpenStreetMap's keys, and its access keys; which values count is this project's rule).
 use Rattle.std.specs.Prelude.{ℕ, Bool, false, not, ◌&&◌, ◌||◌, List, [], ◌∷◌, codes, Option, Some, None, bytes_eq, if◌then◌else◌}
 use Rattle.std.specs.List.{filter_map}
 use Rattle.std.specs.Option.{option_map_or, option_and_then}
 use Rattle.road_base.specs.TagValue.{value_of}
-use Rattle.way_profile.specs.Words.{is_among}
+use Rattle.road_base.specs.Words.{is_among}
 
--- the speed of a value of `highway`, None where the vehicle may not use such a way
-abbrev pub speed_of : List (List ℕ × ℕ) → List ℕ → Option ℕ
-speed_of [] highway = None
-speed_of (e ∷ more) highway = if bytes_eq e.0 highway then Some e.1 else speed_of more highway
+-- the number that a word has, None where it has none
+abbrev pub number_of : List (List ℕ × ℕ) → List ℕ → Option ℕ
+number_of [] word = None
+number_of (e ∷ more) word = if bytes_eq e.0 word then Some e.1 else number_of more word
+
+-- the number that the value at a key has
+abbrev pub number_by : List ℕ → List (List ℕ × ℕ) → List (List ℕ × List ℕ) → Option ℕ
+number_by key numbers tags = option_and_then (λ value. number_of numbers value) (value_of tags key)
 
 -- the value at the key is one of these words
 abbrev pub says : List (List ℕ × List ℕ) → List ℕ → List (List ℕ) → Bool
@@ -46,7 +49,3 @@ values_at tags keys = filter_map (λ key. value_of tags key) keys
 abbrev pub is_denied : List (List ℕ) → List (List ℕ) → Bool
 is_denied denied [] = false
 is_denied denied (value ∷ _) = is_among denied value
-
--- the speed on a way of this kind, None where the vehicle has none
-abbrev pub speed_on : List (List ℕ × ℕ) → List (List ℕ × List ℕ) → Option ℕ
-speed_on speeds tags = option_and_then (λ highway. speed_of speeds highway) (value_of tags (codes "highway"))

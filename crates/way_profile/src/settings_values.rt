@@ -1,18 +1,20 @@
 //! The values of a table of settings with no fault.
 
-ghost use Rattle.std.specs.Prelude.{◌≡◌, ◌≤◌, ◌*◌, true, false, None, IfOk, map, codes, All};
+ghost use Rattle.std.specs.Prelude.{◌≡◌, ◌≤◌, true, false, None, IfOk, map, codes, All};
 ghost use Rattle.std.specs.Option.{option_map_or};
 ghost use Rattle.toml.specs.Data.{get_member};
 ghost use Rattle.toml.specs.View.{table_view, view};
 ghost use Rattle.road_base.specs.declared.directions.Modifier.{Modifier};
-ghost use Rattle.way_profile.specs.Settings.{is_between, is_speed, is_penalty, bad_entry, bad_inside, bad_at, text_at, text_in, texts_at, texts_in, number_at, number_in, members_in, speeds_of, turn_penalties_of, is_left};
-ghost use Rattle.way_profile.specs.Vehicle.{IsSpeed, bend_penalty};
+ghost use Rattle.vehicle_settings.specs.Settings.{is_factor, is_penalty, is_speed};
+ghost use Rattle.vehicle_settings.specs.SettingsData.{bad_at, bad_entry, bad_inside, is_between, members_at};
+ghost use Rattle.way_profile.specs.SettingsValues.{is_true, is_word, number_at, number_in, scaled_numbers, text_at, text_in, texts_at, texts_in, turn_penalties_of};
+ghost use Rattle.way_profile.specs.Vehicle.{IsFactor, IsSpeed, bend_penalty};
 
-use crate::settings_tree::{table_at, value_at};
 use crate::turn_penalties::TurnPenalties;
-use road_base::Text;
+use road_base::{Text, Words};
 use std::alloc::{AllocError, Global};
 use toml::{Table, Value};
+use vehicle_settings::{table_at, value_at};
 
 // The text at a key.
 pub(crate) fn text_at<'a>(table: &'a Table, key: &str) -> &'a str
@@ -24,7 +26,7 @@ pub(crate) fn text_at<'a>(table: &'a Table, key: &str) -> &'a str
     }
 }
 
-fn text_in(value: &Value) -> &str
+pub(crate) fn text_in(value: &Value) -> &str
     ensures { result.now ≡ text_in (view value.now) }
 {
     match value.as_str() {
@@ -34,57 +36,70 @@ fn text_in(value: &Value) -> &str
 }
 
 // The texts of the list at a key, none where it is absent.
-pub(crate) fn texts_at(alloc: Global, table: &Table, key: &str) -> Result<Vec<Text>, AllocError>
-    ensures { IfOk result (λ texts. texts.items ≡ texts_at key.now (table_view table.now)) }
+pub(crate) fn texts_at(alloc: Global, table: &Table, key: &str) -> Result<Words, AllocError>
+    ensures { IfOk result (λ texts. texts ≡ texts_at key.now (table_view table.now)) }
 {
     match value_at(table, key) {
         Some(value) => texts_in(alloc, value),
-        None => Ok(Vec::new(alloc)),
+        None => Ok(Words::of(Vec::new(alloc))),
     }
 }
 
-fn texts_in(alloc: Global, value: &Value) -> Result<Vec<Text>, AllocError>
-    ensures { IfOk result (λ texts. texts.items ≡ texts_in (view value.now)) }
+// The texts of a list.
+pub(crate) fn texts_in(alloc: Global, value: &Value) -> Result<Words, AllocError>
+    ensures { IfOk result (λ texts. texts ≡ texts_in (view value.now)) }
 {
     match value.as_array() {
         Some(values) => texts_of(alloc, values),
-        None => Ok(Vec::new(alloc)),
+        None => Ok(Words::of(Vec::new(alloc))),
     }
 }
 
-fn texts_of(alloc: Global, values: &[Value]) -> Result<Vec<Text>, AllocError>
-    ensures { IfOk result (λ texts. texts.items ≡ map (λ v. text_in (view v)) values.now) }
+fn texts_of(alloc: Global, values: &[Value]) -> Result<Words, AllocError>
+    ensures { IfOk result (λ texts. texts ≡ map (λ v. text_in (view v)) values.now) }
 {
     let mut texts = Vec::new(alloc);
     for value in values {
         texts.push(Text::copy_of(alloc, text_in(value))?)?;
     }
-    Ok(texts)
+    Ok(Words::of(texts))
 }
 
-// The speeds of the settings.
+// The speeds of the settings in thousandths of km/h.
 pub(crate) fn speeds_at(alloc: Global, table: &Table) -> Result<Vec<(Text, u32)>, AllocError>
     requires { bad_inside is_speed (codes "speeds") (table_view table.now) ≡ None }
-    ensures list { IfOk result (λ list. list.items ≡ speeds_of (members_in (get_member (codes "speeds") (table_view table.now)))) }
+    ensures list { IfOk result (λ list. list.items ≡ scaled_numbers 1000 (members_at (codes "speeds") (table_view table.now))) }
     ensures range { IfOk result (λ list. All (λ e. IsSpeed e.1) list.items) }
 {
     match table_at(table, "speeds") {
-        Some(speeds) => speeds_of(alloc, speeds),
+        Some(speeds) => numbers_of(alloc, speeds, 1000),
         None => Ok(Vec::new(alloc)),
     }
 }
 
-// The speeds of a table in thousandths of km/h.
-fn speeds_of(alloc: Global, speeds: &Table) -> Result<Vec<(Text, u32)>, AllocError>
-    requires { bad_entry is_speed (table_view speeds.now) ≡ None }
-    ensures list { IfOk result (λ list. list.items ≡ speeds_of (table_view speeds.now)) }
-    ensures range { IfOk result (λ list. All (λ e. IsSpeed e.1) list.items) }
+// The factors of the settings in thousandths.
+pub(crate) fn surfaces_at(alloc: Global, table: &Table) -> Result<Vec<(Text, u32)>, AllocError>
+    requires { bad_inside is_factor (codes "surfaces") (table_view table.now) ≡ None }
+    ensures list { IfOk result (λ list. list.items ≡ scaled_numbers 1 (members_at (codes "surfaces") (table_view table.now))) }
+    ensures range { IfOk result (λ list. All (λ e. IsFactor e.1) list.items) }
+{
+    match table_at(table, "surfaces") {
+        Some(factors) => numbers_of(alloc, factors, 1),
+        None => Ok(Vec::new(alloc)),
+    }
+}
+
+// The keys of a table with so many times their numbers.
+fn numbers_of(alloc: Global, members: &Table, scale: u32) -> Result<Vec<(Text, u32)>, AllocError>
+    requires numbers { bad_entry (is_between 1 1000) (table_view members.now) ≡ None }
+    requires scale { scale ≤ 1000 }
+    ensures { IfOk result (λ list. list.items ≡ scaled_numbers scale (table_view members.now)) }
 {
     let mut list = Vec::new(alloc);
-    for (highway, value) in speeds.iter() {
+    for (word, value) in members.iter() {
         list.push((
-            Text::copy_of(alloc, highway.as_str())?,
-            number_in(value) * 1000,
+            Text::copy_of(alloc, word.as_str())?,
+            number_in(value) * scale,
         ))?;
     }
     Ok(list)
@@ -93,7 +108,7 @@ fn speeds_of(alloc: Global, speeds: &Table) -> Result<Vec<(Text, u32)>, AllocErr
 // The penalties of turns by the way they bend.
 pub(crate) fn turn_penalties_at(table: &Table) -> TurnPenalties
     requires { bad_inside is_penalty (codes "turn_penalty") (table_view table.now) ≡ None }
-    ensures value { result ≡ turn_penalties_of (members_in (get_member (codes "turn_penalty") (table_view table.now))) }
+    ensures value { result ≡ turn_penalties_of (members_at (codes "turn_penalty") (table_view table.now)) }
     ensures range { (modifier : Modifier) → bend_penalty result modifier ≤ 1000000 }
 {
     match table_at(table, "turn_penalty") {
@@ -145,7 +160,7 @@ fn number_in(value: &Value) -> u32
 
 // Whether the side at a key is the left one; an absent one is not.
 pub(crate) fn is_left_at(table: &Table, key: &str) -> bool
-    ensures { result ≡ option_map_or is_left (get_member key.now (table_view table.now)) false }
+    ensures { result ≡ option_map_or (is_word (codes "left")) (get_member key.now (table_view table.now)) false }
 {
     match value_at(table, key) {
         Some(value) => is_left(value),
@@ -154,10 +169,26 @@ pub(crate) fn is_left_at(table: &Table, key: &str) -> bool
 }
 
 fn is_left(value: &Value) -> bool
-    ensures { result ≡ is_left (view value.now) }
+    ensures { result ≡ is_word (codes "left") (view value.now) }
 {
     match value.as_str() {
         Some(text) => text == "left",
         None => false,
     }
+}
+
+// Whether the value at a key is `true`; an absent one is not.
+pub(crate) fn is_true_at(table: &Table, key: &str) -> bool
+    ensures { result ≡ option_map_or is_true (get_member key.now (table_view table.now)) false }
+{
+    match value_at(table, key) {
+        Some(value) => is_true(value),
+        None => false,
+    }
+}
+
+fn is_true(value: &Value) -> bool
+    ensures { result ≡ is_true (view value.now) }
+{
+    value.as_bool() == Some(true)
 }

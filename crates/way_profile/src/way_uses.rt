@@ -1,10 +1,9 @@
 //! How a vehicle may use a way.
 
 ghost use Rattle.std.specs.Prelude.{◌≡◌, ◌∷◌, []};
-ghost use Rattle.way_profile.specs.Words.{is_among};
-ghost use Rattle.way_profile.specs.WayTags.{is_denied, values_at, speed_of, says, is_backward_only, is_forward_only, is_oneway, has_other_oneway, is_forward_by_kind};
+ghost use Rattle.way_profile.specs.WayTags.{is_denied, values_at, number_of, number_by, says, is_backward_only, is_forward_only, is_oneway, has_other_oneway, is_forward_by_kind};
 
-use road_base::{Tags, Text};
+use road_base::{Tags, Text, Words};
 
 /// The directions of a way that a vehicle may use, and its speed there. Where the way is not routable for
 /// the vehicle both directions are false, and the speed is 0.
@@ -18,31 +17,34 @@ pub struct WayUse {
     pub speed: u32,
 }
 
-// Whether a text is one of these words.
-pub(crate) fn is_among(words: &[Text], text: &str) -> bool
-    ensures { result ≡ is_among words.now text.now }
-{
-    words.iter().any(|word| text == word.as_str())
-}
-
 // Whether the first of these keys that a way carries has a value that is denied.
-pub(crate) fn is_denied(tags: &Tags, keys: &[Text], denied: &[Text]) -> bool
+pub(crate) fn is_denied(tags: &Tags, keys: &Words, denied: &Words) -> bool
     ensures { result ≡ is_denied denied.now (values_at tags.now keys.now) }
 {
-    for key in keys {
+    for key in keys.as_slice() {
         if let Some(value) = tags.get(key.as_str()) {
-            return is_among(denied, value);
+            return denied.has(value);
         }
     }
     false
 }
 
-// The speed of a value of `highway`.
-pub(crate) fn speed_of(speeds: &[(Text, u32)], highway: &str) -> Option<u32>
-    ensures { result ≡ speed_of speeds.now highway.now }
+// The number that the value at a key has.
+pub(crate) fn number_by(tags: &Tags, key: &str, numbers: &[(Text, u32)]) -> Option<u32>
+    ensures { result ≡ number_by key.now numbers.now tags.now }
 {
-    for entry in speeds {
-        if entry.0.as_str() == highway {
+    match tags.get(key) {
+        Some(value) => number_of(numbers, value),
+        None => None,
+    }
+}
+
+// The number that a word has.
+fn number_of(numbers: &[(Text, u32)], word: &str) -> Option<u32>
+    ensures { result ≡ number_of numbers.now word.now }
+{
+    for entry in numbers {
+        if entry.0.as_str() == word {
             return Some(entry.1);
         }
     }
@@ -92,7 +94,8 @@ fn is_forward_by_kind(tags: &Tags) -> bool
     has_value(tags, "junction", "roundabout") || has_value(tags, "highway", "motorway")
 }
 
-fn has_value(tags: &Tags, key: &str, word: &str) -> bool
+// Whether the value at a key is this word.
+pub(crate) fn has_value(tags: &Tags, key: &str, word: &str) -> bool
     ensures { result ≡ says tags.now key.now (word.now ∷ []) }
 {
     match tags.get(key) {

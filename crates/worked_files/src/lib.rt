@@ -13,6 +13,8 @@ mod restrictions;
 #[cfg(test)]
 mod rows;
 #[cfg(test)]
+mod second_settings;
+#[cfg(test)]
 mod settings;
 #[cfg(test)]
 mod towns;

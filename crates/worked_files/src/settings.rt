@@ -31,7 +31,7 @@ colour = 1\n|UnknownKey colour$\
 zoom = 1\ncolour = 1\n|UnknownKey colour$\
 name = 5\nvehicle = \"a\"\n[speeds]\n|BadValue name$\
 name = \"\"\nvehicle = \"a\"\n[speeds]\n|BadValue name$\
-version = 2\nname = 5\nvehicle = \"a\"\n[speeds]\n|BadValue version$\
+version = 3\nname = 5\nvehicle = \"a\"\n[speeds]\n|BadValue version$\
 name = \"a\"\nvehicle = \"a\"\nspeeds = 3\n|BadValue speeds$\
 name = \"a\"\nvehicle = \"a\"\n[speeds]\nresidential = 0\n|BadValue speeds.residential$\
 name = \"a\"\nvehicle = \"a\"\naccess_keys = 1\n[speeds]\nprimary = true\n|BadValue speeds.primary$\
@@ -85,7 +85,7 @@ fn settings_with(alloc: Global, lines: &[u8]) -> Result<Vec<u8>, AllocError> {
 }
 
 // What reading settings with these lines tells.
-fn told_with(alloc: Global, lines: &[u8]) -> Result<String, AllocError> {
+pub(crate) fn told_with(alloc: Global, lines: &[u8]) -> Result<String, AllocError> {
     let settings = settings_with(alloc, lines)?;
     told(alloc, &settings)
 }
@@ -187,7 +187,7 @@ access=no;highway=residential;motor_vehicle=yes|true true 40000
 access=yes;highway=residential;motor_vehicle=private|false false 0";
 
 // The tags of a text.
-fn tags(rt: &impl Abort, alloc: Global, text: &str) -> Result<Tags, AllocError> {
+pub(crate) fn tags(rt: &impl Abort, alloc: Global, text: &str) -> Result<Tags, AllocError> {
     let mut tags = Tags::new(alloc);
     for tag in text.split(';') {
         let mut parts = tag.split('=');
@@ -200,7 +200,7 @@ fn tags(rt: &impl Abort, alloc: Global, text: &str) -> Result<Tags, AllocError> 
 }
 
 // How a way with these tags is used.
-fn use_told(
+pub(crate) fn use_told(
     rt: &impl Abort,
     alloc: Global,
     profile: &Profile,

@@ -1,6 +1,6 @@
 use Rattle.std.proofs.Common.{◌≡◌, take, map}
 use Rattle.toml.specs.View.{view}
-use Rattle.way_profile.specs.Settings.{text_in}
+use Rattle.way_profile.specs.SettingsValues.{text_in}
 use Rattle.way_profile.proofs.settings_values.texts_of.Given as goal
 
 -- the texts so far are those of the values so far

@@ -1,6 +1,6 @@
 -- The table at the key is the one whose penalties are told.
 use Rattle.std.proofs.Common.{ap, ◌∙◌}
-use Rattle.way_profile.specs.Settings.{turn_penalties_of}
+use Rattle.way_profile.specs.SettingsValues.{turn_penalties_of}
 use Rattle.way_profile.proofs.Lists.{members_in-table}
 use Rattle.way_profile.proofs.settings_values.turn_penalties_at.Goals as goal
 

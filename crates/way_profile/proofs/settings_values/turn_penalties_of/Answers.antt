@@ -1,7 +1,7 @@
 -- Where no member of a table is bad, none at a key is.
 use Rattle.std.proofs.Common.{codes}
 use Rattle.toml.specs.View.{table_view}
-use Rattle.way_profile.specs.Settings.{is_penalty}
+use Rattle.vehicle_settings.specs.Settings.{is_penalty}
 use Rattle.way_profile.proofs.Entries.{no_bad_member}
 use Rattle.way_profile.proofs.settings_values.turn_penalties_of.Goals as goal
 

@@ -1,0 +1,3 @@
+pub mod ClassSettings
+pub mod Settings
+pub mod SettingsData
