@@ -1,3 +1,4 @@
+mod Ascending
 mod Chaining
 mod Filling
 mod IndexRows

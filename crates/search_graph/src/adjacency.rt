@@ -6,7 +6,7 @@ ghost use Rattle.search_graph.specs.Digraph.{IsArc, Leaves};
 ghost use Rattle.search_graph.specs.Faults.{AllInRange, IsGraphFault};
 ghost use Rattle.search_graph.specs.Indexed.{IsAdjacency};
 
-use crate::indexing::{first_bad, index_by, left_out_range, tails};
+use crate::indexing::{Index, first_bad, index_by, offsets, tails};
 use crate::rows::ArcRow;
 use std::alloc::{AllocError, AllocFailed, Global};
 use std::marker::Model;
@@ -93,17 +93,17 @@ impl Model for Graph {
 
 impl Graph {
     /// The graph of these arcs, each from its first to its second vertex, over the vertices below
-    /// `vertices`.
+    /// `vertices`. The list itself is kept, and no copy of it made.
     ///
     /// It answers `BadArc` exactly where an arc names a vertex out of range, with the first such arc, or
     /// `Memory` where memory runs out.
-    pub fn of(alloc: Global, vertices: u32, arcs: &[(u32, u32)]) -> Result<Graph, GraphFault>
-        requires { length arcs.now < 2 ^ 32 }
-        ensures ok { IfOk result (λ g. (g.vertices ≡ vertices) × (g.arcs ≡ arcs.now)) }
-        ensures in_range { OnOk result (AllInRange vertices arcs.now) }
-        ensures err { IfErr result (IsGraphFault vertices arcs.now) }
+    pub fn of(alloc: Global, vertices: u32, arcs: Vec<(u32, u32)>) -> Result<Graph, GraphFault>
+        requires { length arcs.items < 2 ^ 32 }
+        ensures ok { IfOk result (λ g. (g.vertices ≡ vertices) × (g.arcs ≡ arcs.items)) }
+        ensures in_range { OnOk result (AllInRange vertices arcs.items) }
+        ensures err { IfErr result (IsGraphFault vertices arcs.items) }
     {
-        if let Some(i) = first_bad(vertices, arcs) {
+        if let Some(i) = first_bad(vertices, &arcs) {
             return Err(GraphFault::BadArc(i as u32));
         }
         let adjacency = adjacency_of(alloc, vertices, arcs)?;
@@ -174,19 +174,21 @@ impl Graph {
 }
 
 // The arcs with the index of their tails.
-fn adjacency_of(alloc: Global, vertices: u32, arcs: &[(u32, u32)]) -> Result<Adjacency, AllocError>
-    requires few { length arcs.now < 2 ^ 32 }
-    requires in_range { AllInRange vertices arcs.now }
-    ensures arcs { IfOk result (λ a. a.arcs.items ≡ arcs.now) }
-    ensures indexed { IfOk result (λ a. IsAdjacency vertices arcs.now a.first.items a.order.items) }
+fn adjacency_of(
+    alloc: Global,
+    vertices: u32,
+    arcs: Vec<(u32, u32)>,
+) -> Result<Adjacency, AllocError>
+    requires few { length arcs.items < 2 ^ 32 }
+    requires in_range { AllInRange vertices arcs.items }
+    ensures arcs { IfOk result (λ a. a.arcs.items ≡ arcs.items) }
+    ensures indexed { IfOk result (λ a. IsAdjacency vertices arcs.items a.first.items a.order.items) }
 {
-    let tails = tails(alloc, arcs)?;
-    let index = index_by(alloc, vertices, tails.as_slice())?;
-    let order = left_out_range(alloc, index.order);
-    let arcs = arcs.to_vec(alloc)?;
-    Ok(Adjacency {
-        arcs,
-        first: index.first,
-        order,
-    })
+    if let Some(first) = offsets(alloc, vertices, &arcs)? {
+        let order = Vec::new(alloc);
+        return Ok(Adjacency { arcs, first, order });
+    }
+    let tails = tails(alloc, &arcs)?;
+    let Index { first, order } = index_by(alloc, vertices, &tails)?;
+    Ok(Adjacency { arcs, first, order })
 }

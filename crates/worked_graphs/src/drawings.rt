@@ -163,7 +163,7 @@ pub fn weights(
     let vertex = vertex_costs(rt, alloc, drawing.vertex_costs)?;
     let arc = arc_costs(rt, alloc, drawing.arc_costs)?;
     assert_fitting(rt, graph, &vertex, &arc);
-    Ok(small_weights(graph, vertex, arc))
+    small_weights(alloc, graph, vertex, arc)
 }
 
 /// The graph of arcs, each as `tail-head`.
@@ -175,7 +175,7 @@ pub fn graph_of(
 ) -> Result<Graph, GraphFault> {
     let arcs = pairs(rt, alloc, arcs, '-')?;
     assert!(rt; arcs.len() <= 1000);
-    Graph::of(alloc, vertices, &arcs)
+    Graph::of(alloc, vertices, arcs)
 }
 
 /// The graph of a drawing.

@@ -21,6 +21,8 @@ mod queries;
 #[cfg(test)]
 mod rings;
 #[cfg(test)]
+mod sets;
+#[cfg(test)]
 mod tables;
 #[cfg(test)]
 mod walks;

@@ -17,6 +17,8 @@ pub returns : goal.returns
 returns g c =
     let ends = c.into_par_iter.ensures in
     let given = c.in_ok-done.ensures in
-    let chain = rw (c.map.ensures.base, c.map.ensures.f, c.with_min_len.ensures.base) at given.1 in
-    let places = chain.1 ∙ (λ i. nat_range (ends.0 i) (ends.1 i)) in
-    of_ok c.in_ok-done.done _ _ _ given.2 (λ v h. ArePieces-zipped g.C.Cost.ops c.args.frame.now c.args.weights.now c.args.level v.items (AllZip-good _ (λ place rows. IsPiece g.C.Cost.ops c.args.frame.now c.args.weights.now c.args.level place rows) chain.0 _ given.0 h.0 v.items chain.2 places h.1 h.2))
+    let ran = given.1 in
+    let numbers = rw (c.map.ensures.base, c.with_min_len.ensures.base) at ran.1 in
+    let made = rw c.map.ensures.f at ran.2 in
+    let places = numbers ∙ (λ i. nat_range (ends.0 i) (ends.1 i)) in
+    of_ok c.in_ok-done.done _ _ _ given.2 (λ v h. ArePieces-zipped g.C.Cost.ops c.args.frame.now c.args.weights.now c.args.level v.items (AllZip-good _ (λ place rows. IsPiece g.C.Cost.ops c.args.frame.now c.args.weights.now c.args.level place rows) ran.0 _ given.0 h.0 v.items made places h.1 h.2))

@@ -1,11 +1,11 @@
--- The index of the tails, with its list left out where that is a range.
-use Rattle.search_graph.proofs.IndexRows.{IsAdjacency-made, tails_below}
+-- The index of the tails where they don't ascend.
+use Rattle.search_graph.proofs.IndexRows.{IsAdjacency-listed, tails_below}
 use Rattle.search_graph.proofs.adjacency.adjacency_of.Goals as goal
 
 pub index_by-requires-clause-in_range : goal.index_by-requires-clause-in_range
-index_by-requires-clause-in_range c = rw (c.as_slice.ensures.value, c.in_ok-tails.ensures) (tails_below _ _ c.requires.in_range)
+index_by-requires-clause-in_range c = rw (c.deref-3.ensures.value, c.in_ok-tails.ensures, c.deref-2.ensures.value) (tails_below _ _ c.requires.in_range)
 
 pub returns-clause-indexed : goal.returns-clause-indexed
 returns-clause-indexed c =
-    let indexed = rw (c.as_slice.ensures.value, c.in_ok-tails.ensures) at c.in_ok-index.ensures in
-    IsAdjacency-made _ _ _ _ _ c.requires.in_range (tails_below _ _ c.requires.in_range) indexed c.left_out_range-order.ensures
+    let indexed = rw (c.deref-3.ensures.value, c.in_ok-tails.ensures, c.deref-2.ensures.value) at c.in_ok-first-2.ensures in
+    IsAdjacency-listed _ _ _ _ c.requires.in_range (tails_below _ _ c.requires.in_range) indexed

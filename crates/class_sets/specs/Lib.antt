@@ -1,0 +1,2 @@
+pub mod Exacting
+pub mod Sets
