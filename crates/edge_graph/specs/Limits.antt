@@ -3,4 +3,4 @@ use Rattle.std.specs.Prelude.{ℕ, ◌^◌}
 
 -- the most turns: the most arcs of the graph that is searched
 unfoldable pub most_turns : ℕ
-most_turns = 2 ^ 26
+most_turns = 2 ^ 27

@@ -8,9 +8,9 @@ use std::alloc::AllocError;
 /// Why a network was not built. The limits are this project's own (`most_segments`, `most_turns`).
 #[derive(Clone, Copy, Debug, PartialEq, Eq)]
 pub enum BuildFault {
-    /// There are more than 2^22 segments.
+    /// There are more than 2^24 segments.
     TooManySegments,
-    /// There are more than 2^26 turns.
+    /// There are more than 2^27 turns.
     TooManyTurns,
     /// Memory ran out.
     Memory,

@@ -1,4 +1,4 @@
 //! The most turns. The limit is this project's own.
 
 /// The most turns that a network may have.
-pub const MOST_TURNS: usize = 67_108_864;
+pub const MOST_TURNS: usize = 134_217_728;

@@ -28,7 +28,7 @@ use crate::restrictions::Restrictions;
 use crate::turn_counts::turn_count;
 use crate::turn_lists::{Exits, exit_counts, turn_list};
 use geo_integer::point_at;
-use road_base::{Object, Place, Point};
+use road_base::{Object, Place, Point, Words};
 use road_segments::{RoadFault, Roads};
 use search_graph::{Graph, GraphFault};
 use std::alloc::{AllocError, Global};
@@ -153,13 +153,30 @@ fn turns_of(
     Ok(turn_list(alloc, roads, exits, restrictions, count)?)
 }
 
-// The graph of the turns. Each is from a vertex to a vertex, so nothing but memory can be wanting.
+// How many exits each vertex has, and all turns, unless they are more than a network may have. What else they are
+// found by is let go of here, before there is a graph.
+fn exits_and_turns(
+    alloc: Global,
+    roads: &Roads,
+    restrictions: &Restrictions,
+) -> Result<(Vec<u32>, Vec<(u32, u32)>), BuildFault>
+    ensures counts { IfOk result (λ found. AreExits (vertices roads.now) found.0.items) }
+    ensures list { IfOk result (λ found. found.1.items ≡ turns (vertices roads.now) restrictions.now.kept) }
+    ensures few { OnOk result (length (turns (vertices roads.now) restrictions.now.kept) ≤ most_turns) }
+    ensures err { IfErr result (IsTurnsFault (length (turns (vertices roads.now) restrictions.now.kept))) }
+{
+    let exits = exits_of(alloc, roads, restrictions)?;
+    let turns = turns_of(alloc, roads, &exits, restrictions)?;
+    Ok((exits.counts, turns))
+}
+
+// The graph of the turns, which keeps their list. Each is from a vertex to a vertex, so nothing but memory can be wanting.
 #[tactic(auto, unfolding(crate::specs::Limits::most_turns))]
-fn turn_graph(alloc: Global, roads: &Roads, list: &[(u32, u32)]) -> Result<Graph, GraphFault>
-    requires few { length list.now ≤ most_turns }
-    requires in_range { AllInRange (2 * length roads.now) list.now }
+fn turn_graph(alloc: Global, roads: &Roads, list: Vec<(u32, u32)>) -> Result<Graph, GraphFault>
+    requires few { length list.items ≤ most_turns }
+    requires in_range { AllInRange (2 * length roads.now) list.items }
     ensures vertices { IfOk result (λ graph. graph.vertices ≡ 2 * length roads.now) }
-    ensures arcs { IfOk result (λ graph. graph.arcs ≡ list.now) }
+    ensures arcs { IfOk result (λ graph. graph.arcs ≡ list.items) }
     ensures err { IfErr result (λ fault. fault ≡ GraphFault.Memory) }
 {
     Graph::of(alloc, 2 * roads.len(), list)
@@ -167,8 +184,8 @@ fn turn_graph(alloc: Global, roads: &Roads, list: &[(u32, u32)]) -> Result<Graph
 
 impl Network {
     /// The network of the roads among these objects that the vehicle of the profile may use, under the turn
-    /// restrictions among them that apply to it. `TooManySegments` comes where it has more than 2^22
-    /// segments, `TooManyTurns` where it has no more than that but more than 2^26 turns; `Memory` at any
+    /// restrictions among them that apply to it. `TooManySegments` comes where it has more than 2^24
+    /// segments, `TooManyTurns` where it has no more than that but more than 2^27 turns; `Memory` at any
     /// time.
     pub fn build(
         alloc: Global,
@@ -183,15 +200,14 @@ impl Network {
         let departures = Departures::of(alloc, &roads)?;
         let restrictions = restrictions_of(alloc, objects, profile, &roads)?;
         let (applied, ignored) = (restrictions.applied(), restrictions.ignored());
-        let exits = exits_of(alloc, &roads, &restrictions)?;
-        let turns = turns_of(alloc, &roads, &exits, &restrictions)?;
-        let Ok(graph) = turn_graph(alloc, &roads, &turns) else {
+        let (exits, turns) = exits_and_turns(alloc, &roads, &restrictions)?;
+        let Ok(graph) = turn_graph(alloc, &roads, turns) else {
             return Err(BuildFault::Memory);
         };
         let profile = profile.try_clone(alloc)?;
         Ok(Network {
             roads,
-            exits: exits.counts,
+            exits,
             departures,
             graph,
             profile,
@@ -234,6 +250,14 @@ impl Network {
         ensures by_segment { option_map (λ s. s.street.name) (slice_get self.now.segments (v / 2)) ≡ Some result.now }
     {
         self.roads.name(v)
+    }
+
+    /// The names of the classes of the way of vertex `v`, in the order in which the profile has them.
+    pub fn classes(&self, v: u32) -> &Words
+        requires { v < 2 * length self.now.segments }
+        ensures { option_map (λ x. x.classes) (slice_get (vertices_of self.now) v) ≡ Some result.now }
+    {
+        self.roads.classes(v)
     }
 
     /// Whether the vehicle may use vertex `v`.

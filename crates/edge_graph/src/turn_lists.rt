@@ -223,6 +223,7 @@ pub fn turn_list(
     requires fans { AreFans (vertices roads.now) 0 exits.now.fans.next.items exits.now.fans.by_node }
     requires counts { AreExits (vertices roads.now) exits.now.counts.items }
     requires leaving { AreLeaving (vertices roads.now) restrictions.now.kept exits.now.leaving.runs exits.now.leaving.groups }
+    requires as_many { count ≡ length (turns (vertices roads.now) restrictions.now.kept) }
     ensures { IfOk result (λ list. list.items ≡ turns (vertices roads.now) restrictions.now.kept) }
 {
     let mut list = Vec::with_capacity(alloc, count)?;

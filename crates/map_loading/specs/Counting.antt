@@ -1,5 +1,5 @@
 -- What `check` prints: how many objects a map has, and what its network is for a vehicle (this project's rule).
-use Rattle.std.specs.Prelude.{ℕ, Bool, true, false, List, [], ◌++◌, length, codes, count_by}
+use Rattle.std.specs.Prelude.{ℕ, Bool, true, false, ◌*◌, ◌==◌, if◌then◌else◌, List, [], ◌++◌, length, codes, count_by}
 use Rattle.std.specs.Fmt.{decimal}
 use Rattle.road_base.specs.declared.osm_objects.Kind.{Kind}
 use Rattle.road_base.specs.declared.osm_objects.Kind.TheVariants as kind
@@ -27,9 +27,9 @@ permitted_in network = count_by (λ v. v.permitted) (vertices_of network)
 abbrev pub with_line : List ℕ → List ℕ → ℕ → List ℕ
 with_line text word count = text ++ (word ++ (codes " " ++ (decimal count ++ codes "\n")))
 
--- the eight lines
-unfoldable pub check_text : Counts → NetworkView → List ℕ
-check_text objects network =
+-- eight lines of what there is
+unfoldable pub counts_text : Counts → NetworkView → List ℕ
+counts_text objects network =
     let nodes = with_line [] (codes "nodes") objects.nodes in
     let ways = with_line nodes (codes "ways") objects.ways in
     let relations = with_line ways (codes "relations") objects.relations in
@@ -38,3 +38,14 @@ check_text objects network =
     let turns = with_line vertices (codes "turns") (length network.turns) in
     let restrictions = with_line turns (codes "restrictions") network.applied in
     with_line restrictions (codes "ignored") network.ignored
+
+-- behind a text, where the settings have sets of classes that a request may exclude, how many, and how many bytes the
+-- costs of the vertices take for each of these
+abbrev pub with_sets : List ℕ → NetworkView → List ℕ
+with_sets text network = if length network.profile.excludable == 0 then text else (
+    let sets = with_line text (codes "excludable") (length network.profile.excludable) in
+    with_line sets (codes "set_bytes") (16 * length network.segments))
+
+-- the lines of a map
+unfoldable pub check_text : Counts → NetworkView → List ℕ
+check_text objects network = with_sets (counts_text objects network) network

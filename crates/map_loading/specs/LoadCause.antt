@@ -1,8 +1,8 @@
 -- What a fault of loading comes from.
 use Rattle.std.specs.Prelude.{◌≡◌, ℕ, List, Result, Err, ⊤}
 use Rattle.edge_graph.specs.NetworkView.{NetworkView}
-use Rattle.way_profile.specs.declared.settings_faults.SettingsFault.{SettingsFault}
-use Rattle.way_profile.specs.declared.settings_faults.SettingsFault.TheVariants as setting
+use Rattle.vehicle_settings.specs.declared.settings_faults.SettingsFault.{SettingsFault}
+use Rattle.vehicle_settings.specs.declared.settings_faults.SettingsFault.TheVariants as setting
 use Rattle.map_loading.specs.Loading.{settings_line}
 use Rattle.map_loading.specs.declared.loading.LoadFault.{LoadFault}
 use Rattle.map_loading.specs.declared.loading.LoadFault.TheVariants.{Refused, Memory}

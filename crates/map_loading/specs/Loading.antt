@@ -12,8 +12,8 @@ use Rattle.opl_read.specs.declared.line_faults.LineFault.{LineFault}
 use Rattle.road_base.specs.declared.osm_objects.Object.{Object}
 use Rattle.way_profile.specs.Settings.{settings_of}
 use Rattle.way_profile.specs.Vehicle.{ProfileView}
-use Rattle.way_profile.specs.declared.settings_faults.SettingsFault.{SettingsFault}
-use Rattle.way_profile.specs.declared.settings_faults.SettingsFault.TheVariants as setting
+use Rattle.vehicle_settings.specs.declared.settings_faults.SettingsFault.{SettingsFault}
+use Rattle.vehicle_settings.specs.declared.settings_faults.SettingsFault.TheVariants as setting
 
 -- the word for what is wrong with a line of the map
 abbrev pub kind_word : FaultKind → List ℕ

@@ -1,7 +1,7 @@
 //! Counts what is in a map, and in its network.
 
 ghost use Rattle.std.specs.Prelude.{◌≡◌, IfOk, OnOk, count_by, string_bytes};
-ghost use Rattle.map_loading.specs.Counting.{check_text, counts_of, is_of, permitted_in, with_line};
+ghost use Rattle.map_loading.specs.Counting.{check_text, counts_of, counts_text, is_of, permitted_in, with_line, with_sets};
 
 use edge_graph::Network;
 use road_base::{Kind, Object};
@@ -67,10 +67,23 @@ fn push_line(alloc: Global, text: &mut String, word: &str, count: u64) -> Result
     text.push_str(&line)
 }
 
-/// What `check` prints of a map with so many objects and of its network, eight lines.
-#[tactic(auto, unfolding(crate::specs::Counting::check_text))]
-pub fn check_text(alloc: Global, objects: Counts, network: &Network) -> Result<String, AllocError>
-    ensures { IfOk result (λ text. string_bytes text ≡ check_text objects network.now) }
+// Adds the lines of the sets of classes that a request may exclude, where the settings have some.
+fn push_sets(alloc: Global, text: &mut String, network: &Network) -> Result<(), AllocError>
+    ensures { OnOk result (string_bytes text.new ≡ with_sets (string_bytes text.old) network.now) }
+{
+    let sets = network.profile().excludable().len();
+    if sets == 0 {
+        return Ok(());
+    }
+    push_line(alloc, text, "excludable", sets as u64)?;
+    // two vertices, of 8 bytes each
+    push_line(alloc, text, "set_bytes", 16 * u64::from(network.segments()))
+}
+
+// What there is in a map with so many objects, and in its network: eight lines.
+#[tactic(auto, unfolding(crate::specs::Counting::counts_text))]
+fn counts_text(alloc: Global, objects: Counts, network: &Network) -> Result<String, AllocError>
+    ensures { IfOk result (λ text. string_bytes text ≡ counts_text objects network.now) }
 {
     let mut text = String::new(alloc);
     push_line(alloc, &mut text, "nodes", objects.nodes as u64)?;
@@ -86,5 +99,16 @@ pub fn check_text(alloc: Global, objects: Counts, network: &Network) -> Result<S
     push_line(alloc, &mut text, "turns", u64::from(network.turns()))?;
     push_line(alloc, &mut text, "restrictions", network.applied())?;
     push_line(alloc, &mut text, "ignored", network.ignored())?;
+    Ok(text)
+}
+
+/// What `check` prints of a map with so many objects and of its network: eight lines, and two more where the settings
+/// have sets of classes that a request may exclude.
+#[tactic(auto, unfolding(crate::specs::Counting::check_text))]
+pub fn check_text(alloc: Global, objects: Counts, network: &Network) -> Result<String, AllocError>
+    ensures { IfOk result (λ text. string_bytes text ≡ check_text objects network.now) }
+{
+    let mut text = counts_text(alloc, objects, network)?;
+    push_sets(alloc, &mut text, network)?;
     Ok(text)
 }

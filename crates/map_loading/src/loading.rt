@@ -11,7 +11,7 @@ ghost use Rattle.opl_read.specs.Objects.{opl_objects};
 ghost use Rattle.road_base.specs.declared.osm_objects.Object.{Object};
 ghost use Rattle.way_profile.specs.Settings.{settings_of};
 ghost use Rattle.way_profile.specs.Vehicle.{ProfileView};
-ghost use Rattle.way_profile.specs.declared.settings_faults.SettingsFault.{SettingsFault};
+ghost use Rattle.vehicle_settings.specs.declared.settings_faults.SettingsFault.{SettingsFault};
 
 use crate::counting::{Counts, counts_of};
 use edge_graph::{BuildFault, Network};

@@ -101,14 +101,14 @@ way-same : (a b : Way) → Some (object.Way a) ≡ Some (object.Way b) → a ≡
 way-same a b e = cc
 
 -- a way with segments is one that may be used
-used-some : (spot : ℤ → Option Spot) (usage : WayUse) (way : Way) (b : Bool) → (usage.forward || usage.backward) ≡ b → nat_lt 0 (length (segments_used spot usage way)) ≡ true → b ≡ true
-used-some spot usage way true e h = refl
-used-some spot usage way false e h =
-    let none : segments_used spot usage way ≡ [] = ap (λ (x : Bool). cond x (segments_along spot (street_of usage way) way.nodes) []) e in
-    absurd (omega (arith, ap length none, (Decides-ltb 0 (length (segments_used spot usage way))).0 h))
+used-some : (spot : ℤ → Option Spot) (profile : ProfileView) (usage : WayUse) (way : Way) (b : Bool) → (usage.forward || usage.backward) ≡ b → nat_lt 0 (length (segments_used spot profile usage way)) ≡ true → b ≡ true
+used-some spot profile usage way true e h = refl
+used-some spot profile usage way false e h =
+    let none : segments_used spot profile usage way ≡ [] = ap (λ (x : Bool). cond x (segments_along spot (street_of profile usage way) way.nodes) []) e in
+    absurd (omega (arith, ap length none, (Decides-ltb 0 (length (segments_used spot profile usage way))).0 h))
 
-pub may-be-used : (spot : ℤ → Option Spot) (usage : WayUse) (way : Way) → nat_lt 0 (length (segments_used spot usage way)) ≡ true → (usage.forward || usage.backward) ≡ true
-may-be-used spot usage way h = used-some spot usage way (usage.forward || usage.backward) refl h
+pub may-be-used : (spot : ℤ → Option Spot) (profile : ProfileView) (usage : WayUse) (way : Way) → nat_lt 0 (length (segments_used spot profile usage way)) ≡ true → (usage.forward || usage.backward) ≡ true
+may-be-used spot profile usage way h = used-some spot profile usage way (usage.forward || usage.backward) refl h
 
 none-of : {X : Type 0} (xs : List X) → nat_lt 0 (length xs) ≡ false → xs ≡ []
 none-of [] h = refl
@@ -126,29 +126,29 @@ module _ (spot : ℤ → Option Spot) (objects : List Object) (profile : Profile
       (g.0, g.1, g.2, way-same g.0.1 way (sym g.2 ∙ here ∙ ap Some is_way))
 
   -- its segments
-  of-way : (w : Way) → w ≡ way → segments_of_way spot profile w ≡ segments_used spot usage w
-  of-way w same = ap (λ (u : WayUse). segments_used spot u w) (ap (λ (v : Way). way_use profile v.tags) same ∙ sym use_is)
+  of-way : (w : Way) → w ≡ way → segments_of_way spot profile w ≡ segments_used spot profile usage w
+  of-way w same = ap (λ (u : WayUse). segments_used spot profile u w) (ap (λ (v : Way). way_use profile v.tags) same ∙ sym use_is)
 
-  pub step-add : (s : Street) (streets' : List Street) (places' : List ℕ) → nat_lt 0 (length (segments_used spot usage way)) ≡ true → IsSpeed usage.speed
-      → s ≡ street_of usage way → streets' ≡ streets ++ s ∷ [] → places' ≡ places ++ p ∷ []
+  pub step-add : (s : Street) (streets' : List Street) (places' : List ℕ) → nat_lt 0 (length (segments_used spot profile usage way)) ≡ true → IsSpeed usage.speed
+      → s ≡ street_of profile usage way → streets' ≡ streets ++ s ∷ [] → places' ≡ places ++ p ∷ []
       → AreRoutes spot objects profile (take (k + 1) ways) streets' places'
   step-add s streets' places' some speed e es ep =
       let w = the-way in
-      let usable = may-be-used spot usage way some in
+      let usable = may-be-used spot profile usage way some in
       let its : segments_of_way spot profile w.0.1 ≡ segments_along spot s w.0.1.nodes =
       of-way w.0.1 w.3
-      ∙ ap (λ (b : Bool). cond b (segments_along spot (street_of usage w.0.1) w.0.1.nodes) []) usable
-      ∙ ap (λ (t : Street). segments_along spot t w.0.1.nodes) (ap (street_of usage) w.3 ∙ sym e) in
+      ∙ ap (λ (b : Bool). cond b (segments_along spot (street_of profile usage w.0.1) w.0.1.nodes) []) usable
+      ∙ ap (λ (t : Street). segments_along spot t w.0.1.nodes) (ap (street_of profile usage) w.3 ∙ sym e) in
       let many : 0 < length (segments_of_way spot profile w.0.1) =
-      omega (arith, ap length (of-way w.0.1 w.3 ∙ ap (segments_used spot usage) w.3), (Decides-ltb 0 (length (segments_used spot usage way))).0 some) in
+      omega (arith, ap length (of-way w.0.1 w.3 ∙ ap (segments_used spot profile usage) w.3), (Decides-ltb 0 (length (segments_used spot profile usage way))).0 some) in
       rw (es, ep, take-get ways k w.0 w.1)
       (AreRoutes-add spot objects profile (take k ways) streets places w.0 p s w.2 so_far its many (subst (λ (t : Street). IsSpeed t.speed) (sym e) speed))
 
-  pub step-skip : nat_lt 0 (length (segments_used spot usage way)) ≡ false → AreRoutes spot objects profile (take (k + 1) ways) streets places
+  pub step-skip : nat_lt 0 (length (segments_used spot profile usage way)) ≡ false → AreRoutes spot objects profile (take (k + 1) ways) streets places
   step-skip none =
       let w = the-way in
       rw (take-get ways k w.0 w.1)
-      (AreRoutes-skip spot objects profile (take k ways) streets places w.0 so_far (of-way w.0.1 w.3 ∙ ap (segments_used spot usage) w.3 ∙ none-of (segments_used spot usage way) none))
+      (AreRoutes-skip spot objects profile (take k ways) streets places w.0 so_far (of-way w.0.1 w.3 ∙ ap (segments_used spot profile usage) w.3 ∙ none-of (segments_used spot profile usage way) none))
 
 -- the streets from number k on, the first apart
 pub segments_on-at : (spot : ℤ → Option Spot) (objects : List Object) (streets : List Street) (places : List ℕ) (k p : ℕ) → length streets ≡ length places → slice_get places k ≡ Some p

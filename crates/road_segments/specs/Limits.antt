@@ -3,7 +3,7 @@ use Rattle.std.specs.Prelude.{◌≡◌, ℕ, ◌^◌, ◌<◌, ◌≤◌, Optio
 
 -- the most segments
 unfoldable pub most_segments : ℕ
-most_segments = 2 ^ 22
+most_segments = 2 ^ 24
 
 -- the answer is the count if it is at most so many, and else none
 abbrev pub CountsUpTo : ℕ → ℕ → Option ℕ → Type 0

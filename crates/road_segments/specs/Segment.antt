@@ -10,6 +10,7 @@ use Rattle.road_base.specs.declared.osm_objects.Object.{Object}
 use Rattle.road_base.specs.declared.osm_objects.Object.TheVariants as object
 use Rattle.road_base.specs.declared.osm_objects.Way.{Way}
 use Rattle.way_profile.specs.Vehicle.{ProfileView}
+use Rattle.way_profile.specs.WayClasses.{classes_of}
 use Rattle.way_profile.specs.WayRule.{way_use}
 use Rattle.way_profile.specs.declared.way_uses.WayUse.{WayUse}
 use Rattle.road_segments.specs.Spots.{spot_at}
@@ -59,22 +60,23 @@ segments_along spot street [] = []
 segments_along spot street (a ∷ more) = segments_through spot street a more
 
 -- what a way that may be used so is to its segments; its name is empty where it has none
-abbrev pub street_of : WayUse → Way → Street
-street_of usage way = record {
+abbrev pub street_of : ProfileView → WayUse → Way → Street
+street_of profile usage way = record {
   way = way.id;
   name = unwrap_or (value_of way.tags (codes "name")) [];
+  classes = classes_of profile way.tags;
   speed = usage.speed;
   forward = usage.forward;
   backward = usage.backward;
 }
 
 -- the segments of a way that may be used so: none where it may be used in neither direction
-abbrev pub segments_used : (ℤ → Option Spot) → WayUse → Way → List Segment
-segments_used spot usage way = if usage.forward || usage.backward then segments_along spot (street_of usage way) way.nodes else []
+abbrev pub segments_used : (ℤ → Option Spot) → ProfileView → WayUse → Way → List Segment
+segments_used spot profile usage way = if usage.forward || usage.backward then segments_along spot (street_of profile usage way) way.nodes else []
 
 -- the segments of a way for a vehicle
 abbrev pub segments_of_way : (ℤ → Option Spot) → ProfileView → Way → List Segment
-segments_of_way spot profile way = segments_used spot (way_use profile way.tags) way
+segments_of_way spot profile way = segments_used spot profile (way_use profile way.tags) way
 
 -- all segments: way by way in ascending order of the ways' ids
 abbrev pub segments : List Object → ProfileView → List Segment

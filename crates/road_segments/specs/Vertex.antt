@@ -16,6 +16,7 @@ pub record Vertex : Type 0 where
   pub permitted : Bool
   pub way : ℤ
   pub name : List ℕ
+  pub classes : List (List ℕ)
   pub speed : ℕ
 
 -- a segment in the order of its way, and against it
@@ -30,6 +31,7 @@ along s = record {
   permitted = s.street.forward;
   way = s.street.way;
   name = s.street.name;
+  classes = s.street.classes;
   speed = s.street.speed;
 }
 
@@ -44,6 +46,7 @@ against s = record {
   permitted = s.street.backward;
   way = s.street.way;
   name = s.street.name;
+  classes = s.street.classes;
   speed = s.street.speed;
 }
 

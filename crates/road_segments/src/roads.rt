@@ -14,7 +14,7 @@ use crate::road_faults::RoadFault;
 use crate::routes::{Routes, nodes_of, routes_of, segment_count};
 use crate::spots::{NodeUse, SpotMap, segment_ends, spots_of};
 use crate::streets::Street;
-use road_base::{Object, Point};
+use road_base::{Object, Point, Words};
 use std::alloc::{AllocError, Global};
 use std::marker::Model;
 use way_profile::Profile;
@@ -237,6 +237,14 @@ impl Roads {
         self.streets[self.rows[v as usize / 2].street as usize]
             .name
             .as_str()
+    }
+
+    /// The names of the classes of the way of vertex `v`, in the order of the profile.
+    pub fn classes(&self, v: u32) -> &Words
+        requires { v < 2 * length self.now }
+        ensures { option_map (λ x. x.classes) (slice_get (vertices self.now) v) ≡ Some result.now }
+    {
+        &self.streets[self.rows[v as usize / 2].street as usize].classes
     }
 
     /// The vehicle's speed on vertex `v` in thousandths of km/h.

@@ -5,6 +5,7 @@ ghost use Rattle.std.specs.BTreeMap.{values};
 ghost use Rattle.road_segments.specs.Located.{AreRoutes, StandAt, nodes_at, segments_on, spot_in};
 ghost use Rattle.road_segments.specs.Limits.{CountsUpTo, most_segments};
 ghost use Rattle.road_segments.specs.Segment.{segments_used, street_of, ways_by_id};
+ghost use Rattle.way_profile.specs.Vehicle.{ProfileView};
 
 use crate::limits::MOST_SEGMENTS;
 use crate::spots::{SpotMap, any_along, count_along};
@@ -42,8 +43,8 @@ fn values_of(alloc: Global, map: BTreeMap<i64, usize>) -> Result<Vec<usize>, All
 }
 
 // What a way that may be used so is to its segments.
-fn street(alloc: Global, usage: WayUse, way: &Way) -> Result<Street, AllocError>
-    ensures { IfOk result (λ street. street ≡ street_of usage way.now) }
+fn street(alloc: Global, profile: &Profile, usage: WayUse, way: &Way) -> Result<Street, AllocError>
+    ensures { IfOk result (λ street. street ≡ street_of profile.now usage way.now) }
 {
     let name = match way.tags.get("name") {
         Some(name) => name,
@@ -52,6 +53,7 @@ fn street(alloc: Global, usage: WayUse, way: &Way) -> Result<Street, AllocError>
     Ok(Street {
         way: way.id,
         name: Text::copy_of(alloc, name)?,
+        classes: profile.classes(alloc, &way.tags)?,
         speed: usage.speed,
         forward: usage.forward,
         backward: usage.backward,
@@ -60,7 +62,7 @@ fn street(alloc: Global, usage: WayUse, way: &Way) -> Result<Street, AllocError>
 
 // Whether a way that may be used so has any segment.
 fn has_segments(spots: &SpotMap, usage: WayUse, way: &Way) -> bool
-    ensures { result ≡ nat_lt 0 (length (segments_used (spot_in spots.now) usage way.now)) }
+    ensures { (profile : ProfileView) → result ≡ nat_lt 0 (length (segments_used (spot_in spots.now) profile usage way.now)) }
 {
     if usage.forward || usage.backward {
         any_along(spots, way.nodes.as_slice())
@@ -85,7 +87,7 @@ pub fn routes_of(
         if let Object::Way(way) = &objects[*place] {
             let usage = profile.way(&way.tags);
             if has_segments(spots, usage, way) {
-                streets.push(street(alloc, usage, way)?)?;
+                streets.push(street(alloc, profile, usage, way)?)?;
                 places.push(*place)?;
             }
         }

@@ -1,6 +1,6 @@
 //! What the segments of one way have in common.
 
-use road_base::Text;
+use road_base::{Text, Words};
 
 /// A way that the vehicle may use in some direction, as its segments know it.
 pub struct Street {
@@ -8,6 +8,8 @@ pub struct Street {
     pub way: i64,
     /// the way's `name`, or empty
     pub name: Text,
+    /// the names of its classes, in the order of the profile
+    pub classes: Words,
     /// thousandths of km/h
     pub speed: u32,
     /// in the order of the way's nodes
@@ -21,6 +23,7 @@ impl Drop for Street {
         let Street {
             way: _way,
             name: _name,
+            classes: _classes,
             speed: _speed,
             forward: _forward,
             backward: _backward,

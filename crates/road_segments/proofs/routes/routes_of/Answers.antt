@@ -29,13 +29,13 @@ loop-place-preserved c =
     let at : slice_get all k ≡ Some (slice_index_or all k 0) = slice_get-get_or all k 0 c.loop-place-test.true in
     elim c.match-objects-place.branch [
       | in-Way+then-has_segments+in_ok-street+in_ok-push+in_ok-push-2 w ↦
-          let some = sym w.has_segments.ensures ∙ w.if-has_segments.true in
+          let some = sym (w.has_segments.ensures c.args.profile.now) ∙ w.if-has_segments.true in
           rw (w.streets-is, w.places-is)
           (step-add (spot_in c.args.spots.now) objects c.args.profile.now (ways_by_id objects) all c.loop-place.streets.items c.loop-place.places.items k (slice_index_or all k 0) c.index-objects-place.result w.in-Way.way w.way-usage.result
           stand at c.index-objects-place.is w.in-Way.is c.loop-place.invariant w.way-usage.ensures.value
-          w.in_ok-street.field-0 w.push.new.self.items w.push-then-has_segments.new.self.items some (w.way-usage.ensures.speed (may-be-used (spot_in c.args.spots.now) w.way-usage.result w.in-Way.way some)) w.in_ok-street.ensures w.in_ok-push.ensures.items w.in_ok-push-2.ensures.items)
+          w.in_ok-street.field-0 w.push.new.self.items w.push-then-has_segments.new.self.items some (w.way-usage.ensures.speed (may-be-used (spot_in c.args.spots.now) c.args.profile.now w.way-usage.result w.in-Way.way some)) w.in_ok-street.ensures w.in_ok-push.ensures.items w.in_ok-push-2.ensures.items)
       | in-Way+else-has_segments w ↦
-          let none = sym w.has_segments.ensures ∙ w.if-has_segments.false in
+          let none = sym (w.has_segments.ensures c.args.profile.now) ∙ w.if-has_segments.false in
           rw (w.streets-is, w.places-is)
           (step-skip (spot_in c.args.spots.now) objects c.args.profile.now (ways_by_id objects) all c.loop-place.streets.items c.loop-place.places.items k (slice_index_or all k 0) c.index-objects-place.result w.in-Way.way w.way-usage.result
           stand at c.index-objects-place.is w.in-Way.is c.loop-place.invariant w.way-usage.ensures.value none)

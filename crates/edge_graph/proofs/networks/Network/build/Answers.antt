@@ -12,14 +12,14 @@ use Rattle.edge_graph.proofs.networks.Network.build.Goals as goal
 pub turn_graph-requires-clause-in_range : goal.turn_graph-requires-clause-in_range
 turn_graph-requires-clause-in_range c =
     let roads = c.in_ok-roads.roads in
-    subst (λ (l : List (ℕ × ℕ)). AllInRange (2 * length roads) l) (sym (c.deref.ensures.value ∙ c.in_ok-turns.ensures.list)) (turns-in_range roads c.in_ok-restrictions.restrictions.kept)
+    subst (λ (l : List (ℕ × ℕ)). AllInRange (2 * length roads) l) (sym c.in_ok-exits.ensures.list) (turns-in_range roads c.in_ok-restrictions.restrictions.kept)
 
 pub invariant_of-result : goal.invariant_of-result
 invariant_of-result c =
-    let arcs = c.in-Ok.ensures.arcs ∙ c.deref.ensures.value ∙ c.in_ok-turns.ensures.list in
+    let arcs = c.in-Ok.ensures.arcs ∙ c.in_ok-exits.ensures.list in
     record {
       few_segments = omega (arith, ap length c.in_ok-roads.ensures.ok, c.in_ok-roads.ensures.few);
-      few_turns = omega (arith, ap length arcs, c.in_ok-turns.ensures.few);
+      few_turns = omega (arith, ap length arcs, c.in_ok-exits.ensures.few);
       speeds = subst (λ (l : List Segment). All (λ s. IsSpeed s.street.speed) l) (sym c.in_ok-roads.ensures.ok) c.in_ok-roads.ensures.speeds;
       exits = c.in_ok-exits.ensures.counts;
       departures = c.in_ok-departures.ensures;
@@ -32,4 +32,4 @@ invariant_of-result c =
 pub returns-clause-ok : goal.returns-clause-ok
 returns-clause-ok c =
     network-is c.args.objects.now c.args.profile.now c.in_ok-profile.profile c.in_ok-roads.roads c.in_ok-restrictions.restrictions c.in-Ok.graph.arcs c.applied-applied.result c.ignored-ignored.result
-    c.in_ok-roads.ensures.ok c.in_ok-restrictions.ensures (c.in-Ok.ensures.arcs ∙ c.deref.ensures.value ∙ c.in_ok-turns.ensures.list) c.in_ok-profile.ensures c.applied-applied.ensures c.ignored-ignored.ensures
+    c.in_ok-roads.ensures.ok c.in_ok-restrictions.ensures (c.in-Ok.ensures.arcs ∙ c.in_ok-exits.ensures.list) c.in_ok-profile.ensures c.applied-applied.ensures c.ignored-ignored.ensures
