@@ -1,1 +1,2 @@
+pub mod ExclusionLemmas
 pub mod MidpointLemmas

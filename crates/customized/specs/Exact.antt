@@ -1,17 +1,21 @@
 -- A metric of roads, as those see it who publish it and answer under it.
-use Rattle.std.specs.Prelude.{◌≡◌, ℕ, List, length}
+use Rattle.std.specs.Prelude.{◌≡◌, ℕ, ◌-◌, ◌^◌, List, Option, length, min, sum}
+use Rattle.std.specs.List.{AllZip}
 use Rattle.std.proofs.Common.{◌∙◌, sym}
 use Rattle.search_graph.specs.declared.costs.DurLen.{DurLen}
 use Rattle.search_graph.specs.Digraph.{Weighting}
 use Rattle.search_graph.specs.Durations.{durlen_ops}
 use Rattle.search_graph.specs.Weighted.{AreSmall}
 use Rattle.edge_graph.specs.NetworkView.{graph_of}
+use Rattle.metric_make.specs.Avoiding.{avoided, avoiding}
 use Rattle.metric_make.specs.MetricOf.{MetricView}
 use Rattle.metric_make.specs.RoadMetric.{RoadMetric, road_of}
 use Rattle.cell_frame.specs.Borders.{Framed}
 use Rattle.cell_frame.specs.Cliqued.{AreExact, Rows}
 use Rattle.cell_recustomize.specs.Changes.{AreChanges}
 use Rattle.cell_recustomize.specs.Touched.{IsTouchedCount}
+use Rattle.cell_recustomize.specs.declared.places.Changed.{Changed}
+use Rattle.customized.specs.Excluding.{exclusions, weights_under}
 use Rattle.customized.specs.Framing.{RoadsView}
 
 -- A network with its costs, and the frame of its graph.
@@ -42,11 +46,30 @@ roads_of m = record { network = m.road.network; frame = m.frame }
 pub share_both : (x y z : Customized) → ShareRoads x y → ShareRoads x z → ShareRoads y z
 share_both x y z a b = (sym a.0 ∙ b.0, sym a.1 ∙ b.1)
 
--- Of the cells of a metric those that hold a vertex that costs other than before, or both ends of a turn that does, have n
+-- a metric as those see it who avoid a set, or none
+abbrev pub excluding : Option ℕ → Customized → Customized
+excluding set m = record { road = avoiding set m.road; frame = m.frame }
+
+-- The weights are those of the metric under each exclusion, and for each of them the cliques are exact for just these.
+pub record IsExactForEach (m : Customized) (bases : List (Weighting DurLen)) (sets : List (List (Rows DurLen))) : Type 0 where
+  pub weights : bases ≡ weights_under m.road.network m.road.weights
+  pub exact : AllZip (λ set cliques. IsExact (excluding set m) cliques) (exclusions m.road.network) sets
+
+-- the places where two weightings differ
+pub record AreChangesBetween (both : Weighting DurLen × Weighting DurLen) (changed : Changed) : Type 0 where
+  pub vertices : AreChanges both.0.vertex both.1.vertex changed.vertices
+  pub arcs : AreChanges both.0.arc both.1.arc changed.arcs
+
+-- Of the cells of a frame those that hold a vertex that costs other than before, or both ends of a turn that does, have n
 -- entries in all.
+pub record IsTouchedBy (frame : Framed) (before after : Weighting DurLen) (n : ℕ) : Type 0 where
+  pub changed : Changed
+  pub differ : AreChangesBetween (before, after) changed
+  pub touched : IsTouchedCount frame changed.vertices changed.arcs n
+
+-- Of the cells that these costs touch without exclusion, and for each set where just those who avoid it pay other than
+-- before, there are n entries in all; the count stands still at the end of 64 bits.
 pub record IsRemadeBy (m : Customized) (after : Weighting DurLen) (n : ℕ) : Type 0 where
-  pub vertices : List ℕ
-  pub arcs : List ℕ
-  pub in_vertices : AreChanges m.road.weights.vertex after.vertex vertices
-  pub in_arcs : AreChanges m.road.weights.arc after.arc arcs
-  pub touched : IsTouchedCount m.frame vertices arcs n
+  pub counts : List ℕ
+  pub each : AllZip (λ set count. IsTouchedBy m.frame (avoided m.road.network set m.road.weights) (avoided m.road.network set after) count) (exclusions m.road.network) counts
+  pub all : n ≡ min (sum counts) (2 ^ 64 - 1)

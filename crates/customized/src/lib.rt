@@ -6,6 +6,7 @@
 //! costs. [`Under`] is what an answer under a metric needs of it.
 #![tactic(auto)]
 
+mod bases;
 mod metrics;
 mod midpoints;
 mod roads;

@@ -1,18 +1,20 @@
 //! Metrics of roads, customized whole.
 
-ghost use Rattle.std.specs.Prelude.{◌≡◌, ◌↔◌, IfOk, length};
+ghost use Rattle.std.specs.Prelude.{◌≡◌, ◌<◌, ◌↔◌, IfOk, length};
+ghost use Rattle.std.specs.Option.{ForSome};
 ghost use Rattle.cell_frame.specs.Cliqued.{AreExact};
 ghost use Rattle.edge_graph.specs.NetworkView.{graph_of};
-ghost use Rattle.customized.specs.Exact.{IsRemadeBy, ShareRoads, customized_on, roads_of};
+ghost use Rattle.customized.specs.Exact.{IsRemadeBy, ShareRoads, customized_on, excluding, roads_of};
+ghost use Rattle.metric_make.specs.Avoiding.{avoided};
 ghost use Rattle.metric_make.specs.MetricOf.{IsMetricOn};
 ghost use Rattle.search_graph.specs.Durations.{durlen_ops};
 ghost use Rattle.search_graph.specs.Weighted.{AreSmall};
 
+use crate::bases::{Bases, changes, place_of};
 use crate::roads::Roads;
 use crate::under::Under;
-use cell_customize::customize_in_threads;
 use cell_frame::{Cliques, Frame};
-use cell_recustomize::{changed, recustomize_in_threads};
+use class_sets::{CliqueSets, customize_all, recustomize_all};
 use edge_graph::Network;
 use metric_make::BaseMetric;
 use metric_publish::entry::Kindred;
@@ -22,32 +24,34 @@ use std::marker::Model;
 use std::thread::Threads;
 
 /// What the vertices and turns of roads cost, with what cheapest walks cost inside each of their cells for
-/// just these costs. Contracts see the costs and the frame; that its cliques are exact for these costs is true
-/// of each metric.
+/// just these costs; and both for those who avoid a set of classes, for each set of the profile's `excludable`.
+/// Contracts see the costs without exclusion and the frame; that the costs for a set are those of `avoid`, and the
+/// cliques exact for just those costs beside which they stand, is true of each metric.
 pub struct Metric {
     roads: Roads,
-    base: BaseMetric,
-    cliques: Cliques<DurLen>,
+    bases: Bases,
+    cliques: CliqueSets<DurLen>,
 }
 
 impl Drop for Metric {
     fn drop(self) {
         let Metric {
             roads: _roads,
-            base: _base,
+            bases: _bases,
             cliques: _cliques,
         } = self;
     }
 }
 
 impl Model for Metric {
-    ghost use Rattle.customized.specs.Exact.{Customized, IsExact, customized_on};
+    ghost use Rattle.customized.specs.Exact.{Customized, IsExactForEach, customized_on};
+    ghost use Rattle.customized.specs.Excluding.{weights_in};
 
     ghost Value = { Customized };
 
-    ghost view = { λ m. customized_on m.roads m.base };
+    ghost view = { λ m. customized_on m.roads m.bases.plain };
 
-    ghost invariant = { λ m. IsExact (customized_on m.roads m.base) m.cliques };
+    ghost invariant = { λ m. IsExactForEach (customized_on m.roads m.bases.plain) (weights_in m.bases) m.cliques };
 }
 
 /// A metric that was made from another, and how many searches it took: one from each entry of each cell that the
@@ -71,9 +75,9 @@ impl Kindred for Metric {
 }
 
 impl Metric {
-    /// The metric of roads under these costs, which `base` of `metric_make` gives for their network. It
-    /// customizes all cells, those of a level side by side in threads, and answers an error only where memory
-    /// runs out.
+    /// The metric of roads under these costs, which `base` of `metric_make` gives for their network, and for each
+    /// set of classes of its profile under those that `avoid` gives. It customizes all cells for each of these costs,
+    /// those of a level side by side in threads, and answers an error only where memory runs out.
     pub fn make(
         rt: &(impl Threads + Sync),
         alloc: Global,
@@ -85,18 +89,20 @@ impl Metric {
     {
         let roads = roads.copy()?;
         known_small(&roads, &base);
-        let cliques = customize_in_threads(rt, alloc, roads.frame(), base.weights())?;
+        let bases = Bases::of(alloc, roads.network(), base)?;
+        let weights = bases.weights(alloc)?;
+        let cliques = customize_all(rt, alloc, roads.frame(), &weights)?;
         Ok(Metric {
             roads,
-            base,
+            bases,
             cliques,
         })
     }
 
     /// The metric of the same roads under these costs, which `base` of `metric_make` gives for their network: the
-    /// same as `make` gives. But it customizes only those cells, side by side in threads, that hold a vertex whose
-    /// costs change, or both ends of a turn whose costs do; all others keep what the old metric has of them. It
-    /// answers an error only where memory runs out.
+    /// same as `make` gives. But without exclusion, and for each set, it customizes only those cells, side by side in
+    /// threads, that hold a vertex whose costs change there, or both ends of a turn whose costs do; all others keep
+    /// what the old metric has of them. It answers an error only where memory runs out.
     pub fn remake(
         rt: &(impl Threads + Sync),
         alloc: Global,
@@ -107,20 +113,19 @@ impl Metric {
         ensures metric { IfOk result (λ made. made.metric ≡ customized_on (roads_of old.now) base) }
         ensures searches { IfOk result (λ made. IsRemadeBy old.now base.weights made.searches) }
     {
-        let shared = old.roads.copy()?;
-        known_small(&shared, &base);
+        let roads = old.roads.copy()?;
         let frame = old.frame();
-        let before = old.base().weights();
-        let after = base.weights();
-        let places = changed(alloc, frame.graph(), before, after)?;
-        let vertices = places.vertices.as_slice();
-        let arcs = places.arcs.as_slice();
-        let cliques = old.cliques();
-        let made = recustomize_in_threads(rt, alloc, frame, after, cliques, vertices, arcs)?;
+        let _small = old.base(None);
+        known_small(&roads, &base);
+        let bases = Bases::of(alloc, roads.network(), base)?;
+        let before = old.bases.weights(alloc)?;
+        let after = bases.weights(alloc)?;
+        let changes = changes(alloc, frame.graph(), &before, &after)?;
+        let made = recustomize_all(rt, alloc, frame, &after, &old.cliques, &changes)?;
         let metric = Metric {
-            roads: shared,
-            base,
-            cliques: made.cliques,
+            roads,
+            bases,
+            cliques: made.sets,
         };
         Ok(Remade {
             metric,
@@ -143,30 +148,35 @@ impl Metric {
         self.roads.frame()
     }
 
-    /// What the vertices and turns of the network cost.
-    pub fn base(&self) -> &BaseMetric
-        ensures value { result.now.weights ≡ self.now.road.weights }
-        ensures small { AreSmall durlen_ops (graph_of self.now.road.network) self.now.road.weights }
+    /// What the vertices and turns of the network cost, without exclusion or to those who avoid a set of the
+    /// profile's `excludable`.
+    pub fn base(&self, set: Option<u32>) -> &BaseMetric
+        requires { ForSome set (λ k. k < length self.now.road.network.profile.excludable) }
+        ensures value { result.now.weights ≡ avoided self.now.road.network set self.now.road.weights }
+        ensures small { AreSmall durlen_ops (graph_of self.now.road.network) (avoided self.now.road.network set self.now.road.weights) }
     {
-        &self.base
+        self.bases.get(set)
     }
 
     /// What cheapest walks cost inside the cells of the frame, under just these costs.
-    pub fn cliques(&self) -> &Cliques<DurLen>
-        ensures { AreExact durlen_ops self.now.frame self.now.road.weights result.now (length self.now.frame.cells.levels) }
+    pub fn cliques(&self, set: Option<u32>) -> &Cliques<DurLen>
+        requires { ForSome set (λ k. k < length self.now.road.network.profile.excludable) }
+        ensures { AreExact durlen_ops self.now.frame (avoided self.now.road.network set self.now.road.weights) result.now (length self.now.frame.cells.levels) }
     {
-        &self.cliques
+        self.cliques.get(place_of(set))
     }
 
-    /// What an answer under this metric needs of it.
-    pub fn under(&self) -> Under<'_>
-        ensures { result ≡ self.now }
+    /// What an answer under this metric needs of it, without exclusion or for those who avoid a set of the
+    /// profile's `excludable`.
+    pub fn under(&self, set: Option<u32>) -> Under<'_>
+        requires { ForSome set (λ k. k < length self.now.road.network.profile.excludable) }
+        ensures { result ≡ excluding set self.now }
     {
         Under {
             network: self.roads.network(),
             frame: self.roads.frame(),
-            base: &self.base,
-            cliques: &self.cliques,
+            base: self.base(set),
+            cliques: self.cliques(set),
         }
     }
 

@@ -15,7 +15,7 @@ use std::sync::Arc;
 
 /// How many vertices the cells of each level have at most, the lowest level first, where a server cuts its
 /// network.
-pub const SERVER_LIMITS: [u32; 4] = [256, 4096, 65536, 1048576];
+pub const SERVER_LIMITS: [u32; 5] = [256, 4096, 65536, 1048576, 16777216];
 
 /// A road network with the frame of its graph. Contracts see both.
 pub struct Roads {

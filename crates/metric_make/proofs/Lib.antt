@@ -1,3 +1,4 @@
+pub mod AvoidLemmas
 pub mod CostLemmas
 pub mod LastRowLemmas
 pub mod MatchLemmas

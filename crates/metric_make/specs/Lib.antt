@@ -1,3 +1,5 @@
+pub mod AvoidLaws
+pub mod Avoiding
 pub mod LastRows
 pub mod MetricOf
 pub mod RoadMetric

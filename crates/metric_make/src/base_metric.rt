@@ -3,10 +3,12 @@
 ghost use Rattle.std.specs.Prelude.{◌≡◌, ◌^◌, ◌<◌, IfOk, OnOk, Some, length};
 ghost use Rattle.std.specs.List.{slice_get};
 ghost use Rattle.std.specs.Option.{ForSome};
+ghost use Rattle.metric_make.specs.Avoiding.{avoided};
 ghost use Rattle.metric_make.specs.MetricOf.{AreWithinUnit, IsMetricOn, base_of, metric_of};
 ghost use Rattle.search_graph.specs.Durations.{durlen_ops};
 ghost use Rattle.traffic_files.specs.Ranges.{ArePenaltiesInRange, AreSpeedsInRange};
 
+use crate::avoiding::avoided_costs;
 use crate::turns::turn_costs;
 use crate::vertices::vertex_costs;
 use edge_graph::Network;
@@ -77,12 +79,36 @@ pub fn metric(
     let vertex = vertex_costs(alloc, network, speeds)?;
     let arc = turn_costs(alloc, network, turns)?;
     Ok(BaseMetric {
-        weights: small_weights(network.graph(), vertex.costs, arc.costs),
+        weights: small_weights(alloc, network.graph(), vertex.costs, arc.costs)?,
         unmatched: vertex.unmatched + arc.unmatched,
     })
 }
 
 impl BaseMetric {
+    /// The metric of those who avoid the classes of a set, that of this number among the profile's `excludable`:
+    /// each vertex of a way with one of these classes is closed. All else is as here: turns keep their costs, whose
+    /// memory both share, and so the number of exits that they were made by. It takes 8 bytes a vertex, and answers
+    /// an error only where memory runs out.
+    pub fn avoid(
+        &self,
+        alloc: Global,
+        network: &Network,
+        set: u32,
+    ) -> Result<BaseMetric, AllocError>
+        requires of { IsMetricOn network.now self.now.weights }
+        requires set { set < length network.now.profile.excludable }
+        ensures value { IfOk result (λ b. b ≡ record { weights = avoided network.now (Some set) self.now.weights; unmatched = self.now.unmatched }) }
+        ensures on { OnOk result (IsMetricOn network.now (avoided network.now (Some set) self.now.weights)) }
+    {
+        let names = &network.profile().excludable()[set as usize];
+        let vertex = avoided_costs(alloc, network, &self.weights, names)?;
+        let _few = network.graph();
+        Ok(BaseMetric {
+            weights: self.weights.with_vertices(alloc, vertex)?,
+            unmatched: self.unmatched,
+        })
+    }
+
     /// What vertex `v` costs, or None where it is closed. It takes less than 2^31 deciseconds, some seven years.
     pub fn vertex(&self, v: u32) -> Option<DurLen>
         requires { v < length self.now.weights.vertex }

@@ -3,6 +3,7 @@
 //! `worked_maps`.
 #![tactic(auto)]
 
+mod avoiding;
 mod base_metric;
 mod last_rows;
 mod speed_rows;

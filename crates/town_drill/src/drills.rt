@@ -42,7 +42,7 @@ fn line_on(
     ensures { IfOk result (λ line. IsLine roads.now.network n number (string_bytes line)) }
 {
     let metric = metric_of(rt, alloc, roads, n, number)?;
-    let under = metric.under();
+    let under = metric.under(None);
     let trips = trips_under(alloc, &under, grid, n, number)?;
     let text = line(alloc, number, &trips)?;
     Ok(text)

@@ -157,7 +157,7 @@ fn plain_line(
     requires number { number < 4 }
 {
     let metric = metric_of(rt, alloc, roads, TOWN, number)?;
-    trips_line(rt, alloc, &metric.under(), grid, number)
+    trips_line(rt, alloc, &metric.under(None), grid, number)
 }
 
 // The lines on all metrics of roads.

@@ -9,7 +9,7 @@ use crate::metrics::cost_told;
 use crate::networks::CAR;
 use crate::towns::{bend, network_of};
 use cell_frame::Cell;
-use customized::{Metric, Roads};
+use customized::{Metric, Roads, Under};
 use metric_make::base;
 use search_graph::DurLen;
 use std::alloc::{AllocError, Global};
@@ -26,12 +26,12 @@ fn vertices_told(alloc: Global, vertices: &[u32]) -> Result<String, AllocError> 
 }
 
 // What the walks cost inside a cell from its entry at this place to each exit.
-fn row_told(alloc: Global, metric: &Metric, cell: Cell, i: usize) -> Result<String, AllocError>
-    requires cell { IsCell metric.now.frame.cells cell }
-    requires entry { i < length (at_cell metric.now.frame.entries cell) }
+fn row_told(alloc: Global, under: &Under<'_>, cell: Cell, i: usize) -> Result<String, AllocError>
+    requires cell { IsCell under.now.frame.cells cell }
+    requires entry { i < length (at_cell under.now.frame.entries cell) }
 {
     let mut text = String::new(alloc);
-    let row = metric.cliques().row(metric.frame(), cell, i);
+    let row = under.cliques().row(under.frame(), cell, i);
     for j in 0..row.len() {
         text.push_str(cost_told(alloc, row.get(j))?.as_str())?;
     }
@@ -39,41 +39,41 @@ fn row_told(alloc: Global, metric: &Metric, cell: Cell, i: usize) -> Result<Stri
 }
 
 // The entries of a cell, its exits, and what the walks between them cost inside it.
-fn cell_told(alloc: Global, metric: &Metric, cell: Cell) -> Result<String, AllocError>
-    requires { IsCell metric.now.frame.cells cell }
+fn cell_told(alloc: Global, under: &Under<'_>, cell: Cell) -> Result<String, AllocError>
+    requires { IsCell under.now.frame.cells cell }
 {
-    let entries = metric.frame().entries(cell);
+    let entries = under.frame().entries(cell);
     let mut text = vertices_told(alloc, entries)?;
     text.push_str("to ")?;
-    text.push_str(vertices_told(alloc, metric.frame().exits(cell))?.as_str())?;
+    text.push_str(vertices_told(alloc, under.frame().exits(cell))?.as_str())?;
     for i in 0..entries.len() {
-        text.push_str(row_told(alloc, metric, cell, i)?.as_str())?;
+        text.push_str(row_told(alloc, under, cell, i)?.as_str())?;
     }
     Ok(text)
 }
 
 // The cell of each vertex at a level, and what each cell is.
-fn level_told(alloc: Global, metric: &Metric, level: u32) -> Result<String, AllocError>
+fn level_told(alloc: Global, under: &Under<'_>, level: u32) -> Result<String, AllocError>
     requires above { 1 ≤ level }
-    requires below { level ≤ length metric.now.frame.cells.levels }
+    requires below { level ≤ length under.now.frame.cells.levels }
 {
     let mut text = String::new(alloc);
-    for v in 0..metric.frame().graph().vertices() {
-        let number = metric.frame().cell(level, v).number;
+    for v in 0..under.frame().graph().vertices() {
+        let number = under.frame().cell(level, v).number;
         text.push_str(format!(in alloc; "{number} ")?.as_str())?;
     }
-    for number in 0..metric.frame().count(level) {
+    for number in 0..under.frame().count(level) {
         text.push_str("| ")?;
-        text.push_str(cell_told(alloc, metric, Cell { level, number })?.as_str())?;
+        text.push_str(cell_told(alloc, under, Cell { level, number })?.as_str())?;
     }
     Ok(text)
 }
 
 /// All levels of a metric, the lowest first.
-pub fn told(alloc: Global, metric: &Metric) -> Result<String, AllocError> {
+pub fn told(alloc: Global, under: &Under<'_>) -> Result<String, AllocError> {
     let mut text = String::new(alloc);
-    for below in 0..metric.frame().levels() {
-        text.push_str(level_told(alloc, metric, below + 1)?.as_str())?;
+    for below in 0..under.frame().levels() {
+        text.push_str(level_told(alloc, under, below + 1)?.as_str())?;
         text.push_str("; ")?;
     }
     Ok(text)
@@ -90,12 +90,17 @@ pub fn boxed_metric(
     Ok(Box::new(alloc, metric)?)
 }
 
-/// The roads of a map, cut into cells by these limits, in a box.
-pub fn boxed_roads(alloc: Global, map: &str, limits: &[u32]) -> Result<Box<Roads>, AllocError>
+/// The roads of a map under these settings, cut into cells by these limits, in a box.
+pub fn boxed_roads(
+    alloc: Global,
+    map: &str,
+    settings: &str,
+    limits: &[u32],
+) -> Result<Box<Roads>, AllocError>
     requires ascending { IsStrictlyIncreasing limits.now }
     requires some { All (λ limit. 1 ≤ limit) limits.now }
 {
-    let Ok(network) = network_of(alloc, map, CAR) else {
+    let Ok(network) = network_of(alloc, map, settings) else {
         return Err(AllocError);
     };
     let roads = Roads::of(alloc, Box::into_inner(network), limits)?;
@@ -112,7 +117,7 @@ pub fn customized(
     requires ascending { IsStrictlyIncreasing limits.now }
     requires some { All (λ limit. 1 ≤ limit) limits.now }
 {
-    let roads = boxed_roads(alloc, map, limits)?;
+    let roads = boxed_roads(alloc, map, CAR, limits)?;
     boxed_metric(rt, alloc, &roads)
 }
 
@@ -123,7 +128,7 @@ pub fn assert_told(
     metric: &Metric,
     want: &str,
 ) -> Result<(), AllocError> {
-    let got = told(alloc, metric)?;
+    let got = told(alloc, &metric.under(None))?;
     assert_eq!(rt; got.as_str(), want);
     Ok(())
 }
@@ -173,7 +178,7 @@ fn a_street_round_a_block_is_cut_by_its_segments(rt: HostRuntime) -> Result<(), 
 // Asserts which parts the metric of the bend gives.
 fn assert_parts(rt: &impl Abort, metric: &Metric) {
     metric.kin(metric);
-    let under = metric.under();
+    let under = metric.under(None);
     assert_eq!(rt;
         (under.network().segments(), under.network().turns()),
         (2, 4)

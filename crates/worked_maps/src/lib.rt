@@ -5,6 +5,8 @@
 #[cfg(test)]
 mod cells;
 #[cfg(test)]
+mod exclusions;
+#[cfg(test)]
 mod geometry;
 #[cfg(test)]
 mod hard_maps;

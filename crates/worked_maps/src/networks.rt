@@ -116,11 +116,11 @@ fn assert_to_and_fro(
     assert_built(rt, alloc, map.as_str(), want)
 }
 
-// 2 * 5794 * 5793 turns are more than 2^26, and 4194305 segments more than 2^22.
+// 2 * 8193 * 8192 turns are more than 2^27, and 16777217 segments more than 2^24.
 #[test]
 fn past_the_limits_no_network_is_built(rt: HostRuntime) -> Result<(), AllocError> {
-    assert_to_and_fro(&rt, rt.alloc(), 5794, "too many turns")?;
-    assert_to_and_fro(&rt, rt.alloc(), 4194305, "too many segments")
+    assert_to_and_fro(&rt, rt.alloc(), 8193, "too many turns")?;
+    assert_to_and_fro(&rt, rt.alloc(), 16777217, "too many segments")
 }
 
 // The turns of a network, how many restrictions apply in it, and how many are ignored.

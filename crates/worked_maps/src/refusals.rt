@@ -8,6 +8,7 @@ ghost use Rattle.std.specs.List.Sorted.{IsStrictlyIncreasing};
 
 use crate::cells::{RING, boxed_metric, boxed_roads, told};
 use crate::metrics::cost_told;
+use crate::networks::CAR;
 use crate::remaking::boxed_remade;
 use crate::towns::bend;
 use customized::{Metric, Remade, Roads};
@@ -19,7 +20,7 @@ use std::thread::Threads;
 fn costs_told(alloc: Global, metric: &Metric) -> Result<String, AllocError> {
     let mut text = String::new(alloc);
     for v in 0..metric.frame().graph().vertices() {
-        text.push_str(cost_told(alloc, metric.base().vertex(v))?.as_str())?;
+        text.push_str(cost_told(alloc, metric.base(None).vertex(v))?.as_str())?;
     }
     Ok(text)
 }
@@ -28,7 +29,7 @@ fn costs_told(alloc: Global, metric: &Metric) -> Result<String, AllocError> {
 fn lists_told(alloc: Global, metric: &Metric) -> Result<String, AllocError> {
     let mut text = costs_told(alloc, metric)?;
     text.push_str("; ")?;
-    text.push_str(told(alloc, metric)?.as_str())?;
+    text.push_str(told(alloc, &metric.under(None))?.as_str())?;
     Ok(text)
 }
 
@@ -57,9 +58,9 @@ fn roads_again(alloc: Global, map: &str, limits: &[u32]) -> Result<Box<Roads>, A
     requires ascending { IsStrictlyIncreasing limits.now }
     requires some { All (λ limit. 1 ≤ limit) limits.now }
 {
-    match boxed_roads(alloc, map, limits) {
+    match boxed_roads(alloc, map, CAR, limits) {
         Ok(roads) => Ok(roads),
-        Err(_) => boxed_roads(alloc, map, limits),
+        Err(_) => boxed_roads(alloc, map, CAR, limits),
     }
 }
 

@@ -66,8 +66,10 @@ pub fn crossing(alloc: Global, at_middle: &str, more: &str) -> Result<String, Al
 /// A way 1 that goes to and fro between nodes 1 and 2 so many times.
 pub fn to_and_fro(alloc: Global, segments: usize) -> Result<String, AllocError> {
     let mut text = String::from_str(alloc, "n1 x0 y0\nn2 x0.001 y0\nw1 Thighway=residential Nn1")?;
-    for i in 0..segments {
-        text.push_str(if i % 2 == 0 { ",n2" } else { ",n1" })?;
+    let twos = ",n2,n1".repeat(alloc, segments / 2)?;
+    text.push_str(twos.as_str())?;
+    if segments % 2 == 1 {
+        text.push_str(",n2")?;
     }
     Ok(text)
 }

@@ -8,6 +8,6 @@ use Rattle.worked_maps.proofs.cells.row_told.Goals as goal
 -- the cliques have a row for each entry
 pub row-row-requires-clause-has : goal.row-row-requires-clause-has
 row-row-requires-clause-has c =
-    let entries = at_cell c.args.metric.now.frame.entries c.args.cell in
+    let entries = at_cell c.args.under.now.frame.entries c.args.cell in
     let exact = c.cliques.ensures c.args.cell c.args.i (get_or entries c.args.i 0) c.requires.cell c.requires.cell.1 (slice_get-get_or entries c.args.i 0 c.requires.entry) in
     subst (λ (f : Framed). (row : List (Option DurLen)) × HasCellRow f c.cliques.result.now c.args.cell c.args.i row) (sym c.frame.ensures.value) (exact.0, exact.1)
