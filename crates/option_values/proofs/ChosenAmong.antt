@@ -1,5 +1,5 @@
 -- Chosen coordinates, where they are there.
-use Rattle.std.proofs.Common.{◌≡◌, ℕ, true, false, cond, ltb, List, codes, Option, Some, None, ◌∙◌, ap, option_map}
+use Rattle.std.proofs.Common.{◌≡◌, ℕ, true, false, cond, ltb, List, codes, Some, None, ◌∙◌, ap, option_map}
 use Rattle.std.specs.List.{list_all}
 use Rattle.std.specs.Str.{bytes_eq}
 use Rattle.option_values.specs.Entries.{among, chosen_among}

@@ -1,15 +1,11 @@
 -- The kept digits of a distance, and what they make.
-use Rattle.std.proofs.Common.{◌≡◌, ℕ, ◌+◌, ◌-◌, ◌*◌, ◌^◌, ◌<◌, ◌≤◌, Bool, true, false, ◌||◌, cond, List, [], ◌∷◌, ◌++◌, length, take, codes, get_or, Option, Some, None, refl, sym, ◌∙◌, ap, ap₂, arith}
+use Rattle.std.proofs.Common.{◌≡◌, ℕ, ◌+◌, ◌-◌, ◌*◌, ◌^◌, ◌≤◌, true, cond, List, ◌++◌, Option, Some, None, sym, ◌∙◌, ap, ap₂, arith}
 use Rattle.std.specs.Char.{is_ascii_digit, digit_value}
-use Rattle.std.specs.Option.{is_none}
-use Rattle.std.specs.List.{position}
 use Rattle.std.specs.Str.Parse.{digits_value}
-use Rattle.std.proofs.lemmas.Bool.{and_parts, and_from, and_left, and_right, or_right, le-ltb}
+use Rattle.std.proofs.lemmas.Bool.{le-ltb}
 use Rattle.std.proofs.lemmas.Int.Digits.{digits_value_push}
 use Rattle.std.proofs.lemmas.Bool.Decides.{nat_tests}
-use Rattle.decimal_text.specs.Numeral.{is_numeral}
-use Rattle.decimal_text.specs.Decimal.{is_point, before_point, after_point, is_unsigned_decimal}
-use Rattle.option_values.specs.Cutting.{IsCut, IsUncut}
+use Rattle.decimal_text.specs.Decimal.{is_unsigned_decimal}
 use Rattle.option_values.specs.Kept.{AreKept}
 use Rattle.option_values.specs.Values.{decimetres_of, limited}
 

@@ -1,14 +1,13 @@
 -- What `parse` gives for digits.
-use Rattle.std.proofs.Common.{◌≡◌, ℕ, ◌+◌, ◌*◌, ◌^◌, ◌<◌, ◌≤◌, Bool, true, false, not, ◌&&◌, cond, eqb, leb, List, [], ◌∷◌, ◌++◌, length, Option, Some, None, Result, Ok, Err, refl, sym, ◌∙◌, ap, ap₂, arith, rules, inl, inr}
+use Rattle.std.proofs.Common.{◌≡◌, ℕ, ◌^◌, ◌<◌, ◌≤◌, Bool, true, false, not, ◌&&◌, cond, eqb, leb, List, [], ◌∷◌, length, Some, None, Result, Ok, Err, refl, sym, ◌∙◌, ap, arith, rules, inl, inr}
 use Rattle.std.specs.Char.{is_ascii_digit}
 use Rattle.std.specs.List.{list_all}
-use Rattle.std.specs.Option.{option_and_then}
 use Rattle.std.specs.Result.{result_ok, OkIff}
 use Rattle.std.specs.Str.Parse.{digits_value, ParsesUnsigned}
-use Rattle.std.proofs.lemmas.Bool.{le-leb, lt-leb, leb-false, leb-true, and_parts, and_right, cases_lt}
+use Rattle.std.proofs.lemmas.Bool.{le-leb, leb-true, and_parts, cases_lt}
 use Rattle.std.proofs.lemmas.Str.Parse.{IsNumeralModel, numerals_by_value, parse_digits, digits_value_short}
 use Rattle.decimal_text.specs.Numeral.{is_numeral}
-use Rattle.option_values.specs.Values.{number_up_to, short_number_of, since_of}
+use Rattle.option_values.specs.Values.{short_number_of, since_of}
 
 pub own : IsNumeralModel (λ ds. list_all (λ b. is_ascii_digit b) ds ≡ true) (digits_value 10)
 own = numerals_by_value _ (search rules)

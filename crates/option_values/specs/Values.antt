@@ -1,7 +1,7 @@
 -- What the values of options stand for (OSRM's HTTP API, version 1; which numbers are too great, and that a
 -- radius is kept in whole decimetres, is this project's rule). Each definition gives None for a text that is
 -- not of the option's grammar.
-use Rattle.std.specs.Prelude.{ℕ, ◌==◌, Bool, true, false, not, ◌&&◌, ◌||◌, List, [], ◌∷◌, ◌++◌, take, length, map, codes, bytes_eq, nat_lt, nat_le, Option, Some, None, is_some, option_map, if◌then◌else◌}
+use Rattle.std.specs.Prelude.{ℕ, ◌==◌, Bool, true, false, not, ◌&&◌, ◌||◌, List, [], ◌∷◌, ◌++◌, take, length, map, codes, bytes_eq, nat_lt, nat_le, Option, Some, None, option_map, if◌then◌else◌}
 use Rattle.std.specs.List.{before_first, after_first, list_all, list_any, slice_split}
 use Rattle.std.specs.Str.{byte}
 use Rattle.std.specs.Str.Parse.{digits_value}
@@ -108,6 +108,10 @@ alternatives_of text =
 -- the names of a value, parted by commas
 abbrev pub names_of : List ℕ → List (List ℕ)
 names_of text = slice_split (λ b. b == byte ",") text
+
+-- names of classes of ways, none of which is empty
+abbrev pub excluded_of : List ℕ → Option (List (List ℕ))
+excluded_of text = if list_all (λ name. not (length name == 0)) (names_of text) then Some (names_of text) else None
 
 abbrev pub is_annotation : List ℕ → Bool
 is_annotation name =

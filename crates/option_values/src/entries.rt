@@ -5,6 +5,7 @@ ghost use Rattle.std.specs.List.{slice_split};
 ghost use Rattle.option_values.specs.Entries.{one_each};
 ghost use Rattle.option_values.specs.Values.{all_read, hint_of};
 
+use crate::cutting::parts_of;
 use crate::entry_lists::Hints;
 use crate::option_types::{Approach, Bearing};
 use road_base::Text;
@@ -87,23 +88,12 @@ pub fn hints_each(
     let Some(value) = value else {
         return Ok(Some(empty_texts(alloc, count)?));
     };
-    let hints = hints_in(alloc, value)?;
+    let hints = parts_of(alloc, ';', value)?;
     if hints.len() == count {
         Ok(Some(hints))
     } else {
         Ok(None)
     }
-}
-
-// The parts of a value.
-fn hints_in(alloc: Global, value: &str) -> Result<Vec<Text>, AllocError>
-    ensures { IfOk result (λ hints. all_read hint_of value.now ≡ Some hints.items) }
-{
-    let mut hints = Vec::new(alloc);
-    for text in value.split(';') {
-        hints.push(Text::copy_of(alloc, text)?)?;
-    }
-    Ok(hints)
 }
 
 // So many empty texts.

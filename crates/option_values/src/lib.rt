@@ -14,6 +14,7 @@ mod decimetres;
 mod entries;
 mod entry_lists;
 mod entry_values;
+mod excluded_names;
 mod option_types;
 mod values;
 mod whole_numbers;
@@ -22,6 +23,7 @@ pub use chosen_lists::{chosen_among, is_chosen};
 pub use cutting::cut;
 pub use entries::{Entry, are_read, hints_each, one_each};
 pub use entry_lists::{Approaches, Bearings, Hints, Indexes, Radiuses};
+pub use excluded_names::{excluded_of, is_exclusion};
 pub use option_types::{
     Alternatives, Approach, Bearing, Chosen, ContinueStraight, Destination, Geometries, Overview,
     RouteAnnotations, Snapping, Source, TableAnnotations,

@@ -1,5 +1,5 @@
 -- How an answer comes from its parts.
-use Rattle.std.proofs.Common.{◌≡◌, inl, inr, ℕ, zero, suc, Bool, true, false, eqb, ap₂, map, ◌<◌, ◌≤◌, ◌^◌, List, [], ◌∷◌, length, sym, ap, subst, refl, ◌∙◌, arith}
+use Rattle.std.proofs.Common.{◌≡◌, inl, inr, ℕ, zero, suc, Bool, true, false, eqb, ap₂, map, ◌<◌, ◌≤◌, ◌^◌, ◌*◌, List, [], ◌∷◌, length, sym, ap, subst, refl, ◌∙◌, arith}
 use Rattle.std.specs.Prelude.{All, Option, Some, Result, Ok, Err, IfErr, option_map}
 use Rattle.std.specs.Result.{IsErrAnd}
 use Rattle.std.specs.List.{AllByRecursion, AllZip, slice_get, zip}
@@ -161,12 +161,12 @@ route-told number skip telling points road network base places given routes walk
     ∙ ap (λ (x : List Route). route_reply number skip telling (driving_side road.network.profile) (legs_told road places x) (waypoints_of road.network.segments points places)) r
 
 -- and its legs are told in steps that add up
-pub told-in-steps : (road : RoadMetric) (network : NetworkView) (graph : Digraph) (places given : List Place) (routes : List Route) → network ≡ road.network → graph ≡ graph_of network → given ≡ places
-    → IsSimple network.turns → AllInRange graph.vertices graph.arcs → ((k : ℕ) (place : Place) → slice_get places k ≡ Some place → IsPlaceOn road.network place) → AreAlong road places routes → All IsToldInSteps (legs_told road given routes)
-told-in-steps road network graph places given routes n g p simple range on along =
+pub told-in-steps : (road : RoadMetric) (network : NetworkView) (places given : List Place) (routes : List Route) → network ≡ road.network → given ≡ places
+    → IsSimple network.turns → AllInRange (2 * length network.segments) network.turns → ((k : ℕ) (place : Place) → slice_get places k ≡ Some place → IsPlaceOn road.network place) → AreAlong road places routes → All IsToldInSteps (legs_told road given routes)
+told-in-steps road network places given routes n p simple range on along =
     subst (λ (x : List Place). All IsToldInSteps (legs_told road x routes)) (sym p)
     (legs_told-steps road places routes (subst (λ (x : NetworkView). IsSimple x.turns) n simple)
-    (subst (λ (x : NetworkView). AllInRange (graph_of x).vertices (graph_of x).arcs) n (subst (λ (x : Digraph). AllInRange x.vertices x.arcs) g range)) on along)
+    (subst (λ (x : NetworkView). AllInRange (2 * length x.segments) x.turns) n range) on along)
 
 -- the first places on one road are those on the same one
 pub firsts-on : (road : RoadMetric) (network : NetworkView) (base : MetricView) (asked : Point × Filter) (number : ℕ) (found : List Snapped) → network ≡ road.network → base.weights ≡ road.weights

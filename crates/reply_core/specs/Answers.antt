@@ -1,8 +1,9 @@
 -- What an answer to a target, or to a line, is, over a road network under one metric that was published under
 -- a number. The cases exclude each other and leave nothing out: the line is of no form; the target is refused;
--- the request asks for a higher number; a coordinate has no place; a leg of a route has no permitted walk, or each
+-- the classes that the request excludes are no set of the profile; and, under the metric that avoids this set, the
+-- request asks for a higher number; a coordinate has no place; a leg of a route has no permitted walk, or each
 -- trip has such a leg; there is what the request asks for.
-use Rattle.std.specs.Prelude.{◌≡◌, ℕ, ◌<◌, ◌⊎◌, List, [], ◌∷◌, All, map, Option, Some, None, Result, Ok, Err, length}
+use Rattle.std.specs.Prelude.{◌≡◌, ℕ, ◌<◌, ◌⊎◌, List, [], ◌∷◌, All, map, Option, Some, None, Result, Ok, Err, codes, length}
 use Rattle.std.proofs.Common.{inl, inr, refl}
 use Rattle.std.specs.List.{AllZip}
 use Rattle.road_base.specs.declared.coordinates.Point.{Point}
@@ -22,6 +23,8 @@ use Rattle.url_read.specs.declared.requests.Service.{Service}
 use Rattle.url_read.specs.declared.requests.Service.TheVariants as service
 use Rattle.url_read.specs.declared.requests.TableOptions.{TableOptions}
 use Rattle.url_read.specs.declared.requests.TripOptions.{TripOptions}
+use Rattle.class_sets.specs.Sets.{set_among}
+use Rattle.metric_make.specs.Avoiding.{avoiding}
 use Rattle.metric_make.specs.RoadMetric.{RoadMetric}
 use Rattle.road_places.specs.declared.walks.Route.{Route}
 use Rattle.road_walks.specs.Legs.{AreAlong, AreLeastRoutes}
@@ -142,6 +145,16 @@ SaysFound road number request (service.Trip own) answer = SaysTrip road number r
 abbrev pub IsReply : RoadMetric → ℕ → Request → Answer → Type 0
 IsReply road number request answer = SaysLack road number request answer ⊎ SaysFound road number request request.service answer
 
+-- the same for those who avoid the set of this number, or that there is no such set
+abbrev pub IsReplyAvoiding : RoadMetric → ℕ → Request → Option ℕ → Answer → Type 0
+IsReplyAvoiding road number request (Some set) answer = IsReply (avoiding (Some set) road) number request answer
+IsReplyAvoiding road number request None answer = Refuses answer code.InvalidValue (refusal_value code.InvalidValue (codes "exclude"))
+
+-- the same where the request excludes classes by their names, which are to be those of a set of the profile, or none
+abbrev pub IsReplyExcluding : RoadMetric → ℕ → Request → Option (List (List ℕ)) → Answer → Type 0
+IsReplyExcluding road number request (Some names) answer = IsReplyAvoiding road number request (set_among road.network.profile.excludable names) answer
+IsReplyExcluding road number request None answer = IsReply road number request answer
+
 -- the code of the answer to a target that is refused
 abbrev pub code_of : RefusalCode → Code
 code_of refused.InvalidUrl = code.InvalidUrl
@@ -154,7 +167,7 @@ code_of refused.TooBig = code.TooBig
 
 -- the answer to a request, or to the target that was refused
 abbrev pub IsRequestAnswer : RoadMetric → ℕ → Result Request Refusal → Answer → Type 0
-IsRequestAnswer road number (Ok request) answer = IsReply road number request answer
+IsRequestAnswer road number (Ok request) answer = IsReplyExcluding road number request request.exclude answer
 IsRequestAnswer road number (Err refusal) answer = Refuses answer (code_of refusal.code) (refusal_value (code_of refusal.code) refusal.message)
 
 -- the answer is one to the target

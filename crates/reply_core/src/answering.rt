@@ -1,7 +1,6 @@
 //! Answers to targets and to lines.
 
 ghost use Rattle.std.specs.Prelude.{◌≡◌, IfOk, option_map};
-ghost use Rattle.std.specs.Arc.{arc_value};
 ghost use Rattle.snap_index.specs.Ends.{all_ends};
 ghost use Rattle.reply_core.specs.Answers.{IsAnswer, IsLineAnswer, Refuses, code_of, status_of};
 ghost use Rattle.reply_core.specs.Request.{target_of};
@@ -9,8 +8,9 @@ ghost use Rattle.refusal_texts.specs.Refusals.{bad_request_value, refusal_value}
 ghost use Rattle.refusal_texts.specs.declared.reply_codes.Code.TheVariants as code;
 
 use crate::answers::{Answer, ReplyFault};
-use crate::request_answers::{refusal, request_answer};
-use customized::{Metric, Under};
+use crate::excluding_answers::excluding_answer;
+use crate::request_answers::refusal;
+use customized::Metric;
 use metric_publish::held::Held;
 use refusal_texts::{Code, bad_request_text, refusal_text};
 use snap_index::Grid;
@@ -22,7 +22,8 @@ use url_read::{Refusal, RefusalCode, RequestFault, request};
 const LONGEST_LINE: usize = 8192;
 
 /// The answer to a target under what was published: a refusal with status 400 for a target that is no request,
-/// for a request that asks for a higher number, for the first coordinate that has no place, for the first leg of a
+/// for a request that excludes classes of ways which are no set of the profile, or under the metric for those who
+/// avoid them for a request that asks for a higher number, for the first coordinate that has no place, for the first leg of a
 /// route that has no permitted walk, or where each trip has such a leg, the first that applies; else, with status
 /// 200, a least route, a table of what least walks cost, its rows side by side in threads, the nearest places, or the
 /// best trip. The grid is that of the metric's network.
@@ -35,12 +36,11 @@ pub fn answer(
     grid: &Grid,
     target: &[u8],
 ) -> Result<Answer, ReplyFault>
-    requires { grid.now ≡ all_ends (arc_value held.now.value).road.network.segments }
-    ensures says { IfOk result (IsAnswer (arc_value held.now.value).road held.now.number target.now) }
+    requires { grid.now ≡ all_ends held.now.value.road.network.segments }
+    ensures says { IfOk result (IsAnswer held.now.value.road held.now.number target.now) }
     ensures status { IfOk result (λ answer. answer.status ≡ status_of answer.code) }
 {
-    let under = held.value().under();
-    target_answer(rt, alloc, &under, held.number(), grid, target)
+    target_answer(rt, alloc, held.value(), held.number(), grid, target)
 }
 
 /// The answer to a line, which stands without its newline: `answer`'s to the target of a line `GET TARGET` that
@@ -55,8 +55,8 @@ pub fn line_answer(
     grid: &Grid,
     line: &[u8],
 ) -> Result<Answer, ReplyFault>
-    requires { grid.now ≡ all_ends (arc_value held.now.value).road.network.segments }
-    ensures says { IfOk result (IsLineAnswer (arc_value held.now.value).road held.now.number line.now) }
+    requires { grid.now ≡ all_ends held.now.value.road.network.segments }
+    ensures says { IfOk result (IsLineAnswer held.now.value.road held.now.number line.now) }
     ensures status { IfOk result (λ answer. answer.status ≡ status_of answer.code) }
 {
     match target_in(line) {
@@ -69,17 +69,17 @@ pub fn line_answer(
 fn target_answer(
     rt: &(impl Threads + Sync),
     alloc: Global,
-    under: &Under<'_>,
+    metric: &Metric,
     number: u32,
     grid: &Grid,
     target: &[u8],
 ) -> Result<Answer, ReplyFault>
-    requires { grid.now ≡ all_ends under.now.road.network.segments }
-    ensures says { IfOk result (IsAnswer under.now.road number target.now) }
+    requires { grid.now ≡ all_ends metric.now.road.network.segments }
+    ensures says { IfOk result (IsAnswer metric.now.road number target.now) }
     ensures status { IfOk result (λ answer. answer.status ≡ status_of answer.code) }
 {
     match request(alloc, target) {
-        Ok(request) => request_answer(rt, alloc, under, number, grid, &request),
+        Ok(request) => excluding_answer(rt, alloc, metric, number, grid, &request),
         Err(RequestFault::Refused(refusal)) => Ok(refused(alloc, refusal)?),
         Err(RequestFault::Memory) => Err(ReplyFault::Memory),
     }

@@ -1,6 +1,8 @@
 //! Answers: from one target, or one line, and one published metric to the bytes of the reply.
 //!
-//! [`answer`] and [`line_answer`] do all of it, and `specs/Answers` says what they answer, by cases. `specs/`
+//! [`answer`] and [`line_answer`] do all of it, and `specs/Answers` says what they answer, by cases. A target is read
+//! once; then the set of classes of ways that it excludes is chosen, once, in `excluding_answers`, and all that follows
+//! goes over the metric of those who avoid it and knows of no sets. `specs/`
 //! has the definitions, to be read in this order: `Request` (which lines have a target; what a target asks
 //! for is told by `url_read`), `Asked` (the coordinates with their filters), `TripAsked` (which orders of them a trip
 //! may have), `Lacks` (what a request may lack under a metric) and `Answers` (what is due to each service). Where a coordinate stands on the roads is told by
@@ -16,6 +18,7 @@ mod answering;
 mod answers;
 mod asked_places;
 mod chosen_ends;
+mod excluding_answers;
 mod lacks;
 mod nearest_answers;
 mod request_answers;

@@ -78,9 +78,8 @@ fn told(
     ensures tells { IfOk result (λ answer. Tells answer code.Ok (route_reply number request.now.skip_waypoints own.now.telling (driving_side under.now.road.network.profile) (legs_told under.now.road places.items routes.items) (waypoints_of under.now.road.network.segments request.now.points places.items))) }
 {
     let (network, base) = (under.network(), under.base());
-    // by these the steps are proved to add up
-    let turns = network.graph();
-    turns.known();
+    // by what is known of the turns the steps are proved to add up
+    let _turns = network.graph();
     let telling = &own.telling;
     let text = route_text(
         alloc, network, base, number, request, telling, &places, &routes,

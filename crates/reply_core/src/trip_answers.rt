@@ -84,9 +84,8 @@ fn told(
     ensures status { IfOk result (λ answer. answer.status ≡ status_of answer.code) }
 {
     let (network, base) = (under.network(), under.base());
-    // by these the steps are proved to add up
-    let turns = network.graph();
-    turns.known();
+    // by what is known of the turns the steps are proved to add up
+    let _turns = network.graph();
     let telling = &own.telling;
     let order = trip.best.order.as_slice();
     let stops = trip.stops.as_slice();

@@ -129,8 +129,8 @@ fn check_over<O: Sink>(alloc: Global, map: Vec<u8>, settings: &[u8], output: &mu
 }
 
 /// Puts how many objects there are in the map in the file of the first name, and what its network is for
-/// the vehicle of the settings in the second: eight lines. The files are read first, in this order. It
-/// waits for nobody but the outside.
+/// the vehicle of the settings in the second: eight lines, and two more where the settings have sets of classes that
+/// a request may exclude. The files are read first, in this order. It waits for nobody but the outside.
 pub fn check<F: Files, O: Sink>(
     alloc: Global,
     map: &str,

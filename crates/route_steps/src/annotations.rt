@@ -48,7 +48,8 @@ pub fn annotate(
     ensures nodes { IfOk result (λ a. a.nodes ≡ nodes_along network.now.segments walk.now) }
     ensures sums { IfOk result (λ a. (d : DurLen) → IsPermitted (road_of network.now base.now) from to walk.now d → AddUpTo (road_of network.now base.now) walk.now a.paid d) }
 {
-    network.graph().known();
+    // tells a proof that all turns are in range
+    let _turns = network.graph();
     let paid = paid_along(alloc, base, walk, from, to)?;
     let nodes = nodes_along(alloc, network, walk)?;
     Ok(Annotation { paid, nodes })

@@ -23,7 +23,8 @@ pub fn leg_points(
     requires to { IsPlaceOn network.now to }
     ensures { IfOk result (λ points. points ≡ points_along network.now.segments from to walk.now) }
 {
-    network.graph().known();
+    // tells a proof that all turns are in range
+    let _turns = network.graph();
     let mut points = Vec::with_capacity(alloc, walk.len() + 1)?;
     points.push(network.point(from))?;
     push_ends(&mut points, network, &walk[..walk.len() - 1])?;

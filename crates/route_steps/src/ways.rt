@@ -40,7 +40,8 @@ pub(crate) fn ways_behind(alloc: Global, network: &Network, d: u32) -> Result<Ve
     ensures ways { IfOk result (λ ways. ways.items ≡ map (way_on network.now) (ways_behind network.now d)) }
     ensures few { IfOk result (λ ways. length ways.items < 2 ^ 32) }
 {
-    network.graph().known();
+    // tells a proof that there are few vertices
+    let _turns = network.graph();
     let mut ways = with_bearings(alloc, network, network.leaving(network.head(d)))?;
     ways.sort_by_key(|way| way.bearing)?;
     Ok(ways)

@@ -1,9 +1,9 @@
 -- The options of a query judged and read: the first that is no option of the service or not of its grammar is
 -- refused, then the first list that does not fit the number of coordinates (this project's rule).
-use Rattle.std.specs.Prelude.{ℕ, Bool, true, false, not, ◌==◌, ◌&&◌, List, [], codes, Option, None, Result, Ok, option_map}
+use Rattle.std.specs.Prelude.{ℕ, Bool, true, false, not, ◌==◌, ◌&&◌, List, [], codes, Option, None, Result, Ok, option_and_then, option_map}
 use Rattle.std.specs.List.{find, list_any}
 use Rattle.std.specs.Str.{byte}
-use Rattle.option_values.specs.Values.{truth_of, radius_of, bearing_of, approach_of, hint_of, snapping_of, since_of, number_of, alternatives_of, route_annotations_of, every_annotation, geometries_of, overview_of, continue_straight_of, source_of, destination_of, table_annotations_of}
+use Rattle.option_values.specs.Values.{truth_of, radius_of, bearing_of, approach_of, hint_of, snapping_of, since_of, excluded_of, number_of, alternatives_of, route_annotations_of, every_annotation, geometries_of, overview_of, continue_straight_of, source_of, destination_of, table_annotations_of}
 use Rattle.option_values.specs.Entries.{one_each, chosen_among}
 use Rattle.url_read.specs.Options.{name_of, value_of, is_of, last_value_of, read_or}
 use Rattle.url_read.specs.Refusals.{bad_option, and_then, or_else}
@@ -118,4 +118,5 @@ values_for service count options =
       skip_waypoints = read_or false truth_of (codes "skip_waypoints") options;
       snapping = read_or snapping.Default snapping_of (codes "snapping") options;
       since = read_or 0 since_of (codes "since") options;
+      exclude = option_and_then excluded_of (last_value_of (codes "exclude") options);
     }))))))

@@ -4,7 +4,7 @@ use Rattle.std.specs.Prelude.{ℕ, Bool, true, false, ◌==◌, ◌||◌, List, 
 use Rattle.std.specs.Option.{option_or}
 use Rattle.std.specs.List.{before_first, after_first, slice_split}
 use Rattle.std.specs.Str.{byte}
-use Rattle.option_values.specs.Values.{truth_of, all_read, radius_of, bearing_of, approach_of, snapping_of, since_of, number_of, alternatives_of, route_annotations_of, geometries_of, overview_of, continue_straight_of, source_of, destination_of, table_annotations_of, chosen_of}
+use Rattle.option_values.specs.Values.{truth_of, all_read, radius_of, bearing_of, approach_of, snapping_of, since_of, excluded_of, number_of, alternatives_of, route_annotations_of, geometries_of, overview_of, continue_straight_of, source_of, destination_of, table_annotations_of, chosen_of}
 use Rattle.url_read.specs.declared.service_names.ServiceName.{ServiceName}
 use Rattle.url_read.specs.declared.service_names.ServiceName.TheVariants.{Route, Table, Nearest, Trip}
 
@@ -43,7 +43,8 @@ is_common name value =
     else (if bytes_eq name (codes "skip_waypoints") then is_some (truth_of value)
     else (if bytes_eq name (codes "snapping") then is_some (snapping_of value)
     else (if bytes_eq name (codes "since") then is_some (since_of value)
-    else false)))))))
+    else (if bytes_eq name (codes "exclude") then is_some (excluded_of value)
+    else false))))))))
 
 -- of the services that tell of routes
 abbrev pub is_of_telling : List ℕ → List ℕ → Bool

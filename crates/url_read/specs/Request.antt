@@ -82,6 +82,7 @@ request_at values points = record {
   skip_waypoints = values.skip_waypoints;
   snapping = values.snapping;
   since = values.since;
+  exclude = values.exclude;
 }
 
 -- eighth, each coordinate is on the Earth

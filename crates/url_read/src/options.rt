@@ -6,8 +6,8 @@ ghost use Rattle.url_read.specs.Options.{name_of, value_named, is_common, is_of_
 use crate::service_names::ServiceName;
 use option_values::{
     Approach, Bearing, alternatives_of, are_read, continue_straight_of, cut, destination_of,
-    geometries_of, is_chosen, number_of, overview_of, route_annotations_of, since_of, snapping_of,
-    source_of, table_annotations_of, truth_of,
+    geometries_of, is_chosen, is_exclusion, number_of, overview_of, route_annotations_of, since_of,
+    snapping_of, source_of, table_annotations_of, truth_of,
 };
 
 // The value of an option of this name, None where it has another.
@@ -55,6 +55,7 @@ fn is_common(name: &str, value: &str) -> bool
         "generate_hints" | "skip_waypoints" => truth_of(value).is_some(),
         "snapping" => snapping_of(value).is_some(),
         "since" => since_of(value).is_some(),
+        "exclude" => is_exclusion(value),
         _ => false,
     }
 }

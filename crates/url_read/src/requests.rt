@@ -4,7 +4,7 @@ use option_values::{
     Alternatives, Approaches, Bearings, Chosen, ContinueStraight, Destination, Geometries, Hints,
     Overview, Radiuses, RouteAnnotations, Snapping, Source, TableAnnotations,
 };
-use road_base::Points;
+use road_base::{Points, Words};
 
 /// A request: its coordinates, and the value of each option that a target of its service may have, the default
 /// where the target has none.
@@ -28,6 +28,8 @@ pub struct Request {
     pub snapping: Snapping,
     /// The least number that the metric of the reply may have.
     pub since: u32,
+    /// The classes of ways that are not to be used, None where all ways may be.
+    pub exclude: Option<Words>,
 }
 
 impl Drop for Request {
@@ -43,6 +45,7 @@ impl Drop for Request {
             skip_waypoints: _skip_waypoints,
             snapping: _snapping,
             since: _since,
+            exclude: _exclude,
         } = self;
     }
 }
@@ -125,4 +128,5 @@ pub(crate) struct OptionValues {
     pub(crate) skip_waypoints: bool,
     pub(crate) snapping: Snapping,
     pub(crate) since: u32,
+    pub(crate) exclude: Option<Words>,
 }

@@ -130,6 +130,7 @@ fn request_with(
         skip_waypoints: values.skip_waypoints,
         snapping: values.snapping,
         since: values.since,
+        exclude: values.exclude,
     })
 }
 

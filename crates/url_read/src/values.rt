@@ -1,9 +1,9 @@
 //! The values of all options of a request.
 
-ghost use Rattle.std.specs.Prelude.{◌≡◌, ◌≤◌, Ok, IfOk, IfErr, codes, false, length};
+ghost use Rattle.std.specs.Prelude.{◌≡◌, ◌≤◌, Ok, IfOk, IfErr, codes, false, length, option_and_then};
 ghost use Rattle.url_read.specs.Judging.{hints_for, radiuses_for, bearings_for, approaches_for, chosen_for, telling_of, route_options, trip_options, table_annotations, table_options, nearest_options, service_for, values_for};
-ghost use Rattle.url_read.specs.Options.{options_of, read_or};
-ghost use Rattle.option_values.specs.Values.{truth_of, snapping_of, since_of, alternatives_of, route_annotations_of, every_annotation, geometries_of, overview_of, continue_straight_of, source_of, destination_of};
+ghost use Rattle.url_read.specs.Options.{last_value_of, options_of, read_or};
+ghost use Rattle.option_values.specs.Values.{truth_of, snapping_of, since_of, excluded_of, alternatives_of, route_annotations_of, every_annotation, geometries_of, overview_of, continue_straight_of, source_of, destination_of};
 ghost use Rattle.option_values.specs.declared.option_types.Alternatives.TheVariants as alternatives;
 ghost use Rattle.option_values.specs.declared.option_types.Geometries.TheVariants.{Polyline};
 ghost use Rattle.option_values.specs.declared.option_types.Snapping.TheVariants as snapping;
@@ -25,11 +25,12 @@ use crate::service_names::ServiceName;
 use option_values::{
     Alternatives, Approaches, Bearings, Chosen, ContinueStraight, Destination, Geometries, Hints,
     Overview, Radiuses, RouteAnnotations, Snapping, Source, TableAnnotations, alternatives_of,
-    chosen_among, continue_straight_of, destination_of, every_annotation, geometries_of,
-    hints_each, number_of, one_each, overview_of, route_annotations_of, since_of, snapping_of,
-    source_of, table_annotations_of, truth_of,
+    chosen_among, continue_straight_of, destination_of, every_annotation, excluded_of,
+    geometries_of, hints_each, number_of, one_each, overview_of, route_annotations_of, since_of,
+    snapping_of, source_of, table_annotations_of, truth_of,
 };
-use std::alloc::Global;
+use road_base::Words;
+use std::alloc::{AllocError, Global};
 
 // What a table tells where it isn't asked.
 const DURATION: TableAnnotations = TableAnnotations {
@@ -64,6 +65,7 @@ pub(crate) fn values_for(
         skip_waypoints: truth_or(false, "skip_waypoints", query),
         snapping: snapping_in(query),
         since: since_in(query),
+        exclude: excluded_in(alloc, query)?,
     })
 }
 
@@ -92,6 +94,16 @@ fn since_in(query: &str) -> u32
     match last_value_of("since", query) {
         Some(value) => since_of(value).unwrap_or(0),
         None => 0,
+    }
+}
+
+// The names of the classes that are not to be used, None where no class is named.
+fn excluded_in(alloc: Global, query: &str) -> Result<Option<Words>, AllocError>
+    ensures { IfOk result (λ excluded. excluded ≡ option_and_then excluded_of (last_value_of (codes "exclude") (options_of query.now))) }
+{
+    match last_value_of("exclude", query) {
+        Some(value) => excluded_of(alloc, value),
+        None => Ok(None),
     }
 }
 

@@ -7,6 +7,7 @@ mod answers;
 #[cfg(test)]
 mod cases;
 #[cfg(test)]
+mod exclusions;
 #[cfg(test)]
 mod steps;
 #[cfg(test)]

@@ -8,7 +8,7 @@ ghost use Rattle.snap_index.specs.Ends.{all_ends};
 
 use customized::{Metric, Roads, SERVER_LIMITS};
 use edge_graph::Network;
-use metric_make::base;
+use metric_make::metric;
 use metric_publish::held::Held;
 use metric_publish::local_board::LocalBoard;
 use opl_read::read;
@@ -19,6 +19,7 @@ use std::alloc::{AllocError, Global};
 use std::process::Abort;
 use std::sync::Arc;
 use std::thread::Threads;
+use traffic_files::read_speeds;
 use way_profile::Profile;
 
 /// The settings of a car that drives 40 km/h in residential streets.
@@ -31,6 +32,14 @@ const LEFT_SETTINGS: &str =
 const BARRED_SETTINGS: &str =
     "name = \"car\"\nvehicle = \"motorcar\"\nbarriers = [\"bollard\"]\nu_turn_penalty = 200\n[speeds]\nresidential = 40\n";
 
+// The settings of a car that may avoid toll roads.
+const TOLL_SETTINGS: &str =
+    "version = 2\nname = \"car\"\nvehicle = \"motorcar\"\nu_turn_penalty = 200\nexcludable = [[\"toll\"]]\n[speeds]\nresidential = 40\n[classes]\ntoll = [\"toll=yes\"]\n";
+
+// The settings of a car that heeds speed limits and is slow on gravel.
+const LIMIT_SETTINGS: &str =
+    "version = 2\nname = \"car\"\nvehicle = \"motorcar\"\nu_turn_penalty = 200\nmaxspeed = true\n[speeds]\nresidential = 40\n[surfaces]\ngravel = 500\n";
+
 /// Two streets that meet at a right angle.
 pub(crate) const CORNER: Town<'static> = Town {
     map: "n1 x0 y0
@@ -38,6 +47,50 @@ n2 x0 y0.001
 n3 x0.001 y0.001
 w10 Thighway=residential,oneway=no Nn1,n2,n3",
     settings: SETTINGS,
+};
+
+// The same streets with a speed limit in miles, on gravel, and both.
+const LIMITED: Town<'static> = Town {
+    map: "n1 x0 y0
+n2 x0 y0.001
+n3 x0.001 y0.001
+w10 Thighway=residential,oneway=no,maxspeed=30%20%mph Nn1,n2,n3",
+    settings: LIMIT_SETTINGS,
+};
+
+const GRAVEL: Town<'static> = Town {
+    map: "n1 x0 y0
+n2 x0 y0.001
+n3 x0.001 y0.001
+w10 Thighway=residential,oneway=no,surface=gravel Nn1,n2,n3",
+    settings: LIMIT_SETTINGS,
+};
+
+const LIMITED_GRAVEL_MAP: &str = "n1 x0 y0
+n2 x0 y0.001
+n3 x0.001 y0.001
+w10 Thighway=residential,oneway=no,maxspeed=30%20%mph,surface=gravel Nn1,n2,n3";
+
+const LIMITED_GRAVEL: Town<'static> = Town {
+    map: LIMITED_GRAVEL_MAP,
+    settings: LIMIT_SETTINGS,
+};
+
+// Settings of the first version heed neither.
+const UNHEEDED: Town<'static> = Town {
+    map: LIMITED_GRAVEL_MAP,
+    settings: SETTINGS,
+};
+
+/// A block of which two sides are a toll road.
+pub(crate) const TOLL: Town<'static> = Town {
+    map: "n1 x0 y0
+n2 x0.001 y0
+n3 x0.001 y0.001
+n4 x0 y0.001
+w1 Thighway=residential,toll=yes Nn1,n2,n3
+w2 Thighway=residential Nn3,n4,n1",
+    settings: TOLL_SETTINGS,
 };
 
 /// A block that is driven round one way.
@@ -131,6 +184,11 @@ pub(crate) fn town_named(rt: &impl Abort, name: &str) -> Town<'static> {
         "desert" => DESERT,
         "crossing" => CROSSING,
         "left crossing" => LEFT_CROSSING,
+        "toll" => TOLL,
+        "limited" => LIMITED,
+        "gravel" => GRAVEL,
+        "limited gravel" => LIMITED_GRAVEL,
+        "unheeded" => UNHEEDED,
         _ => panic!(rt; "a town"),
     }
 }
@@ -178,22 +236,26 @@ pub(crate) fn roads_of(alloc: Global, town: Town<'_>, limits: &[u32]) -> Result<
 
 // A metric, as a board holds it that is opened with it, at this number.
 fn held_of(alloc: Global, metric: Arc<Metric>, number: u32) -> Result<Held<Metric>, AllocError>
-    ensures { IfOk result (λ held. arc_value held.value ≡ arc_value metric) }
+    ensures { IfOk result (λ held. held.value ≡ arc_value metric) }
 {
     let board = LocalBoard::of(alloc, metric, number)?;
     board.enter()
 }
 
-// The metric of roads by the settings alone, so held.
+// The metric of roads by the settings and the rows of a speeds file, so held.
 fn held_on(
     rt: &(impl Threads + Sync),
     alloc: Global,
     roads: &Roads,
+    speeds: &[u8],
     number: u32,
 ) -> Result<Held<Metric>, AllocError>
-    ensures { IfOk result (λ held. (arc_value held.value).road.network ≡ roads.now.network) }
+    ensures { IfOk result (λ held. held.value.road.network ≡ roads.now.network) }
 {
-    let base = base(alloc, roads.network())?;
+    let Ok(rows) = read_speeds(alloc, speeds) else {
+        return Err(AllocError);
+    };
+    let base = metric(alloc, roads.network(), &rows, &[])?;
     let metric = Metric::make(rt, alloc, roads, base)?;
     held_of(alloc, Arc::new(alloc, metric)?, number)
 }
@@ -206,7 +268,7 @@ fn boxed_answer(
     grid: &Grid,
     asked: Asked<'_>,
 ) -> Result<Box<Answer>, ReplyFault>
-    requires { grid.now ≡ all_ends (arc_value held.now.value).road.network.segments }
+    requires { grid.now ≡ all_ends held.now.value.road.network.segments }
 {
     let answer = match asked {
         Asked::Target(target) => answer(rt, alloc, held, grid, target.as_bytes())?,
@@ -223,21 +285,22 @@ fn answer_on(
     held: &Held<Metric>,
     asked: Asked<'_>,
 ) -> Result<Box<Answer>, ReplyFault>
-    requires { (arc_value held.now.value).road.network ≡ roads.now.network }
+    requires { held.now.value.road.network ≡ roads.now.network }
 {
     let grid = Grid::of(alloc, roads.network())?;
     boxed_answer(rt, alloc, held, &grid, asked)
 }
 
-// The answer over roads, under a metric of this number.
+// The answer over roads, under a metric of this number by the rows of a speeds file.
 fn ask_on(
     rt: &(impl Threads + Sync),
     alloc: Global,
     roads: &Roads,
+    speeds: &[u8],
     number: u32,
     asked: Asked<'_>,
 ) -> Result<Box<Answer>, ReplyFault> {
-    let held = held_on(rt, alloc, roads, number)?;
+    let held = held_on(rt, alloc, roads, speeds, number)?;
     answer_on(rt, alloc, roads, &held, asked)
 }
 
@@ -259,8 +322,20 @@ pub(crate) fn ask_at(
     number: u32,
     asked: Asked<'_>,
 ) -> Result<Box<Answer>, ReplyFault> {
+    ask_paying(rt, alloc, town, b"", number, asked)
+}
+
+/// The same where the metric is by the rows of a speeds file too.
+pub(crate) fn ask_paying(
+    rt: &(impl Threads + Sync),
+    alloc: Global,
+    town: Town<'_>,
+    speeds: &[u8],
+    number: u32,
+    asked: Asked<'_>,
+) -> Result<Box<Answer>, ReplyFault> {
     let roads = roads_of(alloc, town, &SERVER_LIMITS)?;
-    ask_on(rt, alloc, &roads, number, asked)
+    ask_on(rt, alloc, &roads, speeds, number, asked)
 }
 
 /// The answer over a network that is cut into cells by these limits.
@@ -275,7 +350,7 @@ pub(crate) fn ask_over(
     requires some { All (λ limit. 1 ≤ limit) limits.now }
 {
     let roads = roads_of(alloc, town, limits)?;
-    ask_on(rt, alloc, &roads, 7, asked)
+    ask_on(rt, alloc, &roads, b"", 7, asked)
 }
 
 /// What is asked for.

@@ -36,7 +36,11 @@ const REFUSED: &[u8] = b"/nearest/v1/car/0,0;0,0?foo=1|InvalidQuery|2 coordinate
 /table/v1/car/0,0?sources=0;1&destinations=|InvalidOptions|option destinations$\
 /route/v1/car/0,0;0,0?radiuses=5;5&radiuses=5|InvalidOptions|option radiuses$\
 /route/v1/car/0,0;0,0?radiuses=-5;5&radiuses=5;5|InvalidOptions|option radiuses$\
-/route/v1/car/0,0;0,0?overview=false&Overview=false|InvalidOptions|option Overview";
+/route/v1/car/0,0;0,0?overview=false&Overview=false|InvalidOptions|option Overview$\
+/route/v1/car/0,0;0,0?exclude=toll,,ferry&foo=1|InvalidOptions|option exclude$\
+/table/v1/car/0,0;0,0?exclude=&exclude=toll|InvalidOptions|option exclude$\
+/trip/v1/car/0,0;0,0?exclude|InvalidOptions|option exclude$\
+/nearest/v1/car/0,91?exclude=toll|InvalidValue|coordinate 0";
 
 #[test]
 fn a_target_of_any_service_has_its_first_refusal(rt: HostRuntime) -> Result<(), AllocError> {
@@ -56,6 +60,10 @@ const TAKEN: &[u8] = b"/route/v1/car/0,0;0,1?radiuses=;$\
 /route/v1/car/0,0;0,1?snapping=default$\
 /route/v1/car/0,0;0,1?since=4294967295$\
 /route/v1/car/0,0;0,1?since=00000000001$\
+/route/v1/car/0,0;0,1?exclude=toll$\
+/table/v1/car/0,0;0,1?exclude=toll,ferry,toll$\
+/trip/v1/car/0,0;0,1?exclude=%2F%20=;%c3%a4$\
+/nearest/v1/car/0,0?exclude=Toll$\
 /route/v1/car/0,0;0,1?alternatives=true$\
 /route/v1/car/0,0;0,1?alternatives=999999999$\
 /route/v1/car/0,0;0,1?steps=true$\
@@ -125,6 +133,10 @@ const OF_ANOTHER_FORM: &[u8] = b"/route/v1/car/0,0;0,1?radiuses=|InvalidOptions|
 /route/v1/car/0,0;0,1?since=4294967296|InvalidOptions|option since$\
 /route/v1/car/0,0;0,1?since=|InvalidOptions|option since$\
 /route/v1/car/0,0;0,1?since=+1|InvalidOptions|option since$\
+/route/v1/car/0,0;0,1?exclude=|InvalidOptions|option exclude$\
+/table/v1/car/0,0;0,1?exclude=,|InvalidOptions|option exclude$\
+/trip/v1/car/0,0;0,1?exclude=toll,|InvalidOptions|option exclude$\
+/nearest/v1/car/0,0?exclude=,toll|InvalidOptions|option exclude$\
 /route/v1/car/0,0;0,1?alternatives=1000000000|InvalidOptions|option alternatives$\
 /route/v1/car/0,0;0,1?steps=1|InvalidOptions|option steps$\
 /route/v1/car/0,0;0,1?annotations=|InvalidOptions|option annotations$\
@@ -170,7 +182,8 @@ fn asked_told(rt: &impl Abort, alloc: Global, target: &[u8]) -> Result<String, A
 const MOST_OPTIONS: &[u8] =
     b"/route/v1/car/0,0;0,1.json?overview=false&alternatives=2&steps=true&annotations=nodes,speed\
     &geometries=geojson&continue_straight=false&radiuses=1;1&radiuses=53687091.19;12.39&bearings=45,10;\
-    &approaches=;unrestricted&hints=a+b;%41&generate_hints=false&skip_waypoints=true&since=7&overview=full";
+    &approaches=;unrestricted&hints=a+b;%41&generate_hints=false&skip_waypoints=true&exclude=motorway&since=7\
+    &overview=full&exclude=toll,a%20ferry,toll";
 
 const MOST_OPTIONS_ASKED: &str = "Request { \
     points: Points { inner: [Point { lon: 0, lat: 0 }, Point { lon: 0, lat: 1000000 }] }, \
@@ -189,7 +202,8 @@ const MOST_OPTIONS_ASKED: &str = "Request { \
     generate_hints: false, \
     skip_waypoints: true, \
     snapping: Default, \
-    since: 7 }";
+    since: 7, \
+    exclude: Some(Words { inner: [Text { inner: \"toll\" }, Text { inner: \"a ferry\" }, Text { inner: \"toll\" }] }) }";
 
 #[test]
 fn a_route_has_the_last_value_of_each_option(rt: HostRuntime) -> Result<(), AllocError> {
@@ -219,7 +233,8 @@ const NO_OPTIONS_ASKED: &str = "Request { \
     generate_hints: true, \
     skip_waypoints: false, \
     snapping: Default, \
-    since: 0 }";
+    since: 0, \
+    exclude: None }";
 
 #[test]
 fn an_option_that_is_not_given_has_its_default(rt: HostRuntime) -> Result<(), AllocError> {

@@ -4,8 +4,9 @@
 use option_values::{
     Alternatives, Approach, Bearing, ContinueStraight, Destination, Geometries, Overview, Snapping,
     Source, alternatives_of, are_read, chosen_among, continue_straight_of, cut, destination_of,
-    every_annotation, geometries_of, hints_each, is_chosen, number_of, one_each, overview_of,
-    route_annotations_of, since_of, snapping_of, source_of, table_annotations_of, truth_of,
+    every_annotation, excluded_of, geometries_of, hints_each, is_chosen, is_exclusion, number_of,
+    one_each, overview_of, route_annotations_of, since_of, snapping_of, source_of,
+    table_annotations_of, truth_of,
 };
 use std::alloc::{AllocError, Global};
 
@@ -56,6 +57,23 @@ fn a_text_is_cut_at_its_first_separator(rt: HostRuntime) {
     };
     assert_eq!(rt; name, "a");
     assert_eq!(rt; value, "b=c");
+}
+
+// The names of the classes that are not to be used.
+fn excluded_told(alloc: Global, value: &str) -> Result<String, AllocError> {
+    let names = excluded_of(alloc, value)?;
+    format!(in alloc; "{names:?}")
+}
+
+const EXCLUDED_TOLD: &str =
+    "Some(Words { inner: [Text { inner: \"toll\" }, Text { inner: \"a ferry\" }] })";
+
+#[test]
+fn names_of_classes_are_read(rt: HostRuntime) -> Result<(), AllocError> {
+    let told = excluded_told(rt.alloc(), "toll,a ferry")?;
+    assert_eq!(rt; told.as_str(), EXCLUDED_TOLD);
+    assert!(rt; is_exclusion("toll,a ferry") && !is_exclusion("toll,"));
+    Ok(())
 }
 
 // The radiuses of so many coordinates.

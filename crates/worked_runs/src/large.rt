@@ -55,13 +55,10 @@ fn a_long_street_name_is_told(rt: HostRuntime) -> Result<(), AllocError> {
 
 // A map with one way that goes to and fro between two nodes, so many times.
 fn to_and_fro(alloc: Global, times: usize) -> Result<Vec<u8>, AllocError> {
-    let mut map = Vec::from_slice(
-        alloc,
-        b"n1 x0 y0\nn2 x0.001 y0\nw1 Thighway=residential Nn1",
-    )?;
-    for time in 0..times {
-        let node: &[u8] = if time % 2 == 0 { b",n2" } else { b",n1" };
-        map.extend_from_slice(node)?;
+    let front = b"n1 x0 y0\nn2 x0.001 y0\nw1 Thighway=residential Nn1";
+    let mut map = repeated(alloc, front, b",n2,n1", times / 2)?;
+    if times % 2 == 1 {
+        map.extend_from_slice(b",n2")?;
     }
     Ok(map)
 }
@@ -83,7 +80,7 @@ fn is_past(
 
 #[test]
 fn past_the_limits_a_map_is_refused(rt: HostRuntime) -> Result<(), AllocError> {
-    assert!(rt; is_past(&rt, rt.alloc(), 5794, b"too many turns\n")?);
-    assert!(rt; is_past(&rt, rt.alloc(), 4_194_305, b"too many segments\n")?);
+    assert!(rt; is_past(&rt, rt.alloc(), 8193, b"too many turns\n")?);
+    assert!(rt; is_past(&rt, rt.alloc(), 16_777_217, b"too many segments\n")?);
     Ok(())
 }

@@ -9,6 +9,8 @@ mod cases;
 #[cfg(test)]
 mod counting;
 #[cfg(test)]
+mod excluded;
+#[cfg(test)]
 mod faults;
 #[cfg(test)]
 mod generated;

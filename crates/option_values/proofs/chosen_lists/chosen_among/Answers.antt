@@ -1,5 +1,5 @@
 -- The numbers of a value, each below the count or not.
-use Rattle.std.proofs.Common.{◌≡◌, true, false, ltb, codes, Some, None, sym, ◌∙◌, ap, rules}
+use Rattle.std.proofs.Common.{◌≡◌, true, false, ltb, codes, Some, sym, ◌∙◌, ap, rules}
 use Rattle.std.specs.List.{list_all}
 use Rattle.std.specs.Option.{option_copied}
 use Rattle.std.specs.Str.{bytes_eq}

@@ -1,8 +1,6 @@
-use Rattle.std.proofs.Common.{◌*◌, ◌-◌, ◌<◌, length, subst, take, ◌∙◌}
+use Rattle.std.proofs.Common.{◌*◌, ◌-◌, ◌<◌, length, take, ◌∙◌}
 use Rattle.std.specs.List.{filter_map}
 use Rattle.std.proofs.lemmas.List.Elements.{All-take}
-use Rattle.search_graph.specs.Digraph.{Digraph}
-use Rattle.search_graph.specs.Faults.{AllInRange}
 use Rattle.metric_make.specs.RoadMetric.{RoadMetric}
 use Rattle.route_steps.specs.Points.{end_of, point_on}
 use Rattle.route_steps.proofs.PointLemmas.{point_on-told, points-pushed}
@@ -15,7 +13,7 @@ push_ends-requires c =
     let network = c.args.network.now in
     let n = 2 * length network.segments in
     let road : RoadMetric = record { network = network; weights = c.requires.walk.0 } in
-    let range : AllInRange n network.turns = subst (λ (g : Digraph). AllInRange g.vertices g.arcs) c.graph.ensures.value c.known.ensures in
+    let range = c.graph-turns.ensures.in_range in
     let all = vertices_of-walk road c.args.from c.args.to c.requires.from c.requires.to c.args.walk.now c.requires.walk.1 range c.requires.walk.2 in
     All-take (λ v. v < n) (length c.args.walk.now - 1) c.args.walk.now (λ k d h. (all k d h).0)
 

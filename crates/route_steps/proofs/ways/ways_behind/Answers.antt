@@ -50,6 +50,6 @@ returns-clause-few c =
       ap length (c.in_ok-ways.ensures.ways ∙ ap (map (way_on network)) leaving),
       length-map {A = ℕ} {B = Way} vs (way_on network),
       length-vertices_from network c.head.result,
-      c.graph.ensures.limits.segments,
+      c.graph-turns.ensures.limits.segments,
       few_segments,
     )
