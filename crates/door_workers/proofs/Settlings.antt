@@ -5,7 +5,6 @@ use Rattle.std.proofs.lemmas.Option.{same_Some}
 use Rattle.metric_publish.specs.Calls.{EnterGives}
 use Rattle.metric_publish.specs.History.{last_number, last_of}
 use Rattle.metric_publish.specs.declared.entry.Entry.{Entry}
-use Rattle.metric_publish.specs.declared.held.Held.{Held}
 use Rattle.door_workers.specs.declared.posts.Post.{Post}
 use Rattle.door_workers.specs.Settling.{HasReadAll, IsSettled}
 use Rattle.door_workers.proofs.Fronts.{prefix_self, prefix_trans}
@@ -16,7 +15,7 @@ module _ {V : Type 0} where
   last_number_is (x ∷ xs) e is = ap (λ (u : Entry V). u.number) (same_Some _ _ is)
 
   -- an Enter that read this list read its last number last
-  pub has_read_all : (seen learned now list : List (Entry V)) (reads after : List ℕ) (held : Held V) → EnterGives seen learned now (Some reads) (Some after) (Ok held) → now ≡ list → HasReadAll list now after
+  pub has_read_all : (seen learned now list : List (Entry V)) (reads after : List ℕ) (held : Entry V) → EnterGives seen learned now (Some reads) (Some after) (Ok held) → now ≡ list → HasReadAll list now after
   has_read_all seen learned now list reads after held gives same =
       let number = ap (λ (l : List (Entry V)). last_number l) (sym same) ∙ last_number_is now _ gives.2 in record {
         all = same;

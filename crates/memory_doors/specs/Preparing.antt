@@ -1,5 +1,5 @@
 -- What doors in memory tell before they are opened, and when they are.
-use Rattle.std.specs.Prelude.{◌≡◌, ◌+◌, List, [], ◌∷◌, ◌++◌, length, All, Some, option_map}
+use Rattle.std.specs.Prelude.{◌≡◌, ◌+◌, [], ◌∷◌, ◌++◌, length, All, Some, option_map}
 use Rattle.road_io.specs.DoorOpening.{Asked, DoorsView, DoorViews, IsNewDoor}
 
 -- none was asked for, none is out, and none came back

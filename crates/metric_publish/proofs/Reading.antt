@@ -3,12 +3,10 @@ use Rattle.std.proofs.Common.{◌≡◌, ℕ, List, [], ◌∷◌, ◌++◌, Opt
 use Rattle.std.proofs.lemmas.Option.{same_Some}
 use Rattle.std.proofs.lemmas.Bool.Decides.{nat_tests}
 use mathlib.Core.List.{IsPrefix}
-use Rattle.std.specs.Arc.{arc_value}
 use Rattle.std.specs.declared.alloc.AllocError.{AllocError}
 use Rattle.metric_publish.specs.declared.entry.Entry.{Entry}
 use Rattle.metric_publish.specs.declared.entry.View.{View}
-use Rattle.metric_publish.specs.declared.held.Held.{Held}
-use Rattle.metric_publish.specs.History.{last_of, entry, IsKin, AreKin}
+use Rattle.metric_publish.specs.History.{last_of, IsKin, AreKin}
 use Rattle.metric_publish.specs.Board.{Sees}
 use Rattle.metric_publish.specs.Calls.{IsLast, ReadsOne, EnterGives, Entered, ReadGives}
 use Rattle.metric_publish.proofs.Fronts.{prefix_trans}
@@ -30,7 +28,7 @@ module _ {V : Type 0} where
     reads = ap (λ (u : View V). u.reads) view ∙ sees.reads;
   }
 
-  pub given : {P : Type 0} (v w : View V) (list : P → List (Entry V)) (held : P → Result (Held V) AllocError) (r : Option P) (p : P) → r ≡ Some p → ReadGives v w list held r → ReadGives v w list held (Some p)
+  pub given : {P : Type 0} (v w : View V) (list : P → List (Entry V)) (held : P → Result (Entry V) AllocError) (r : Option P) (p : P) → r ≡ Some p → ReadGives v w list held r → ReadGives v w list held (Some p)
   given {P} v w list held r p is h = subst (λ (o : Option P). ReadGives v w list held o) is h
 
   -- the beginning of what was seen before the read begins what is seen after it
@@ -45,7 +43,7 @@ module _ {V : Type 0} where
   )
 
   -- an Enter by a reader that has caught up with what was learned
-  pub enter_gives : (v w : View V) (seen learned front : List (Entry V)) (reads : List ℕ) (held : Result (Held V) AllocError) → IsPrefix seen v.seen → IsPrefix learned v.seen → v.reads ≡ reads → Entered v w front → IfOk held (λ h. IsLast front h) → EnterGives seen learned front (Some reads) (Some w.reads) held
+  pub enter_gives : (v w : View V) (seen learned front : List (Entry V)) (reads : List ℕ) (held : Result (Entry V) AllocError) → IsPrefix seen v.seen → IsPrefix learned v.seen → v.reads ≡ reads → Entered v w front → IfOk held (λ h. IsLast front h) → EnterGives seen learned front (Some reads) (Some w.reads) held
   enter_gives v w seen learned front reads (Ok held) ahead known same h last =
       let number : h.last.number ≡ held.number = ap (λ (u : Entry V). u.number) (same_Some _ _ (sym h.is_last ∙ last)) in (
         seen_before v w seen front ahead h,
@@ -56,7 +54,7 @@ module _ {V : Type 0} where
   enter_gives v w seen learned front reads (Err e) ahead known same h last = inr (reads_one v w seen learned front reads ahead known same h)
 
   -- what it holds is akin to what was seen before
-  pub enter_kin : (akin : V → V → Type 0) (v w : View V) (seen front : List (Entry V)) (held : Result (Held V) AllocError) → IsPrefix seen v.seen → Entered v w front → IfOk held (λ h. IsLast front h) → AreKin akin front → IfOk held (λ h. IsKin akin seen (arc_value h.value))
+  pub enter_kin : (akin : V → V → Type 0) (v w : View V) (seen front : List (Entry V)) (held : Result (Entry V) AllocError) → IsPrefix seen v.seen → Entered v w front → IfOk held (λ h. IsLast front h) → AreKin akin front → IfOk held (λ h. IsKin akin seen h.value)
   enter_kin akin v w seen front (Ok held) ahead h last kin =
-      held_kin akin seen front (entry held.number (arc_value held.value)) (seen_before v w seen front ahead h) last kin
+      held_kin akin seen front held (seen_before v w seen front ahead h) last kin
   enter_kin akin v w seen front (Err e) ahead h last kin = tt

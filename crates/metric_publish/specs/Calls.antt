@@ -5,7 +5,6 @@ use Rattle.std.specs.declared.alloc.AllocError.{AllocError}
 use Rattle.std.specs.Arc.{arc_value}
 use Rattle.metric_publish.specs.declared.entry.Entry.{Entry}
 use Rattle.metric_publish.specs.declared.entry.View.{View}
-use Rattle.metric_publish.specs.declared.held.Held.{Held}
 use Rattle.metric_publish.specs.declared.held.Receipt.{Receipt}
 use Rattle.metric_publish.specs.declared.held.Refused.{Refused}
 use Rattle.metric_publish.specs.declared.held.Refused.TheVariants.{Spent, Memory}
@@ -22,8 +21,8 @@ CountsOne (Some reads) after number = after ≡ Some (reads ++ number ∷ [])
 
 module _ {V : Type 0} where
   -- the list ends in what is held
-  abbrev pub IsLast : List (Entry V) → Held V → Type 0
-  IsLast list held = last_of list ≡ Some (entry held.number (arc_value held.value))
+  abbrev pub IsLast : List (Entry V) → Entry V → Type 0
+  IsLast list held = last_of list ≡ Some held
 
   -- the list ends in this value
   abbrev pub IsLastValue : List (Entry V) → V → Type 0
@@ -37,7 +36,7 @@ module _ {V : Type 0} where
 
   -- an Enter: one read, whose list begins with what was learned too, and ends in what is held.
   -- Where memory ran out there was one read, or nothing changed
-  abbrev pub EnterGives : List (Entry V) → List (Entry V) → List (Entry V) → Option (List ℕ) → Option (List ℕ) → Result (Held V) AllocError → Type 0
+  abbrev pub EnterGives : List (Entry V) → List (Entry V) → List (Entry V) → Option (List ℕ) → Option (List ℕ) → Result (Entry V) AllocError → Type 0
   EnterGives seen learned now reads after (Ok held) =
       IsPrefix seen now × IsPrefix learned now × IsLast now held × CountsOne reads after held.number
   EnterGives seen learned now reads after (Err e) =
@@ -67,6 +66,6 @@ module _ {V : Type 0} where
   LookGives v w list (Some p) = IsPrefix v.seen (list p) × (w.seen ≡ list p) × (w.reads ≡ v.reads)
 
   -- no read; or one, with a pointer to the list's last value unless memory ran out
-  abbrev pub ReadGives : {P : Type 0} → View V → View V → (P → List (Entry V)) → (P → Result (Held V) AllocError) → Option P → Type 0
+  abbrev pub ReadGives : {P : Type 0} → View V → View V → (P → List (Entry V)) → (P → Result (Entry V) AllocError) → Option P → Type 0
   ReadGives v w list held None = w ≡ v
   ReadGives v w list held (Some p) = Entered v w (list p) × IfOk (held p) (λ h. IsLast (list p) h)

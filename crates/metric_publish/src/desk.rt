@@ -110,14 +110,6 @@ impl<V: Kindred, J: Naming> Desk<Shown<V, J>, V, Board, Book<V, J>> {
         shown.number()
     }
 
-    /// Whether all that the seat has seen was published here. By the order of the steps it was; no
-    /// clause of the reader says so, and this comparison stands for it.
-    pub fn covers(&self, seat: &Seat<V, J>) -> bool
-        ensures { IsTrue result → IsPrefix seat.now.seen.token.log self.now.writer.desk.shown.value.front.token.log }
-    {
-        seat.seen.begins(&self.writer.published().front)
-    }
-
     /// Whether the seat has seen all that was published.
     pub fn is_caught_up(&self, seat: &Seat<V, J>) -> bool
         ensures { IsTrue result ↔ (seat.now.seen.token.log ≡ self.now.writer.desk.shown.value.front.token.log) }

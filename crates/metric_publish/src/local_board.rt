@@ -60,13 +60,11 @@ impl<V: Kindred> LocalBoard<V> {
     pub fn enter(&self) -> Result<Held<V>, AllocError>
         ensures last { IfOk result (IsLast self.now.page.token.log) }
         ensures runs { IsRun self.now.page.token.log }
-        ensures kin { IfOk result (λ h. IsKin V.akin self.now.page.token.log (arc_value h.value)) }
+        ensures kin { IfOk result (λ h. IsKin V.akin self.now.page.token.log h.value) }
     {
         check_law(&self.page.token);
-        Ok(Held {
-            number: self.page.put.number,
-            value: Arc::try_clone(&self.page.put.value)?,
-        })
+        let value = Arc::try_clone(&self.page.put.value)?;
+        Ok(Held::of(self.page.put.number, value))
     }
 
     /// The value of the last publication.

@@ -30,7 +30,7 @@ pub trait Reading<V: Drop> {
         ensures gives { EnterGives (seen self.old) (learned self.old) (seen self.new) (reads self.old) (reads self.new) result }
         ensures runs { IsRun (seen self.new) }
         ensures learned { learned self.new ≡ learned self.old }
-        ensures kin { IfOk result (λ h. kin self.old (arc_value h.value)) }
+        ensures kin { IfOk result (λ h. kin self.old h.value) }
         ensures kin_stays { (x : V) → kin self.new x → kin self.old x };
 }
 

@@ -1,7 +1,6 @@
 //! Seats read without waiting.
 ghost use Rattle.std.specs.Prelude.{◌≡◌, ◌++◌, ◌∷◌, [], true, Some, IfOk};
 ghost use mathlib.Core.List.{IsPrefix};
-ghost use Rattle.std.specs.Arc.{arc_value};
 ghost use Rattle.left_right.specs.Sides.{view};
 ghost use Rattle.metric_publish.specs.History.{IsKin, IsRun};
 ghost use Rattle.metric_publish.specs.Board.{IsFront};
@@ -52,7 +51,7 @@ fn read<V: Kindred, J: Naming>(
     let value = Arc::try_clone(&shown.put.value);
     let reader = reading.leave();
     match value {
-        Ok(value) => (reader, Some((front, Ok(Held { number, value })))),
+        Ok(value) => (reader, Some((front, Ok(Held::of(number, value))))),
         Err(_) => (reader, Some((front, Err(AllocError)))),
     }
 }
@@ -101,7 +100,7 @@ fn entered<V: Kindred, J: Naming>(seat: Seat<V, J>) -> (Seat<V, J>, Result<Held<
     ensures gives { EnterGives seat.seen.token.log seat.learned.token.log result.0.seen.token.log (Some (view seat.reader.place).reads) (Some (view result.0.reader.place).reads) result.1 }
     ensures runs { IsRun result.0.seen.token.log }
     ensures learned { result.0.learned.token.log ≡ seat.learned.token.log }
-    ensures kin { IfOk result.1 (λ h. IsKin V.akin seat.seen.token.log (arc_value h.value)) }
+    ensures kin { IfOk result.1 (λ h. IsKin V.akin seat.seen.token.log h.value) }
 {
     let Seat {
         reader,

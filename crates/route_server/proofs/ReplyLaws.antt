@@ -1,19 +1,17 @@
 -- What a seat knows after a reply.
 use Rattle.std.proofs.Common.{◌≡◌, ℕ, ◌≤◌, arith, ap, inl, inr, Bool, List, Some, Result, Ok, Err, IfOk, Vec, subst}
 use Rattle.std.specs.Result.{IsErrAnd}
-use Rattle.std.specs.Arc.{arc_value}
 use Rattle.std.specs.Global.{Global}
 use Rattle.std.specs.declared.alloc.AllocError.{AllocError}
 use Rattle.http_head.specs.Replies.{reply_text}
 use Rattle.road_io.specs.declared.failures.Failed.{Failed}
-use Rattle.metric_publish.specs.History.{IsRun, entry, last_number, last_of}
+use Rattle.metric_publish.specs.History.{IsRun, last_number, last_of}
 use Rattle.metric_publish.specs.Calls.{EnterGives}
 use Rattle.road_io.specs.Exchanging.{Puts}
 use Rattle.road_io.specs.Views.{ConnState}
 use Rattle.route_server.specs.Replying.{Gives, PutsReply}
 use Rattle.route_server.specs.Seats.{ReadsAtMostOne, SeatState, busy_body}
 use Rattle.metric_publish.specs.declared.entry.Entry.{Entry}
-use Rattle.metric_publish.specs.declared.held.Held.{Held}
 use Rattle.route_server.proofs.NumberLaws.{last_number_le}
 use Rattle.route_server.specs.SeatLaws.{last_number_is}
 
@@ -25,20 +23,20 @@ module _ {V : Type 0} where
   pub reads_refused : (before after : SeatState V) (e : AllocError) → EnterGives before.seen before.learned after.seen before.reads after.reads (Err e) → after.learned ≡ before.learned → IsRun after.seen → ReadsAtMostOne before after
   reads_refused before after e enter learned runs = record { later = read_later before after e enter runs; read = enter; learned = learned }
 
-  pub reads_held : (before after : SeatState V) (held : Held V) → EnterGives before.seen before.learned after.seen before.reads after.reads (Ok held) → after.learned ≡ before.learned → IsRun after.seen → ReadsAtMostOne before after
+  pub reads_held : (before after : SeatState V) (held : Entry V) → EnterGives before.seen before.learned after.seen before.reads after.reads (Ok held) → after.learned ≡ before.learned → IsRun after.seen → ReadsAtMostOne before after
   reads_held before after held enter learned runs = record {
     later = last_number_le before.seen after.seen enter.0 runs;
-    read = inr (enter.0, enter.1, (entry held.number (arc_value held.value), enter.2, enter.3));
+    read = inr (enter.0, enter.1, (held, enter.2, enter.3));
     learned = learned;
   }
 
-  below_held : (list after : List (Entry V)) (held : Held V) → last_number list ≤ last_number after → last_of after ≡ Some (entry held.number (arc_value held.value)) → last_number list ≤ held.number
-  below_held list after held below last = omega (arith, last_number_is after (entry held.number (arc_value held.value)) last)
+  below_held : (list after : List (Entry V)) (held : Entry V) → last_number list ≤ last_number after → last_of after ≡ Some held → last_number list ≤ held.number
+  below_held list after held below last = omega (arith, last_number_is after held last)
 
   -- the reply was made, or there was no memory for it
-  pub gives_of : (Says : Entry V → List ℕ → ℕ → List ℕ → Type 0) (before after : SeatState V) (held : Held V) (target : List ℕ) (close : Bool) (status : ℕ) (body text : List ℕ) (result : Result (Vec ℕ Global) AllocError) → EnterGives before.seen before.learned after.seen before.reads after.reads (Ok held) → after.learned ≡ before.learned → IsRun after.seen → Says (entry held.number (arc_value held.value)) target status body → text ≡ body → IfOk result (λ reply. reply.items ≡ reply_text status text close) → Gives Says before after target close result
+  pub gives_of : (Says : Entry V → List ℕ → ℕ → List ℕ → Type 0) (before after : SeatState V) (held : Entry V) (target : List ℕ) (close : Bool) (status : ℕ) (body text : List ℕ) (result : Result (Vec ℕ Global) AllocError) → EnterGives before.seen before.learned after.seen before.reads after.reads (Ok held) → after.learned ≡ before.learned → IsRun after.seen → Says held target status body → text ≡ body → IfOk result (λ reply. reply.items ≡ reply_text status text close) → Gives Says before after target close result
   gives_of Says before after held target close status body text (Ok reply) enter learned runs says same is = record {
-    entry = entry held.number (arc_value held.value);
+    entry = held;
     later = enter.0;
     told = enter.1;
     last = enter.2;

@@ -1,7 +1,6 @@
 //! What answers a target.
 
 ghost use Rattle.std.specs.Prelude.{◌≡◌, ℕ, List, IsTrue, IfOk};
-ghost use Rattle.std.specs.Arc.{arc_value};
 ghost use Rattle.http_head.specs.Replies.{is_status};
 
 use metric_publish::held::Held;
@@ -34,7 +33,7 @@ pub trait Answering<V: Drop> {
 
     /// Answers a target. It answers an error only where memory runs out.
     fn answer(&self, alloc: Global, held: &Held<V>, target: &[u8]) -> Result<Said, AllocError>
-        requires { fits self.now (arc_value held.now.value) }
-        ensures says { IfOk result (λ s. says (arc_value held.now.value) held.now.number target.now s.status s.body) }
+        requires { fits self.now held.now.value }
+        ensures says { IfOk result (λ s. says held.now.value held.now.number target.now s.status s.body) }
         ensures status { IfOk result (λ s. IsTrue (is_status s.status)) };
 }

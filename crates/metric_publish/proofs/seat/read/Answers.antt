@@ -15,7 +15,7 @@ returns-in-Ok-value g c =
     let sees : Sees (view c.args.reader.place) shown.front.token.log shown.put.number (view c.in-Ok.reading.place) = rw c.get-shown.ensures c.in-Ok.ensures.1 in
     let last : last_of c.again-front.result.token.log ≡ Some (entry_of shown.put) = ap last_of c.again-front.ensures ∙ shown.last in (
       entered_at _ _ _ _ _ (entry_of shown.put) sees shown.last c.again-front.ensures c.leave-reader.ensures.1,
-      rw c.in-Ok-value.ensures last,
+      rw (c.of.ensures, c.in-Ok-value.ensures) last,
     )
 
 pub returns-in-Err-value : goal.returns-in-Err-value

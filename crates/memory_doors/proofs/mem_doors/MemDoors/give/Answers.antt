@@ -1,9 +1,8 @@
-use Rattle.std.proofs.Common.{◌≡◌, length, map, vec_len, All, List, Option, None, Some, rules, subst, sym, ap, ◌∙◌}
+use Rattle.std.proofs.Common.{length, All, List, Option, None, Some, rules, subst, sym, ap, ◌∙◌}
 use Rattle.std.proofs.lemmas.List.{map-id}
 use Rattle.std.specs.Option.{IfSome, unwrap_or}
-use Rattle.road_io.specs.DoorOpening.{Asked, IsNewDoor, asked, door_set}
+use Rattle.road_io.specs.DoorOpening.{Asked, IsNewDoor}
 use Rattle.road_io.specs.Doorway.{DoorView}
-use Rattle.memory_doors.specs.Preparing.{IsOpening, new_doors}
 use Rattle.memory_doors.proofs.mem_doors.MemDoors.give.Goals as goal
 
 unwrap_or-new : (door : Option DoorView) (spare : DoorView) → IfSome door IsNewDoor → IsNewDoor spare → IsNewDoor (unwrap_or door spare)

@@ -1,8 +1,7 @@
-use Rattle.std.proofs.Common.{arith}
+use Rattle.std.proofs.Common.{ap, arith}
 use Rattle.memory_doors.proofs.SteadyLaws.{back_gives}
 use Rattle.memory_doors.proofs.steady_doors.SteadyDoorsDoors.back.Goals as goal
 
-pub returns : goal.returns
-returns g c = record {
-  takes = back_gives c.args.self.now _ c.args.queries.items c.args.control (omega (arith, c.self.view_is, c.len.ensures));
-}
+pub returns-clause-takes : goal.returns-clause-takes
+returns-clause-takes g c =
+    back_gives g.C.Conn.state c.args.self.now _ c.args.queries.items c.args.control (omega (arith, ap (λ s. s.out) c.self.view_is, c.len.ensures))

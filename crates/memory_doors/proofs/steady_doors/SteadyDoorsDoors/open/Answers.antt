@@ -2,8 +2,7 @@ use Rattle.road_io.specs.DoorOpening.{asked}
 use Rattle.memory_doors.proofs.SteadyLaws.{opens}
 use Rattle.memory_doors.proofs.steady_doors.SteadyDoorsDoors.open.Goals as goal
 
-pub returns-in-Ok : goal.returns-in-Ok
-returns-in-Ok g c = record {
-  gives = opens c.args.self.now c.give.new.self c.in-Ok.opened.queries.items c.in-Ok.opened.control (asked c.args.query.now c.args.control.now c.args.workers)
-      c.in-Ok.ensures.count c.in-Ok.ensures.queries c.in-Ok.ensures.control c.in-Ok.ensures.out;
-}
+pub returns-in-Ok-clause-gives : goal.returns-in-Ok-clause-gives
+returns-in-Ok-clause-gives g c =
+    opens g.C.Conn.state c.args.self.now c.give.new.self c.in-Ok.opened.queries.items c.in-Ok.opened.control (asked c.args.query.now c.args.control.now c.args.workers)
+    c.in-Ok.ensures.queries c.in-Ok.ensures.control c.in-Ok.ensures.left
