@@ -355,3 +355,10 @@ cosine-within p spot low high least half width south north near wide is = elim i
     | inr none ↦ subst (λ (z : ℤ). cosine_between p spot ≤ cosine_of z) (sym none) (cosine-most p spot)
   ]
 ]
+
+-- no point lies farther off any line than half-way round the Earth both ways
+pub offset-most : (line : Chord) (p : Point) → offset_of line.from line.to p ≤ 700000000000000000000000000
+offset-most line p =
+    let spot = position_at (position_of line.from) (position_of line.to) (place_of (position_of p) (position_of line.from) (position_of line.to)) in
+    let bound = offset-within line p 360000000 180000000 65536 (east-bound line p) (north-bound line p) (cosine-most (position_of p) spot) in
+    omega (arith, bound)

@@ -197,6 +197,14 @@ module _ (tolerance : ℕ) (points kept : List Point) (from : ℕ) (ends lower :
       let e = step.0 in
       omega (arith, less, e)
 
+  -- the last point that stays is none before
+  pub step-later : (y : Point) (split : Option ℕ) (after : List Point) (next : ℕ) (more : List ℕ) → IsStep kept after lower more from to y next split → from ≤ next
+  step-later y None after next more step =
+      let lt = next-end.0 in
+      let is = step.0 in
+      omega (arith, lt, is)
+  step-later y (Some at) after next more step = let is = step.0 in omega (arith, is)
+
 -- with no end left all is done
 pub stands-all : (tolerance : ℕ) (points kept : List Point) (from : ℕ) (ends : List ℕ) → Point → Stands tolerance points kept from ends → ends ≡ [] → kept ≡ simplified tolerance points
 unfolding rest_of

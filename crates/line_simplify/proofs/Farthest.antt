@@ -43,7 +43,7 @@ module _ (limit : ℕ) (a b : Point) where
       )
 
   -- no point so far is farther off
-  all-below : (points : List Point) (most : ℕ) (o : Option ℕ) → IsFarthestSoFar limit a b points most o → (limit ≤ most) × All (λ r. offset_of a b r ≤ most) points
+  pub all-below : (points : List Point) (most : ℕ) (o : Option ℕ) → IsFarthestSoFar limit a b points most o → (limit ≤ most) × All (λ r. offset_of a b r ≤ most) points
   all-below points most None h =
       let e = h.0 in (omega (arith, e), All-weaker (λ r. offset_of a b r ≤ limit) (λ r. offset_of a b r ≤ most) (λ r le. omega (arith, e, le)) points h.1)
   all-below points most (Some at) h =
@@ -138,6 +138,11 @@ module _ (limit : ℕ) (a b : Point) where
             let all : take (k + n) points ≡ take (k + suc n) points = take_all (k + n) points le ∙ sym (take_all (k + suc n) points (omega (arith, le))) in
             subst (λ (xs : List Point). IsFarthestSoFar limit a b xs most o) all before
       ]
+
+  -- no point is farther off
+  pub keeps-rest : (points : List Point) (k most : ℕ) (o : Option ℕ) → IsFarthestSoFar limit a b (take k points) most o → ((i : ℕ) (q : Point) → slice_get points i ≡ Some q → offset_of a b q ≤ most) → IsFarthestSoFar limit a b points most o
+  keeps-rest points k most o h near =
+      subst (λ (xs : List Point). IsFarthestSoFar limit a b xs most o) (take_all (k + length points) points (omega arith)) (keeps-many points k (length points) most o h (λ i q low high at. near i q at))
 
   -- after the last
   pub farthest-all : (points : List Point) (most : ℕ) (o : Option ℕ) → IsFarthestSoFar limit a b points most o → MatchOption o (All (λ q. offset_of a b q ≤ limit) points) (IsFarthestAt limit a b points)

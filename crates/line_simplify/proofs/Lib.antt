@@ -5,4 +5,5 @@ pub mod Gaps
 pub mod Kept
 pub mod Lines
 pub mod Reaches
+pub mod Repeats
 pub mod Runs

@@ -1,4 +1,5 @@
 pub mod Blocks
 pub mod Bounds
+pub mod Finds
 pub mod Simplified
 pub mod Steps

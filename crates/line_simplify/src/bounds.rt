@@ -16,6 +16,9 @@ use crate::extents::Extent;
 use geo_integer::{cosine, plane, point_at, project};
 use road_base::Point;
 
+/// The square of a distance that no point has from a line.
+pub(crate) const FARTHEST: u128 = 700_000_000_000_000_000_000_000_000;
+
 /// The straight line between two points that stay.
 #[derive(Clone, Copy)]
 pub(crate) struct Chord {

@@ -8,6 +8,7 @@
 mod blocks;
 mod bounds;
 mod extents;
+mod finds;
 mod simplifying;
 mod tolerances;
 

@@ -1,6 +1,7 @@
 //! Which points of a line stay.
 
-ghost use Rattle.std.specs.Prelude.{◌≡◌, ◌+◌, ◌<◌, ◌≤◌, ◌^◌, All, IfOk, IfSome, List, MatchOption, length};
+ghost use Rattle.std.specs.Prelude.{◌≡◌, ℕ, ◌+◌, ◌<◌, ◌≤◌, ◌^◌, All, IfOk, IfSome, List, MatchOption, Some, length};
+ghost use Rattle.std.specs.List.{slice_get};
 ghost use Rattle.road_base.specs.declared.coordinates.Point.{Point};
 ghost use Rattle.line_simplify.specs.Blocks.{AreCovered};
 ghost use Rattle.line_simplify.specs.Steps.{IsFarthestAt, IsStep};
@@ -8,6 +9,7 @@ ghost use Rattle.line_simplify.specs.Simplified.{IsSimplified, limit_of, offset_
 
 use crate::blocks::{Blocks, passed_by};
 use crate::bounds::Chord;
+use crate::finds::{Find, Finds};
 use geo_integer::{plane_distance, point_at, project};
 use road_base::Point;
 use std::alloc::{AllocError, Global};
@@ -16,8 +18,8 @@ use std::alloc::{AllocError, Global};
 /// the last one stay. It answers an error only where memory runs out.
 ///
 /// Each point is looked at at most once for each part that is split and in which it lies, and runs of points that
-/// can't lie farther off than one that was found are passed over by their extents. Where the line goes back the way
-/// it came, a part is looked through only near the places that lie farthest off.
+/// can't lie farther off than one that was found are passed over by their extents. Where the line goes to and fro, a
+/// part is looked through no farther than to the first of the places that lie farthest off.
 pub fn simplify(alloc: Global, points: &[Point], tolerance: u32) -> Result<Vec<Point>, AllocError>
     ensures value { IfOk result (λ kept. kept.items ≡ simplified tolerance points.now) }
     ensures rule { IfOk result (λ kept. IsSimplified tolerance points.now kept.items) }
@@ -29,6 +31,7 @@ pub fn simplify(alloc: Global, points: &[Point], tolerance: u32) -> Result<Vec<P
     let limit = limit(tolerance);
     let runs = Blocks::of(alloc, points)?;
     let mut kept = vec![in alloc; points[0]]?;
+    let mut finds = Finds::none(alloc, points[0], points.len())?;
     let mut from = 0;
     // the points that stay behind `from`, as far as they are known: the last of them is the next one
     let mut ends = vec![in alloc; points.len() - 1]?;
@@ -37,8 +40,18 @@ pub fn simplify(alloc: Global, points: &[Point], tolerance: u32) -> Result<Vec<P
             from: points[from],
             to: points[to],
         };
-        let split = farthest(&runs, line, &points[from + 1..to], from + 1, limit);
-        from = step(&mut kept, &mut ends, from, to, line.to, split)?;
+        let reach = Reach {
+            limit,
+            most: finds.most(line, to),
+        };
+        let found = farthest(&runs, line, &points[from + 1..to], from + 1, reach);
+        let find = Find {
+            line,
+            end: to,
+            most: found.most,
+        };
+        finds.keep(find, to - from);
+        from = step(&mut kept, &mut ends, from, to, line.to, found.at)?;
     }
     Ok(kept)
 }
@@ -79,24 +92,37 @@ fn limit(tolerance: u32) -> u128
     wide * wide
 }
 
+/// The squares of distances off a line that count: those beyond the limit. None is greater than `most`.
+#[derive(Clone, Copy)]
+struct Reach {
+    limit: u128,
+    most: u128,
+}
+
+/// Where the farthest point lies, if it lies beyond the limit, and what no point's square is above.
+#[derive(Clone, Copy)]
+struct Maximum {
+    at: Option<usize>,
+    most: u128,
+}
+
 // Of the points between the ends of a line the first of those that lie farthest off it, by its index. None where
 // all lie within the limit. The points have numbers from `first` on.
-fn farthest(
-    blocks: &Blocks,
-    line: Chord,
-    between: &[Point],
-    first: usize,
-    limit: u128,
-) -> Option<usize>
+fn farthest(blocks: &Blocks, line: Chord, between: &[Point], first: usize, reach: Reach) -> Maximum
     requires covered { AreCovered blocks.now first between.now }
     requires few { first + length between.now < 2 ^ 62 }
-    ensures value { MatchOption result (All (λ p. offset_of line.from line.to p ≤ limit) between.now) (IsFarthestAt limit line.from line.to between.now) }
-    ensures within { IfSome result (λ at. at < length between.now) }
+    requires reach { (i : ℕ) (p : Point) → slice_get between.now i ≡ Some p → offset_of line.from line.to p ≤ reach.most }
+    ensures value { MatchOption result.at (All (λ p. offset_of line.from line.to p ≤ reach.limit) between.now) (IsFarthestAt reach.limit line.from line.to between.now) }
+    ensures within { IfSome result.at (λ at. at < length between.now) }
+    ensures most { All (λ p. offset_of line.from line.to p ≤ result.most) between.now }
 {
-    let mut most = limit;
+    let mut most = reach.limit;
     let mut farthest = None;
     let mut at = 0;
     while at < between.len() {
+        if most >= reach.most {
+            return Maximum { at: farthest, most };
+        }
         let passed = passed_by(blocks, line, most, first + at, between.len() - at);
         if passed > 0 {
             at += passed;
@@ -109,7 +135,7 @@ fn farthest(
         }
         at += 1;
     }
-    farthest
+    Maximum { at: farthest, most }
 }
 
 // The square of the distance of a point from its nearest place on the line from `a` to `b`.

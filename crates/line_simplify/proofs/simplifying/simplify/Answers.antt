@@ -7,7 +7,9 @@ use Rattle.line_simplify.specs.Blocks.{IsCovered}
 use Rattle.road_base.specs.declared.coordinates.Point.{Point}
 use Rattle.line_simplify.specs.Steps.{IsFarthestAt}
 use Rattle.line_simplify.specs.Simplified.{IsSimplified, few, limit_of, offset_of, simplified}
-use Rattle.line_simplify.proofs.Ends.{next-end, part, stands-all, stands-first, stands-next, step-smaller}
+use Rattle.line_simplify.proofs.Ends.{next-end, part, stands-all, stands-first, stands-next, step-later, step-smaller}
+use Rattle.line_simplify.specs.Finds.{AreWithin}
+use Rattle.line_simplify.proofs.Repeats.{finds-later, part-within, within-part}
 use Rattle.line_simplify.proofs.Lines.{simplified-few, simplified-is, simplified-rule}
 use Rattle.line_simplify.proofs.simplifying.simplify.Goals as goal
 
@@ -29,21 +31,33 @@ loop-to-init c =
     let le : 3 ≤ length points = c.if-points-lt3.false in
     let e : c.in_ok-kept.kept.items ≡ x ∷ [] = c.in_ok-kept.ensures.items in
     let i : c.in_ok-ends.ends.items ≡ (length points - 1) ∷ [] = c.in_ok-ends.ensures.items in
-    stands-first c.args.tolerance points c.in_ok-kept.kept.items c.in_ok-ends.ends.items x le (get_or_read points 0 x (omega (arith, le)) c.index-points-0.is) e i
+    record {
+      stands = stands-first c.args.tolerance points c.in_ok-kept.kept.items c.in_ok-ends.ends.items x le (get_or_read points 0 x (omega (arith, le)) c.index-points-0.is) e i;
+      finds = c.in_ok-finds.ensures points 0;
+    }
 
 -- the points between two ends have the numbers behind the first
-pub farthest-split-requires-clause-covered : goal.farthest-split-requires-clause-covered
-farthest-split-requires-clause-covered c = λ i p at.
-    let next = next-end c.args.tolerance c.args.points.now c.loop-to.kept.items c.loop-to.from c.loop-to.ends.items c.pop.new.self.items c.in-Some.to c.loop-to.invariant c.in-Some.ensures.items in
+pub farthest-found-requires-clause-covered : goal.farthest-found-requires-clause-covered
+farthest-found-requires-clause-covered c = λ i p at.
+    let next = next-end c.args.tolerance c.args.points.now c.loop-to.kept.items c.loop-to.from c.loop-to.ends.items c.pop.new.self.items c.in-Some.to c.loop-to.invariant.stands c.in-Some.ensures.items in
     let there = get_part c.args.points.now (c.loop-to.from + 1) c.in-Some.to i p (omega (arith, next.1)) at in
     let whole : 0 + (c.loop-to.from + 1 + i) ≡ c.loop-to.from + 1 + i = omega arith in
     subst (λ n. IsCovered c.in_ok-runs.runs n p) whole (c.in_ok-runs.ensures (c.loop-to.from + 1 + i) p there.1)
 
+-- none of them lies farther off than what is known of the chord
+pub farthest-found-requires-clause-reach : goal.farthest-found-requires-clause-reach
+farthest-found-requires-clause-reach c =
+    let points = c.args.points.now in
+    let from = c.loop-to.from in
+    let to = c.in-Some.to in
+    let next = next-end c.args.tolerance points c.loop-to.kept.items from c.loop-to.ends.items c.pop.new.self.items to c.loop-to.invariant.stands c.in-Some.ensures.items in
+    within-part points from to (record { from = c.index-points-from.result; to = c.index-points-to.result }) c.most.result (omega (arith, next.1)) (c.most.ensures points from c.loop-to.invariant.finds)
+
 -- one step more
 pub loop-to-smaller : goal.loop-to-smaller
 loop-to-smaller c =
-    step-smaller c.args.tolerance c.args.points.now c.loop-to.kept.items c.loop-to.from c.loop-to.ends.items c.pop.new.self.items c.in-Some.to c.loop-to.invariant c.in-Some.ensures.items
-    c.index-points-to.result c.farthest-split.result c.step.new.kept.items c.in_ok-from.from c.step.new.ends.items c.in_ok-from.ensures
+    step-smaller c.args.tolerance c.args.points.now c.loop-to.kept.items c.loop-to.from c.loop-to.ends.items c.pop.new.self.items c.in-Some.to c.loop-to.invariant.stands c.in-Some.ensures.items
+    c.index-points-to.result c.farthest-found.result.at c.step.new.kept.items c.in_ok-from.from c.step.new.ends.items c.in_ok-from.ensures
 
 pub loop-to-preserved : goal.loop-to-preserved
 loop-to-preserved c =
@@ -52,19 +66,24 @@ loop-to-preserved c =
     let to = c.in-Some.to in
     let x = c.index-points-from.result in
     let y = c.index-points-to.result in
-    let split = c.farthest-split.result in
+    let split = c.farthest-found.result.at in
     let e = c.in-Some.ensures.items in
-    let next = next-end c.args.tolerance points c.loop-to.kept.items from c.loop-to.ends.items c.pop.new.self.items to c.loop-to.invariant e in
+    let next = next-end c.args.tolerance points c.loop-to.kept.items from c.loop-to.ends.items c.pop.new.self.items to c.loop-to.invariant.stands e in
     let found : MatchOption split (All (λ q. offset_of x y q ≤ limit_of c.args.tolerance) (part points from to)) (IsFarthestAt (limit_of c.args.tolerance) x y (part points from to)) =
-    subst (λ (limit : ℕ). MatchOption split (All (λ q. offset_of x y q ≤ limit) (part points from to)) (IsFarthestAt limit x y (part points from to))) c.limit-limit.ensures c.farthest-split.ensures.value in
-    stands-next c.args.tolerance points c.loop-to.kept.items from c.loop-to.ends.items c.pop.new.self.items to c.loop-to.invariant e x y split c.step.new.kept.items c.in_ok-from.from c.step.new.ends.items
-    (get_or_read points from x c.loop-to.invariant.inside c.index-points-from.is) (get_or_read points to y next.1 c.index-points-to.is) found c.in_ok-from.ensures
+    subst (λ (limit : ℕ). MatchOption split (All (λ q. offset_of x y q ≤ limit) (part points from to)) (IsFarthestAt limit x y (part points from to))) c.limit-limit.ensures c.farthest-found.ensures.value in
+    let later : from ≤ c.in_ok-from.from = step-later c.args.tolerance points c.loop-to.kept.items from c.loop-to.ends.items c.pop.new.self.items to c.loop-to.invariant.stands e y split c.step.new.kept.items c.in_ok-from.from c.step.new.ends.items c.in_ok-from.ensures in
+    let within : AreWithin points from to (record { from = x; to = y }) c.farthest-found.result.most = part-within points from to (record { from = x; to = y }) c.farthest-found.result.most (omega (arith, next.1)) c.farthest-found.ensures.most in
+    record {
+      stands = stands-next c.args.tolerance points c.loop-to.kept.items from c.loop-to.ends.items c.pop.new.self.items to c.loop-to.invariant.stands e x y split c.step.new.kept.items c.in_ok-from.from c.step.new.ends.items
+          (get_or_read points from x c.loop-to.invariant.stands.inside c.index-points-from.is) (get_or_read points to y next.1 c.index-points-to.is) found c.in_ok-from.ensures;
+      finds = finds-later points from c.in_ok-from.from c.keep.new.self.finds.items later (c.keep.ensures points from c.loop-to.invariant.finds within);
+    }
 
 -- no end is left
 pub returns-clause-value : goal.returns-clause-value
 returns-clause-value c =
     let none : length c.loop-to.ends.items ≡ 0 = sym c.loop-to.ends.ok.0 ∙ c.in_default.ensures.cases.0 in
-    stands-all c.args.tolerance c.args.points.now c.loop-to.kept.items c.loop-to.from c.loop-to.ends.items c.index-points-0.result c.loop-to.invariant (nil_from_length c.loop-to.ends.items none)
+    stands-all c.args.tolerance c.args.points.now c.loop-to.kept.items c.loop-to.from c.loop-to.ends.items c.index-points-0.result c.loop-to.invariant.stands (nil_from_length c.loop-to.ends.items none)
 
 pub returns-clause-rule : goal.returns-clause-rule
 returns-clause-rule c =
