@@ -55,6 +55,8 @@ time=/usr/bin/time
 try reading.py 'reading, building, memory and routes beside the baseline' "$plain $time" \
     --tangles 3 --towns 10 --routes 20 --repeats 1
 try replies.py 'replies of all services beside those of the baseline' "$plain" --tangles 3 --roads 100 "$car" town.opl
+try large.py 'a map and one of four times its size beside the baseline' "$plain" --segments 1000
+try road_map.py 'a map like those of real roads' '' 1000 roads.opl
 try traffic.py 'lines of TRAFFIC beside the baseline' "$plain" --town 10 --rows 100 --repeats 1
 try traffic_rows.py 'traffic files for a map' '' town.opl 10 10
 cells=${OVERLAYS:-rustc}

@@ -4,7 +4,8 @@
 //!
 //! It trusts its map and its settings: it tells no fault of theirs, looks for no duplicates, does not check
 //! UTF-8, and keeps only the nodes' locations, the ways that can be used, and the restrictions. Its TOML is
-//! keys with a number, a text or a list of texts, and tables of numbers. Of traffic files it tells each fault.
+//! keys with a number, `true` or `false`, a text or a list of texts or of such lists, and tables of numbers or of lists,
+//! each list of texts without brackets in them. Of traffic files it tells each fault.
 //!
 //!     rustc --edition 2024 -C opt-level=3 baseline.rs
 //!     baseline ask OPL SETTINGS       answers the lines of standard input
@@ -22,6 +23,8 @@ mod serve_plain;
 use std::cmp::Reverse;
 use std::collections::{BinaryHeap, HashMap, HashSet};
 use std::io::{BufRead, Write};
+use std::ops::Deref;
+use std::sync::OnceLock;
 
 /// Deciseconds, then decimetres.
 type Cost = (u64, u64);
@@ -50,7 +53,17 @@ struct Settings {
     u_turn: u64,
     signal: u64,
     left_side: bool,
+    maxspeed: bool,
+    /// Thousandths by the value of `surface`.
+    surfaces: HashMap<String, u64>,
+    /// The name of each class of ways and its tags, as keys and values.
+    classes: Vec<(String, Vec<(String, String)>)>,
+    /// The sets of classes that a request may exclude, in the order of the file.
+    excludable: Vec<Vec<String>>,
 }
+
+/// Classes of ways, the first as the last bit.
+type Classes = u8;
 
 const MODIFIERS: [&str; 8] =
     ["straight", "slight_right", "right", "sharp_right", "uturn", "sharp_left", "left", "slight_left"];
@@ -86,6 +99,7 @@ struct Map {
 struct Way {
     id: i64,
     name: String,
+    classes: Classes,
     speed: u64,
     forward: bool,
     backward: bool,
@@ -111,9 +125,13 @@ struct Network {
     applied: usize,
     ignored: usize,
     left_side: bool,
+    class_names: Vec<String>,
+    excludable: Vec<Classes>,
     /// What the settings alone say, and what holds now.
     profile: Metric,
     metric: Metric,
+    /// All vertices that leave a node, permitted or not; made when steps are first asked for.
+    around: OnceLock<HashMap<i64, Vec<u32>>>,
 }
 
 #[derive(Clone)]
@@ -123,6 +141,22 @@ struct Metric {
     costs: Vec<Option<Cost>>,
     /// By turn.
     penalties: Vec<u32>,
+    /// The costs without the ways of each excludable set; not kept of the profile.
+    avoiding: Vec<Vec<Option<Cost>>>,
+}
+
+/// A network as a request sees it.
+struct View<'a> {
+    network: &'a Network,
+    costs: &'a [Option<Cost>],
+}
+
+impl Deref for View<'_> {
+    type Target = Network;
+
+    fn deref(&self) -> &Network {
+        self.network
+    }
 }
 
 fn main() {
@@ -162,10 +196,10 @@ fn read_settings(text: &str) -> Settings {
             table = line.to_string();
         } else if !line.starts_with('#') && let Some((key, value)) = line.split_once('=') {
             let mut value = value.trim().to_string();
-            while value.starts_with('[') && !value.ends_with(']') {
+            while value.matches('[').count() > value.matches(']').count() {
                 value.push_str(lines.next().expect("a list ends").trim());
             }
-            set(&mut settings, &table, key.trim(), &value);
+            set(&mut settings, &table, key.trim().trim_matches('"'), &value);
         }
     }
     settings
@@ -174,8 +208,14 @@ fn read_settings(text: &str) -> Settings {
 fn set(settings: &mut Settings, table: &str, key: &str, value: &str) {
     let number = || value.parse::<u64>().expect("number");
     let text = || value.trim_matches('"').to_string();
-    let texts = || value.split('"').skip(1).step_by(2).map(String::from).collect();
+    let texts_in = |list: &str| -> Vec<String> { list.split('"').skip(1).step_by(2).map(String::from).collect() };
+    let texts = || texts_in(value);
     match (table, key) {
+        ("[surfaces]", _) => _ = settings.surfaces.insert(key.to_string(), number()),
+        ("[classes]", _) => {
+            let tags = texts().into_iter().map(|tag| tag.split_once('=').map(|(key, value)| (key.into(), value.into())).expect("tag"));
+            settings.classes.push((key.to_string(), tags.collect()));
+        }
         ("[speeds]", _) => _ = settings.speeds.insert(key.to_string(), number() * 1000),
         ("[turn_penalty]", _) => {
             let place = MODIFIERS.iter().position(|name| *name == key).expect("modifier");
@@ -188,6 +228,8 @@ fn set(settings: &mut Settings, table: &str, key: &str, value: &str) {
         (_, "u_turn_penalty") => settings.u_turn = number(),
         (_, "signal_penalty") => settings.signal = number(),
         (_, "driving_side") => settings.left_side = text() == "left",
+        (_, "maxspeed") => settings.maxspeed = value == "true",
+        (_, "excludable") => settings.excludable = value.split(']').map(texts_in).filter(|set| !set.is_empty()).collect(),
         _ => (),
     }
 }
@@ -286,7 +328,34 @@ fn read_way(line: &[u8], settings: &Settings, map: &mut Map) {
     let ids = field(line, b'N').split(|b| *b == b',').filter(|entry| entry.len() > 1);
     let nodes = ids.map(|entry| integer(entry[1..].split(|b| *b == b'x').next().unwrap())).collect();
     let name = value_of(tags, "name").unwrap_or_default();
-    map.ways.push(Way { id: id_of(line), name, speed: *speed, forward, backward, nodes });
+    let (speed, classes) = (speed_on(tags, *speed, settings), classes_of(tags, settings));
+    map.ways.push(Way { id: id_of(line), name, classes, speed, forward, backward, nodes });
+}
+
+/// What `maxspeed` and then `surface` make of the speed of a way's kind.
+fn speed_on(tags: &[u8], speed: u64, settings: &Settings) -> u64 {
+    let limit = if settings.maxspeed { value_of(tags, "maxspeed").and_then(|value| limit_of(&value)) } else { None };
+    let speed = limit.unwrap_or(speed);
+    if settings.surfaces.is_empty() {
+        return speed;
+    }
+    let factor = value_of(tags, "surface").and_then(|value| settings.surfaces.get(&value).copied());
+    factor.map_or(speed, |factor| (speed * factor / 1000).max(1000))
+}
+
+/// A value of `maxspeed` in thousandths of km/h, where it is one that counts.
+fn limit_of(value: &str) -> Option<u64> {
+    let (digits, unit) = value.strip_suffix(" mph").map_or((value, 1_000_000), |digits| (digits, 1_609_344));
+    let short = (1..=3).contains(&digits.len()) && digits.bytes().all(|byte| byte.is_ascii_digit());
+    let number = digits.parse::<u64>().ok().filter(|_| short)?;
+    Some(number * unit / 1000).filter(|limit| (1000..=1_000_000).contains(limit))
+}
+
+/// The classes one of whose tags a way has.
+fn classes_of(tags: &[u8], settings: &Settings) -> Classes {
+    let has = |(key, value): &(String, String)| value_of(tags, key).is_some_and(|own| own == *value);
+    let of = settings.classes.iter().map(|(_, tags)| Classes::from(tags.iter().any(has)));
+    of.enumerate().fold(0, |all, (number, of)| all | of << number)
 }
 
 fn read_relation(line: &[u8], settings: &Settings, map: &mut Map) {
@@ -479,9 +548,30 @@ fn build(mut map: Map, settings: &Settings) -> Network {
     }
     let (first, turns, penalties) = turns_of(&map, settings, &segments, &leaving, &costs, &rules);
     let (ignored, left_side) = (map.ignored + read - applied, settings.left_side);
-    let profile = Metric { number: 0, costs, penalties };
-    let metric = profile.clone();
-    Network { ways: map.ways, segments, leaving, first, turns, applied, ignored, left_side, profile, metric }
+    let class_names: Vec<String> = settings.classes.iter().map(|(name, _)| name.clone()).collect();
+    let set = |names: &Vec<String>| set_of(&class_names, names).expect("names of classes");
+    let excludable = settings.excludable.iter().map(set).collect();
+    let profile = Metric { number: 0, costs, penalties, avoiding: Vec::new() };
+    let (metric, around) = (profile.clone(), OnceLock::new());
+    let ways = map.ways;
+    let mut network =
+        Network { ways, segments, leaving, first, turns, applied, ignored, left_side, class_names, excludable, profile, metric, around };
+    network.metric.avoiding = avoiding(&network, &network.metric.costs);
+    network
+}
+
+/// The classes of these names; None where one is of no class.
+fn set_of(class_names: &[String], names: &[String]) -> Option<Classes> {
+    names.iter().try_fold(0, |set, name| Some(set | 1 << class_names.iter().position(|own| own == name)?))
+}
+
+/// Costs without the ways of each excludable set.
+fn avoiding(network: &Network, costs: &[Option<Cost>]) -> Vec<Vec<Option<Cost>>> {
+    let without = |set: &Classes| {
+        let has_none = |v: usize| network.ways[network.segments[v / 2].way as usize].classes & set == 0;
+        costs.iter().enumerate().map(|(v, cost)| cost.filter(|_| has_none(v))).collect()
+    };
+    network.excludable.iter().map(without).collect()
 }
 
 /// The restrictions by their `via` node, but those one of whose ways does not meet it.
@@ -586,9 +676,9 @@ struct Wish {
 }
 
 /// The candidates for a point, each as its plane value, its segment and where on it.
-fn candidates(network: &Network, p: Point, wish: Wish) -> impl Iterator<Item = (u128, u32, u64)> {
+fn candidates(network: &View, p: Point, wish: Wish) -> impl Iterator<Item = (u128, u32, u64)> {
     let near = move |number: usize, segment: &Segment| {
-        let open = |v: &usize| network.metric.costs[*v].is_some();
+        let open = |v: &usize| network.costs[*v].is_some();
         let bears = |v: usize| wish.bearing.is_none_or(|(value, range)| {
             let apart = vertex_bearing(&network.segments, v).abs_diff(value % 360);
             apart.min(360 - apart) <= range
@@ -604,7 +694,7 @@ fn candidates(network: &Network, p: Point, wish: Wish) -> impl Iterator<Item = (
     network.segments.iter().enumerate().filter_map(move |(number, segment)| near(number, segment))
 }
 
-fn snap(network: &Network, p: Point, wish: Wish) -> Option<Place> {
+fn snap(network: &View, p: Point, wish: Wish) -> Option<Place> {
     candidates(network, p, wish).min().map(|(_, segment, at)| Place { segment, at })
 }
 
@@ -621,9 +711,9 @@ fn before(cost: Cost, parts: u64) -> Cost {
 }
 
 /// The open directions of a place's segment, with their costs and how far along each it lies.
-fn directions(network: &Network, place: Place) -> Vec<(u32, Cost, u64)> {
+fn directions(network: &View, place: Place) -> Vec<(u32, Cost, u64)> {
     let both = [(2 * place.segment, place.at), (2 * place.segment + 1, 1024 - place.at)];
-    let open = both.iter().filter_map(|(v, parts)| Some((*v, network.metric.costs[*v as usize]?, *parts)));
+    let open = both.iter().filter_map(|(v, parts)| Some((*v, network.costs[*v as usize]?, *parts)));
     open.collect()
 }
 
@@ -669,10 +759,10 @@ impl Labels {
         }
     }
 
-    fn expand(&mut self, network: &Network, v: u32, paid: Cost, mark: u32) {
+    fn expand(&mut self, network: &View, v: u32, paid: Cost, mark: u32) {
         for turn in network.first[v as usize]..network.first[v as usize + 1] {
             let e = network.turns[turn as usize];
-            if let Some(cost) = network.metric.costs[e as usize] {
+            if let Some(cost) = network.costs[e as usize] {
                 let penalty = u64::from(network.metric.penalties[turn as usize]);
                 self.offer(e, plus(paid, plus((penalty, 0), cost)), v | mark);
             }
@@ -682,7 +772,7 @@ impl Labels {
 
 impl Labels {
     /// Begins a search from a place.
-    fn start(&mut self, network: &Network, from: Place) {
+    fn start(&mut self, network: &View, from: Place) {
         self.stamp += 1;
         self.heap.clear();
         for (v, cost, parts) in directions(network, from) {
@@ -691,7 +781,7 @@ impl Labels {
     }
 
     /// Settles the next vertex; None where nothing is left.
-    fn settle(&mut self, network: &Network) -> Option<(u32, Cost)> {
+    fn settle(&mut self, network: &View) -> Option<(u32, Cost)> {
         loop {
             let Reverse((cost, v)) = self.heap.pop()?;
             if !self.settled[v as usize] {
@@ -721,7 +811,7 @@ impl Labels {
 }
 
 /// What a walk of one vertex costs between two places, and the vertex.
-fn along_one(network: &Network, from: Place, to: Place) -> Option<(Cost, u32)> {
+fn along_one(network: &View, from: Place, to: Place) -> Option<(Cost, u32)> {
     let (starts, targets) = (directions(network, from), directions(network, to));
     let pairs = starts.iter().filter_map(|(v, cost, parts)| {
         let (_, _, last) = targets.iter().find(|target| target.0 == *v && target.2 >= *parts)?;
@@ -730,7 +820,7 @@ fn along_one(network: &Network, from: Place, to: Place) -> Option<(Cost, u32)> {
     pairs.min()
 }
 
-fn least_route(network: &Network, labels: &mut Labels, from: Place, to: Place) -> Option<Route> {
+fn least_route(network: &View, labels: &mut Labels, from: Place, to: Place) -> Option<Route> {
     let targets = directions(network, to);
     labels.start(network, from);
     let mut wanted = targets.len();
@@ -751,7 +841,7 @@ fn least_route(network: &Network, labels: &mut Labels, from: Place, to: Place) -
 }
 
 /// What a least walk from a place to each of others costs, by one search.
-fn row(network: &Network, labels: &mut Labels, from: Place, to: &[Place]) -> Vec<Option<Cost>> {
+fn row(network: &View, labels: &mut Labels, from: Place, to: &[Place]) -> Vec<Option<Cost>> {
     labels.start(network, from);
     let mut wanted: HashSet<u32> = to.iter().flat_map(|place| directions(network, *place)).map(|target| target.0).collect();
     while !wanted.is_empty() {
@@ -966,6 +1056,7 @@ fn metric_of(network: &Network, speeds: &[SpeedRow], turns: &[TurnRow]) -> (Metr
         }
         unmatched += usize::from(!matched);
     }
+    metric.avoiding = avoiding(network, &metric.costs);
     (metric, unmatched)
 }
 
@@ -996,6 +1087,7 @@ fn mirrored_metric_of(network: &Network, speeds: &[SpeedRow], turns: &[TurnRow])
             }
         }
     }
+    metric.avoiding = avoiding(network, &metric.costs);
     let missed = speeds.iter().filter(|row| !last_speeds[&(row.from, row.to)].1).count();
     (metric, missed + turns.iter().filter(|row| !last_turns[&(row.from, row.via, row.to)].1).count())
 }
@@ -1080,11 +1172,11 @@ fn line_text(points: &[Point], geometries: &str) -> String {
 }
 
 /// What a walk pays at each of its vertices.
-fn paid_along(network: &Network, walk: &[u32], from: Place, to: Place) -> Vec<Cost> {
+fn paid_along(network: &View, walk: &[u32], from: Place, to: Place) -> Vec<Cost> {
     let parts = |v: u32, place: Place| if v % 2 == 0 { place.at } else { 1024 - place.at };
     let last = walk.len() - 1;
     let each = walk.iter().enumerate().map(|(at, v)| {
-        let whole = network.metric.costs[*v as usize].expect("an open vertex");
+        let whole = network.costs[*v as usize].expect("an open vertex");
         let end = if at == last { before(whole, parts(*v, to)) } else { whole };
         if at == 0 { minus(end, before(whole, parts(*v, from))) } else { end }
     });
@@ -1131,7 +1223,10 @@ fn answer(network: &Network, labels: &mut Labels, target: &str) -> String {
         Ok(request) => request,
         Err((code, message)) => return format!("{{\"code\":\"{code}\",\"message\":{}}}", quoted(&message)),
     };
-    let version = network.metric.number;
+    let Some(costs) = costs_for(network, &request) else {
+        return String::from("{\"code\":\"InvalidValue\",\"message\":\"exclude\"}");
+    };
+    let (network, version) = (&View { network, costs }, network.metric.number);
     if request.since > version {
         let since = request.since;
         return format!("{{\"code\":\"AheadOfData\",\"data_version\":\"{version}\",\"message\":\"since {since}\"}}");
@@ -1148,9 +1243,17 @@ fn answer(network: &Network, labels: &mut Labels, target: &str) -> String {
     }
 }
 
+/// The costs that a request is answered under; None where it excludes no set that may be excluded.
+fn costs_for<'a>(network: &'a Network, request: &Request) -> Option<&'a [Option<Cost>]> {
+    let Some(names) = &request.exclude else { return Some(&network.metric.costs) };
+    let set = set_of(&network.class_names, names)?;
+    let number = network.excludable.iter().position(|own| *own == set)?;
+    Some(&network.metric.avoiding[number])
+}
+
 type Refusal = (&'static str, String);
 
-fn places_of(network: &Network, request: &Request) -> Result<Vec<Place>, Refusal> {
+fn places_of(network: &View, request: &Request) -> Result<Vec<Place>, Refusal> {
     let place = |number: usize| {
         let found = snap(network, request.points[number], request.wishes[number]);
         found.ok_or_else(|| ("NoSegment", format!("coordinate {number}")))
@@ -1158,7 +1261,7 @@ fn places_of(network: &Network, request: &Request) -> Result<Vec<Place>, Refusal
     (0..request.points.len()).map(place).collect()
 }
 
-fn nearest(network: &Network, request: &Request) -> Result<String, Refusal> {
+fn nearest(network: &View, request: &Request) -> Result<String, Refusal> {
     let point = request.points[0];
     let mut found: Vec<(u128, u32, u64)> = candidates(network, point, request.wishes[0]).collect();
     if found.is_empty() {
@@ -1173,7 +1276,7 @@ fn nearest(network: &Network, request: &Request) -> Result<String, Refusal> {
     Ok(format!("\"waypoints\":[{}]", told.collect::<Vec<_>>().join(",")))
 }
 
-fn table(network: &Network, labels: &mut Labels, request: &Request) -> Result<String, Refusal> {
+fn table(network: &View, labels: &mut Labels, request: &Request) -> Result<String, Refusal> {
     let places = places_of(network, request)?;
     let (from, to) = (&request.sources, &request.destinations);
     let ends: Vec<Place> = to.iter().map(|i| places[*i]).collect();
@@ -1195,7 +1298,7 @@ fn table(network: &Network, labels: &mut Labels, request: &Request) -> Result<St
     Ok(members.join(","))
 }
 
-fn route(network: &Network, labels: &mut Labels, request: &Request) -> Result<String, Refusal> {
+fn route(network: &View, labels: &mut Labels, request: &Request) -> Result<String, Refusal> {
     let places = places_of(network, request)?;
     let told = route_text(network, labels, request, &places).map_err(|leg| ("NoRoute", format!("leg {leg}")))?;
     let waypoints = request.points.iter().zip(&places).map(|(point, place)| waypoint(network, *point, *place));
@@ -1203,7 +1306,7 @@ fn route(network: &Network, labels: &mut Labels, request: &Request) -> Result<St
 }
 
 /// All places in the order that is best, found by trying all orders.
-fn trip(network: &Network, labels: &mut Labels, request: &Request) -> Result<String, Refusal> {
+fn trip(network: &View, labels: &mut Labels, request: &Request) -> Result<String, Refusal> {
     let places = places_of(network, request)?;
     let rows: Vec<Vec<Option<Cost>>> = places.iter().map(|place| row(network, labels, *place, &places)).collect();
     let order = best_order(&rows, request).ok_or_else(|| ("NoTrips", String::from("trip")))?;
@@ -1263,7 +1366,7 @@ fn waypoints_text(request: &Request, waypoints: Vec<String>) -> String {
 }
 
 /// A route through places in their order; the number of the first leg that has no walk where one has none.
-fn route_text(network: &Network, labels: &mut Labels, request: &Request, places: &[Place]) -> Result<String, usize> {
+fn route_text(network: &View, labels: &mut Labels, request: &Request, places: &[Place]) -> Result<String, usize> {
     let (mut whole, mut legs, mut line) = ((0, 0), Vec::new(), Vec::new());
     for (number, pair) in places.windows(2).enumerate() {
         let route = least_route(network, labels, pair[0], pair[1]).ok_or(number)?;
@@ -1283,7 +1386,7 @@ fn route_text(network: &Network, labels: &mut Labels, request: &Request, places:
     Ok(format!("{{{totals},\"weight_name\":\"duration\",{geometry}\"legs\":[{legs}]}}"))
 }
 
-fn leg_text(network: &Network, request: &Request, route: &Route, points: &[Point], from: Place, to: Place) -> String {
+fn leg_text(network: &View, request: &Request, route: &Route, points: &[Point], from: Place, to: Place) -> String {
     let mut members = Vec::new();
     let paid = paid_along(network, &route.walk, from, to);
     let steps = if request.steps { steps_text(network, request, &route.walk, &paid, points) } else { String::new() };
@@ -1324,23 +1427,59 @@ fn steps_text(network: &Network, request: &Request, walk: &[u32], paid: &[Cost],
         let after = vertex_bearing(&network.segments, walk[from] as usize);
         let modifier = modifier.map_or(String::new(), |modifier| format!(",\"modifier\":\"{}\"", MODIFIERS[modifier].replace('_', " ")));
         let maneuver = format!("\"bearing_before\":{before},\"bearing_after\":{after},\"type\":\"{kind}\"{modifier}");
-        told += &step_text(network, request, walk[from], plus(whole, (turned, 0)), &points[from..=to], &maneuver);
+        let met: Vec<String> = (from..to).map(|at| intersection(network, walk, points[at], at)).collect();
+        told += &step_text(network, request, walk[from], plus(whole, (turned, 0)), &points[from..=to], &maneuver, &met.join(","));
         told.push(',');
     }
     let (last, end) = (walk[walk.len() - 1], points[points.len() - 1]);
     let before = vertex_bearing(&network.segments, last as usize);
     let maneuver = format!("\"bearing_before\":{before},\"bearing_after\":0,\"type\":\"arrive\"");
-    told + &step_text(network, request, last, (0, 0), &[end, end], &maneuver)
+    let met = format!("{{{},\"bearings\":[{}],\"entry\":[true],\"in\":0}}", location(end), (before + 180) % 360);
+    told + &step_text(network, request, last, (0, 0), &[end, end], &maneuver, &met)
+}
+
+/// What leaves the node where a vertex of a walk begins, by bearings, and what may be entered of it; where the walk
+/// begins, its own direction alone.
+fn intersection(network: &Network, walk: &[u32], point: Point, at: usize) -> String {
+    let bears = |v: u32| vertex_bearing(&network.segments, v as usize);
+    if at == 0 {
+        return format!("{{{},\"bearings\":[{}],\"entry\":[true],\"out\":0}}", location(point), bears(walk[0]));
+    }
+    let (d, e) = (walk[at - 1] as usize, walk[at]);
+    let turns = &network.turns[network.first[d] as usize..network.first[d + 1] as usize];
+    let mut ways: Vec<(u32, u32)> = around(network)[&ends(&network.segments, d).1].iter().map(|v| (bears(*v), *v)).collect();
+    ways.sort_unstable();
+    let place = |wanted: u32| ways.iter().position(|(_, v)| *v == wanted).expect("it leaves the node");
+    let (back, on) = (place(walk[at - 1] ^ 1), place(e));
+    let bearings: Vec<String> = ways.iter().map(|(bearing, _)| bearing.to_string()).collect();
+    let entry: Vec<String> = ways.iter().map(|(_, v)| turns.contains(v).to_string()).collect();
+    let lists = format!("\"bearings\":[{}],\"entry\":[{}]", bearings.join(","), entry.join(","));
+    format!("{{{},{lists},\"in\":{back},\"out\":{on}}}", location(point))
+}
+
+/// All vertices that leave a node, permitted or not.
+fn around(network: &Network) -> &HashMap<i64, Vec<u32>> {
+    network.around.get_or_init(|| {
+        let mut around: HashMap<i64, Vec<u32>> = HashMap::new();
+        for v in 0..2 * network.segments.len() {
+            around.entry(ends(&network.segments, v).0).or_default().push(v as u32);
+        }
+        around
+    })
+}
+
+fn location(point: Point) -> String {
+    format!("\"location\":[{},{}]", degrees(point.lon), degrees(point.lat))
 }
 
 /// A step that begins at the first of its points and goes on along a vertex.
-fn step_text(network: &Network, request: &Request, v: u32, cost: Cost, points: &[Point], maneuver: &str) -> String {
+fn step_text(network: &Network, request: &Request, v: u32, cost: Cost, points: &[Point], maneuver: &str, met: &str) -> String {
     let (totals, line, name) = (totals(cost), line_text(points, &request.geometries), quoted(name_of(network, v)));
     let side = if network.left_side { "left" } else { "right" };
-    let place = format!("[{},{}]", degrees(points[0].lon), degrees(points[0].lat));
+    let place = location(points[0]);
     format!(
         "{{{totals},\"geometry\":{line},\"name\":{name},\"mode\":\"driving\",\"driving_side\":\"{side}\",\
-         \"maneuver\":{{\"location\":{place},{maneuver}}}}}"
+         \"maneuver\":{{{place},{maneuver}}},\"intersections\":[{met}]}}"
     )
 }
 
@@ -1394,6 +1533,7 @@ struct Request {
     from_first: bool,
     to_last: bool,
     since: u32,
+    exclude: Option<Vec<String>>,
     wishes: Vec<Wish>,
 }
 
@@ -1439,6 +1579,7 @@ fn request(target: &str) -> Result<Request, Refusal> {
         from_first: false,
         to_last: false,
         since: 0,
+        exclude: None,
         wishes: vec![Wish::default(); coordinates.len()],
     };
     for option in query.split('&').filter(|_| !query.is_empty()) {
@@ -1518,6 +1659,9 @@ fn set_option(request: &mut Request, name: &str, value: &str, count: usize) -> b
         (_, "skip_waypoints") if ["true", "false"].contains(&value) => request.skip_waypoints = value == "true",
         (_, "since") if value.bytes().all(|byte| byte.is_ascii_digit()) && value.parse::<u32>().is_ok() => {
             request.since = value.parse().unwrap_or(0);
+        }
+        (_, "exclude") if value.split(',').all(|name| !name.is_empty()) => {
+            request.exclude = Some(value.split(',').map(String::from).collect());
         }
         (_, "radiuses") => return wished(request, &set_radius),
         (_, "bearings") => return wished(request, &set_bearing),

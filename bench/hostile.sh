@@ -8,9 +8,10 @@
 # turns, or without them.
 # It prints processor seconds of `road_router check` at 10000, 40000 and 160000 segments, or at
 # those given, without restrictions and with 1, 50 and 200, each the least of five runs, and the
-# ratio of the last to the first. Without them the map has more turns than a network may have
-# from 5794 segments on, and is refused once these are found. With them the columns must not
-# rise from left to right, and must rise no faster than the segments from row to row.
+# ratio of the last to the first. Without them, and with one, such a map has more turns than a
+# network may have from 8193 segments on, and is refused once these are counted. With more, the
+# columns must not rise from left to right, and must rise no faster than the segments from row to
+# row.
 #
 # The second: so many streets that meet at one node (500, 1000, 2000 and 4000, or those given).
 # It prints processor seconds and the peak in megabytes of `check`, of `ask` over one route, whose

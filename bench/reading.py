@@ -40,6 +40,16 @@ FRONT, BACK = "GET /route/v1/car/", "?overview=false"
 
 NODE_TAGS = ["Tbarrier=bollard", "Tbarrier=wall,highway=traffic_signals", "Thighway=traffic_signals", "Thighway=traffic%5f%signals"]
 
+# What may stand at tags that settings of version 2 read.
+READ_BY_SECOND = {
+    "maxspeed": ["30", "50", "7", "007", "0", "999", "1000", "30%20%mph", "5%20%%6d%ph", "999%20%mph", "0%20%mph", "30mph", "30%20%%20%mph", "30%20%MPH",
+                 "%20%mph", "50.5", "-5", "%ff11%", "none", "walk", ""],
+    "surface": ["asphalt", "gravel", "gr%61%vel", "fine_gravel", "ground", "Gravel", "gravel%20%", "cobblestone:flattened", ""],
+    "toll": ["yes", "%79%es", "no", "YES", ""],
+    "route": ["ferry", "a=b", "a"],
+    "tunnel": ["yes", "no"],
+}
+
 KINDS = ["no_left_turn", "no_right_turn", "no_straight_on", "no_u_turn", "only_left_turn", "only_right_turn",
          "only_straight_on", "no_entry", "no_exit"]
 
@@ -72,7 +82,8 @@ def restriction(chance, id, ways):
 def tangle(seed, target):
     """Writes a small map that is hard to get right, and gives the locations of its nodes: ways by odd ids,
     dead ends, loops, one-way streets of all forms, nodes that are missing, deleted, repeated or have no
-    location, closed nodes, signals, ways without access, restrictions of all kinds with and without faults,
+    location, closed nodes, signals, ways without access, limits of speed, surfaces and tags that make classes of ways,
+    restrictions of all kinds with and without faults,
     names that JSON escapes, escapes of OPL, fields in any order."""
     chance = random.Random(seed)
     middle = chance.choice([(0, 0), (13, 53.5), (-70.5, -33.25), (179.995, 0), (20, 89.99), (0, -89.995)])
@@ -102,8 +113,10 @@ def tangle(seed, target):
             tags.append("name=" + chance.choice(names))
         if chance.random() < 0.3:
             tags.append(chance.choice(["access", "vehicle", "motorcar", "%61%ccess"]) + "=" + chance.choice(["no", "yes", "private", ""]))
+        tags += [f"{key}={chance.choice(values)}" for key, values in READ_BY_SECOND.items() if chance.random() < 0.3]
         chance.shuffle(tags)
-        tags += chance.choice([[], ["name=second", "oneway=yes", "highway=motorway", "access=no"]])
+        seconds = ["name=second", "oneway=yes", "highway=motorway", "access=no", "maxspeed=3", "surface=ground", "toll=yes", "route=ferry"]
+        tags += chance.choice([[], seconds])
         refs = [chance.choice(ids + [777]) for _ in range(chance.choice([0, 1, 2, 2, 3, 4, 6]))]
         refs = [ref for ref in refs for _ in range(1 if chance.random() < 0.9 else 2)]
         ways[id] = refs

@@ -12,12 +12,16 @@ names, whose steps are asked for. SETTINGS are those of car.toml where none are 
 
 Then traffic: on each map, and on N small maps made to be hard (20), lines of TRAFFIC with drawn files, good ones in
 all forms of CSV and faulty ones, and with the files that are named, stand between requests of all services. What is
-wrong with a faulty file is known from the drawing, so both have to tell that.
+wrong with a faulty file is known from the drawing, so both have to tell that. All this is done twice, under SETTINGS
+and under the same as version 2 with `maxspeed`, surfaces, classes and sets of them that are drawn for each map. Where
+settings have such sets, half of the requests exclude one, its names in any order and some of them doubled, or what is no
+set, and some do so twice.
 
 Printed are processor microseconds a request of both (the start-up taken away), the ratio, the bytes of a reply, and
 how many replies were equal byte for byte. Two least walks may differ where costs are the same: such replies are
 compared without their lines, annotations and steps, and counted apart; a trip has one best order all the same. In every
-reply the steps of a leg have to cost what the leg costs. The status is 1 where any other reply differs. With --only-compare nothing is timed.
+reply the steps of a leg have to cost what the leg costs, and have the same keys. The status is 1 where any other reply
+differs. With --only-compare nothing is timed.
 """
 import argparse
 import json
@@ -27,10 +31,11 @@ import re
 import subprocess
 import sys
 import tempfile
+import tomllib
 
 import common
 from common import asked, start_of
-from reading import tangle
+from reading import READ_BY_SECOND, tangle
 import traffic_rows
 
 
@@ -48,6 +53,12 @@ def without_walks(reply):
             leg.pop("annotation", None)
             leg.pop("steps", None)
     return value
+
+
+def step_keys(reply):
+    """The keys of the steps of a reply."""
+    steps = (step for route in routes_of(json.loads(reply)) for leg in route["legs"] for step in leg["steps"])
+    return {tuple(step) for step in steps}
 
 
 def steps_add_up(reply):
@@ -70,7 +81,7 @@ def compare(ours, theirs):
             return equal, ties, (mine, "steps that don't add up")
         if mine == other:
             equal += 1
-        elif without_walks(mine) == without_walks(other):
+        elif without_walks(mine) == without_walks(other) and step_keys(mine) == step_keys(other):
             ties += 1
         else:
             return equal, ties, (mine, other)
@@ -189,6 +200,48 @@ def on_roads(programs, settings, lengths, folder):
     return fine
 
 
+# ---- settings ----
+
+CLASSES = ["toll", "ferry", "tunnel", "slow", "a", "a_1", "_", "0", "grave", "x9"]
+
+
+def second_version(chance, settings, path):
+    """Writes settings as version 2, where they aren't, with drawn values of the keys that it has more."""
+    with open(settings, encoding="utf-8") as text:
+        first = re.sub(r"^version *= *1 *\n", "", text.read(), flags=re.M)
+    if not re.search(r"^version *=", first, re.M):
+        tags = [f"{key}={value}" for key, values in READ_BY_SECOND.items() for value in values if "%" not in value]
+        names = chance.sample(CLASSES, chance.randint(1, 8))
+        sets = [[chance.choice(names) for _ in range(chance.randint(1, 3))] for _ in range(chance.randint(0, 7))]
+        surfaces = {key: chance.choice([1, 20, 500, 999, 1000]) for key in chance.sample(["asphalt", "gravel", "fine_gravel", "ground", "paved", "sand"], 4)}
+        tables = ["[surfaces]", *(f"{key} = {factor}" for key, factor in surfaces.items())]
+        tables += ["[classes]", *(f"{name} = {json.dumps(chance.sample(tags, chance.randint(0, 4)))}" for name in names)]
+        front = ["version = 2", chance.choice(["maxspeed = true", "maxspeed = true", "maxspeed = false", ""]), f"excludable = {json.dumps(sets)}"]
+        first = "\n".join([*front, first, *tables, ""])
+    with open(path, "w", encoding="utf-8") as out:
+        out.write(first)
+    return path
+
+
+def sets_in(settings):
+    """The sets that settings let a request exclude, and the names of their classes."""
+    with open(settings, "rb") as text:
+        read = tomllib.load(text)
+    return read.get("excludable", []), list(read.get("classes", {}))
+
+
+def excluding(chance, excludable):
+    """Names for `exclude`: mostly those of a set, in any order, some doubled; else some that are no set, or no names."""
+    sets, names = excludable
+    if sets and chance.random() < 0.75:
+        drawn = list(chance.choice(sets))
+        drawn += chance.sample(drawn, chance.randint(0, len(drawn)))
+    else:
+        drawn = chance.choices([*names, "no_class", "TOLL", "t%6fll", ""], k=chance.randint(1, 3))
+    chance.shuffle(drawn)
+    return chance.choice([",", ",", "%2c"]).join(drawn)
+
+
 # ---- traffic ----
 
 def trip(chance, place, told):
@@ -202,7 +255,7 @@ def trip(chance, place, told):
 TRIP_OPTIONS = (("roundtrip", ("true", "false", "false")), ("source", ("any", "first")), ("destination", ("any", "last")))
 
 
-def requests(chance, place, count):
+def requests(chance, place, count, excludable):
     """Requests of all services at random places, with what depends on a metric asked for."""
     lines = []
     for _ in range(count):
@@ -223,6 +276,8 @@ def requests(chance, place, count):
             trip(chance, place, f"{line}&geometries={form}{told}"),
             trip(chance, place, f"overview=false&skip_waypoints=true&since={chance.randrange(6)}"),
         ]))
+        while chance.random() < (0.5 if excludable[1] else 0.05):
+            lines[-1] += f"&exclude={excluding(chance, excludable)}"
     return lines
 
 
@@ -255,14 +310,15 @@ def traffic_lines(chance, opl, rows, folder, named):
     return lines
 
 
-def on_traffic(name, runs, opl, place, rows, each, seed, named=()):
+def on_traffic(name, programs, opl, settings, place, rows, each, seed, named=()):
     """Compares what both reply to requests between lines of TRAFFIC."""
-    chance = random.Random(seed)
+    chance, excludable = random.Random(seed), sets_in(settings)
+    runs = [[program, "ask", opl, settings] for program in programs]
     with tempfile.TemporaryDirectory() as folder:
-        lines, known = requests(chance, place, each), {}
+        lines, known = requests(chance, place, each, excludable), {}
         for line, told in traffic_lines(chance, opl, rows, folder, named):
             known[len(lines)] = told
-            lines += [line, *requests(chance, place, each)]
+            lines += [line, *requests(chance, place, each, excludable)]
         replies = [asked(words, lines)[1] for words in runs]
         equal, ties, wrong = compare(*replies)
         for at, told in known.items():
@@ -274,7 +330,7 @@ def on_traffic(name, runs, opl, place, rows, each, seed, named=()):
         if wrong:
             at = replies[0].index(wrong[0])
             keep = tempfile.mkdtemp(prefix="replies-differ-")
-            subprocess.run(["cp", "-R", folder, opl, keep], check=True)
+            subprocess.run(["cp", "-R", folder, opl, settings, keep], check=True)
             with open(os.path.join(keep, "lines.txt"), "w", encoding="utf-8") as out:
                 out.write("".join(line + "\n" for line in lines))
             print("DIFFERENT at line", at + 1, lines[at], "program", wrong[0][:1500], "baseline", wrong[1][:1500], f"kept in {keep}", sep="\n")
@@ -293,9 +349,14 @@ def on_tangles(programs, settings, count, folder):
     fine, opl = [], os.path.join(folder, "tangle.opl")
     for seed in range(count):
         points = tangle(seed, opl)
-        runs = [[program, "ask", opl, settings] for program in programs]
-        fine.append(on_traffic(f"tangle {seed}", runs, opl, near_nodes(random.Random(seed), points), 40, 8, seed))
+        for version, own in both_versions(random.Random(seed), settings, folder):
+            place = near_nodes(random.Random(seed), points)
+            fine.append(on_traffic(f"tangle {seed}{version}", programs, opl, own, place, 40, 8, seed))
     return fine
+
+
+def both_versions(chance, settings, folder):
+    return [("", settings), (" under version 2", second_version(chance, settings, os.path.join(folder, "second.toml")))]
 
 
 def main():
@@ -319,7 +380,8 @@ def main():
             (west, east), (south, north) = extent(opl)
             chance = random.Random(3)
             place = lambda: f"{chance.uniform(west, east):.6f},{chance.uniform(south, north):.6f}"
-            fine.append(on_traffic("traffic", runs, opl, place, 2000, 20, 1, named))
+            for version, own in both_versions(random.Random(1), settings, folder):
+                fine.append(on_traffic(f"traffic{version}", programs, opl, own, place, 2000, 20, 1, named))
         if not given.only_compare:
             print("== roads")
             fine += on_roads(programs, settings, map(int, given.roads.split(",")), folder)

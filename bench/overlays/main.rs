@@ -34,7 +34,7 @@ fn options() -> Options {
         files: vec![],
         queries: 1000,
         budget: 10.0,
-        limits: vec![256, 4096, 65536, 1048576],
+        limits: vec![256, 4096, 65536, 1048576, 16777216],
         pair: false,
         reorder: false,
         check: false,
