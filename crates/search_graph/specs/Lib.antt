@@ -2,10 +2,11 @@ pub mod ChainLaws
 pub mod Chained
 pub mod Costs
 pub mod Digraph
-pub mod Durations
 pub mod Faults
 pub mod Indexed
 pub mod OrderLaws
+pub mod Ranks
+pub mod RoadCosts
 pub mod Shortened
 pub mod UnitLaws
 pub mod Walks

@@ -1,31 +1,122 @@
--- `DurLen` in a word: a duration below 2^31 in front of a length below 2^32.
-use Rattle.std.specs.Prelude.{◌≡◌, ℕ, ◌+◌, ◌*◌, ◌/◌, ◌%◌, ◌^◌, ◌<◌, ◌&&◌, Option, None, Some, nat_lt, refl, if◌then◌else◌}
-use Rattle.std.proofs.Common.{arith, sym, ap}
+-- `WeightDurLen` in a word: a duration below 2^31 in front of a length below 2^31, and before both a bit that says whether the
+-- weight is the length. Where it is the duration, the word is a rank.
+use Rattle.std.specs.Prelude.{◌≡◌, ℕ, ◌+◌, ◌*◌, ◌/◌, ◌%◌, ◌^◌, ◌<◌, ◌&&◌, ◌==◌, ◌⊎◌, Bool, true, Option, None, Some, nat_lt, refl, if◌then◌else◌}
+use Rattle.std.proofs.Common.{◌≤◌, inl, inr, ◌∙◌, arith, sym, ap}
 use Rattle.std.proofs.lemmas.Bool.Decides.{nat_tests}
-use Rattle.search_graph.specs.declared.costs.DurLen.{DurLen}
+use Rattle.std.specs.Ordering.{ordering_then, nat_cmp}
+use Rattle.std.specs.declared.cmp.Ordering.{Ordering}
+use Rattle.std.specs.declared.cmp.Ordering.TheVariants.{Less, Equal, Greater}
+use Rattle.search_graph.specs.declared.costs.WeightDurLen.{WeightDurLen}
+use Rattle.search_graph.specs.Ranks.{AreRanks}
+use Rattle.search_graph.specs.RoadCosts.{parts-same, road_cost_ops}
 use Rattle.cost_lists.specs.Words.{IsLossless}
 
-abbrev pub durlen_narrowed : DurLen → Option ℕ
-durlen_narrowed a = if nat_lt a.duration (2 ^ 31) && nat_lt a.length (2 ^ 32) then Some (a.duration * 2 ^ 32 + a.length) else None
+-- duration and length fit into a word
+abbrev pub is_short_cost : WeightDurLen → Bool
+is_short_cost a = nat_lt a.duration (2 ^ 31) && nat_lt a.length (2 ^ 31)
 
-abbrev pub durlen_widened : ℕ → DurLen
-durlen_widened word = record { duration = word / 2 ^ 32; length = word % 2 ^ 32 }
+abbrev pub road_cost_narrowed : WeightDurLen → Option ℕ
+road_cost_narrowed a = if is_short_cost a then
+    (if a.weight == a.duration then Some (a.duration * 2 ^ 31 + a.length)
+    else (if a.weight == a.length then Some (2 ^ 62 + (a.duration * 2 ^ 31 + a.length)) else None))
+    else None
 
--- two pairs of equal parts are equal
-durlen-same : {a b c d : ℕ} → a ≡ b → c ≡ d → ◌≡◌ {A = DurLen} (record { duration = a; length = c }) (record { duration = b; length = d })
-durlen-same e f = cc
+abbrev pub road_cost_widened : ℕ → WeightDurLen
+road_cost_widened word = record {
+  weight = if nat_lt word (2 ^ 62) then word / 2 ^ 31 % 2 ^ 31 else word % 2 ^ 31;
+  duration = word / 2 ^ 31 % 2 ^ 31;
+  length = word % 2 ^ 31;
+}
 
-narrowed-parts : (d l w : ℕ) → (if nat_lt d (2 ^ 31) && nat_lt l (2 ^ 32) then Some (d * 2 ^ 32 + l) else None) ≡ Some w → (d < 2 ^ 31) × (l < 2 ^ 32) × (d * 2 ^ 32 + l ≡ w)
-narrowed-parts d l w e = grind (arith, nat_tests)
+-- the number of a cost whose weight is its duration
+abbrev pub road_cost_ranked : WeightDurLen → Option ℕ
+road_cost_ranked a = if (a.weight == a.duration) && is_short_cost a then Some (a.duration * 2 ^ 31 + a.length) else None
 
-front : (d l : ℕ) → l < 2 ^ 32 → (d * 2 ^ 32 + l) / 2 ^ 32 ≡ d
-front d l h = omega arith
+-- two numbers below 2^31 make a word below 2^62, and come back from it
+word-below : (d l : ℕ) → d < 2 ^ 31 → l < 2 ^ 31 → d * 2 ^ 31 + l < 2 ^ 62
+word-below d l h k = omega arith
 
-back : (d l : ℕ) → l < 2 ^ 32 → (d * 2 ^ 32 + l) % 2 ^ 32 ≡ l
-back d l h = omega arith
+word-front : (d l : ℕ) → d < 2 ^ 31 → l < 2 ^ 31 → (d * 2 ^ 31 + l) / 2 ^ 31 % 2 ^ 31 ≡ d
+word-front d l h k = omega arith
 
-pub durlen_lossless : IsLossless durlen_narrowed durlen_widened
-durlen_lossless = record {
-  short = λ a w e. let p = narrowed-parts a.duration a.length w e in omega (arith, p.0, p.1, p.2);
-  back = λ a w e. let p = narrowed-parts a.duration a.length w e in rw (← p.2) (durlen-same (front a.duration a.length p.1) (back a.duration a.length p.1));
+word-back : (d l : ℕ) → l < 2 ^ 31 → (d * 2 ^ 31 + l) % 2 ^ 31 ≡ l
+word-back d l k = omega arith
+
+-- so they do from one that has the bit before them
+word-front-far : (d l : ℕ) → d < 2 ^ 31 → l < 2 ^ 31 → (2 ^ 62 + (d * 2 ^ 31 + l)) / 2 ^ 31 % 2 ^ 31 ≡ d
+word-front-far d l h k = omega arith
+
+word-back-far : (d l : ℕ) → l < 2 ^ 31 → (2 ^ 62 + (d * 2 ^ 31 + l)) % 2 ^ 31 ≡ l
+word-back-far d l k = omega arith
+
+far-enough : (n : ℕ) → 2 ^ 62 ≤ 2 ^ 62 + n
+far-enough n = omega arith
+
+-- what makes a word
+record IsWordOf (w d l word : ℕ) : Type 0 where
+  duration : d < 2 ^ 31
+  length : l < 2 ^ 31
+  weight : ((w ≡ d) × (word ≡ d * 2 ^ 31 + l)) ⊎ ((w ≡ l) × (word ≡ 2 ^ 62 + (d * 2 ^ 31 + l)))
+
+word-parts : (w d l word : ℕ) → (if nat_lt d (2 ^ 31) && nat_lt l (2 ^ 31) then (if w == d then Some (d * 2 ^ 31 + l) else (if w == l then Some (2 ^ 62 + (d * 2 ^ 31 + l)) else None)) else None) ≡ Some word → IsWordOf w d l word
+word-parts w d l word e = grind (arith, nat_tests, IsWordOf)
+
+rank-parts : (w d l r : ℕ) → (if (w == d) && (nat_lt d (2 ^ 31) && nat_lt l (2 ^ 31)) then Some (d * 2 ^ 31 + l) else None) ≡ Some r → (w ≡ d) × (d < 2 ^ 31) × (l < 2 ^ 31) × (d * 2 ^ 31 + l ≡ r)
+rank-parts w d l r e = grind (arith, nat_tests)
+
+-- the part that a word's bit chooses
+chosen-near : (word x y : ℕ) → word < 2 ^ 62 → (if nat_lt word (2 ^ 62) then x else y) ≡ x
+chosen-near word x y h = grind (arith, nat_tests)
+
+chosen-far : (word x y : ℕ) → 2 ^ 62 ≤ word → (if nat_lt word (2 ^ 62) then x else y) ≡ y
+chosen-far word x y h = grind (arith, nat_tests)
+
+widened-near : (a : WeightDurLen) → a.duration < 2 ^ 31 → a.length < 2 ^ 31 → a.weight ≡ a.duration → road_cost_widened (a.duration * 2 ^ 31 + a.length) ≡ a
+widened-near a h k e =
+    let d = word-front a.duration a.length h k in
+    parts-same (chosen-near _ _ _ (word-below a.duration a.length h k) ∙ d ∙ sym e) d (word-back a.duration a.length k)
+
+widened-far : (a : WeightDurLen) → a.duration < 2 ^ 31 → a.length < 2 ^ 31 → a.weight ≡ a.length → road_cost_widened (2 ^ 62 + (a.duration * 2 ^ 31 + a.length)) ≡ a
+widened-far a h k e =
+    let l = word-back-far a.duration a.length k in
+    parts-same (chosen-far _ _ _ (far-enough (a.duration * 2 ^ 31 + a.length)) ∙ l ∙ sym e) (word-front-far a.duration a.length h k) l
+
+widened-from : (a : WeightDurLen) (word : ℕ) → IsWordOf a.weight a.duration a.length word → road_cost_widened word ≡ a
+widened-from a word p = elim p.weight [
+  | inl e ↦ ap road_cost_widened e.1 ∙ widened-near a p.duration p.length e.0
+  | inr e ↦ ap road_cost_widened e.1 ∙ widened-far a p.duration p.length e.0
+]
+
+short-of : (w d l word : ℕ) → IsWordOf w d l word → word < 2 ^ 63
+short-of w d l word p = let h = p.duration in let k = p.length in elim p.weight [
+  | inl e ↦ let b = e.1 in omega (arith, h, k, b)
+  | inr e ↦ let b = e.1 in omega (arith, h, k, b)
+]
+
+pub road_cost_lossless : IsLossless road_cost_narrowed road_cost_widened
+road_cost_lossless = record {
+  short = λ a word e. short-of a.weight a.duration a.length word (word-parts a.weight a.duration a.length word e);
+  back = λ a word e. widened-from a word (word-parts a.weight a.duration a.length word e);
+}
+
+-- words are in the order of their two parts
+words-ordered : (d l e m : ℕ) → l < 2 ^ 31 → m < 2 ^ 31 → ordering_then (nat_cmp d e) (nat_cmp l m) ≡ nat_cmp (d * 2 ^ 31 + l) (e * 2 ^ 31 + m)
+words-ordered d l e m h k = grind (arith, nat_tests)
+
+twice-then : (p q : Ordering) → ordering_then p (ordering_then p q) ≡ ordering_then p q
+twice-then Less q = refl
+twice-then Equal q = refl
+twice-then Greater q = refl
+
+ranks-ordered : (a b : WeightDurLen) (r s : ℕ)
+    → (a.weight ≡ a.duration) × (a.duration < 2 ^ 31) × (a.length < 2 ^ 31) × (a.duration * 2 ^ 31 + a.length ≡ r)
+    → (b.weight ≡ b.duration) × (b.duration < 2 ^ 31) × (b.length < 2 ^ 31) × (b.duration * 2 ^ 31 + b.length ≡ s)
+    → ordering_then (nat_cmp a.weight b.weight) (ordering_then (nat_cmp a.duration b.duration) (nat_cmp a.length b.length)) ≡ nat_cmp r s
+ranks-ordered a b r s p q =
+    rw (p.0, q.0, twice-then (nat_cmp a.duration b.duration) (nat_cmp a.length b.length), ← p.3, ← q.3) (words-ordered a.duration a.length b.duration b.length p.2 q.2)
+
+pub road_cost_ranks : AreRanks road_cost_ops.cmp road_cost_ranked road_cost_widened
+road_cost_ranks = record {
+  back = λ a r e. let p = rank-parts a.weight a.duration a.length r e in ap road_cost_widened (sym p.3) ∙ widened-near a p.1 p.2 p.0;
+  ordered = λ a b r s e f. ranks-ordered a b r s (rank-parts a.weight a.duration a.length r e) (rank-parts b.weight b.duration b.length s f);
 }

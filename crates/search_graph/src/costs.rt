@@ -1,9 +1,10 @@
 //! Costs that can be added and compared.
 
-ghost use Rattle.std.specs.Prelude.{◌≡◌, ◌^◌, refl};
+ghost use Rattle.std.specs.Prelude.{◌≡◌, ℕ, ◌+◌, ◌*◌, ◌^◌, Option, true, refl};
 ghost use Rattle.search_graph.specs.Costs.{CostOps, CostLaws};
-ghost use Rattle.search_graph.specs.Durations.{durlen_ops, durlen_laws};
-ghost use Rattle.search_graph.specs.Shortened.{durlen_narrowed, durlen_widened, durlen_lossless};
+ghost use Rattle.search_graph.specs.Ranks.{AreRanks};
+ghost use Rattle.search_graph.specs.RoadCosts.{road_cost_ops, road_cost_laws};
+ghost use Rattle.search_graph.specs.Shortened.{road_cost_narrowed, road_cost_widened, is_short_cost, road_cost_lossless, road_cost_ranked, road_cost_ranks};
 
 use cost_lists::Narrow;
 
@@ -33,86 +34,151 @@ pub trait Cost: Narrow + Ord {
         ensures valid { ops.valid result }
         ensures rest { self ≡ ops.plus part result };
 
+    ghost ranked: { Self → Option ℕ };
+
+    ghost unranked: { ℕ → Self };
+
+    /// A number that stands for this cost in the order of the costs, if the cost has one.
+    fn rank(self) -> Option<u64>
+        ensures { result ≡ ranked self };
+
+    /// The cost of a rank. A number that is no rank gives some cost.
+    fn of_rank(rank: u64) -> Self
+        ensures { result ≡ unranked rank };
+
     ghost laws: { CostLaws ops };
 
     ghost zero_is: { ZERO ≡ ops.zero };
 
     ghost same_order: { ops.cmp ≡ Self.cmp };
+
+    ghost ranks: { AreRanks ops.cmp ranked unranked };
 }
 
-/// A duration in deciseconds, and a length in decimetres.
+/// A weight, which says what is cheap, beside the duration in deciseconds and the length in decimetres that it is paid for.
 ///
-/// Of two, the one of less duration is the cheaper, and at one duration the shorter. A unit is 2^32
-/// deciseconds and 2^32 decimetres.
+/// Of two, the one of less weight is the cheaper, at one weight the one of less duration, and at one duration the shorter. A
+/// unit is 2^32 of each part.
 #[derive(Clone, Copy, Debug, PartialEq, Eq, PartialOrd, Ord)]
-pub struct DurLen {
+pub struct WeightDurLen {
+    /// tenths of what a reply prints as a weight
+    pub weight: u64,
     /// deciseconds
     pub duration: u64,
     /// decimetres
     pub length: u64,
 }
 
-impl Cost for DurLen {
-    ghost ops = { durlen_ops };
+impl Cost for WeightDurLen {
+    ghost ops = { road_cost_ops };
 
-    ghost ZERO = { durlen_ops.zero };
+    ghost ZERO = { road_cost_ops.zero };
 
-    const ZERO: DurLen = DurLen {
+    const ZERO: WeightDurLen = WeightDurLen {
+        weight: 0,
         duration: 0,
         length: 0,
     };
 
-    ghost laws = { durlen_laws };
+    ghost laws = { road_cost_laws };
 
     ghost zero_is = { refl };
 
     ghost same_order = { refl };
 
+    ghost ranked = { road_cost_ranked };
+
+    ghost unranked = { road_cost_widened };
+
+    ghost ranks = { road_cost_ranks };
+
     fn known(&self) {}
 
-    fn plus(self, other: DurLen) -> DurLen {
-        DurLen {
+    fn plus(self, other: WeightDurLen) -> WeightDurLen {
+        WeightDurLen {
+            weight: self.weight + other.weight,
             duration: self.duration + other.duration,
             length: self.length + other.length,
         }
     }
 
-    fn minus(self, part: DurLen) -> DurLen {
-        DurLen {
+    fn minus(self, part: WeightDurLen) -> WeightDurLen {
+        WeightDurLen {
+            weight: self.weight - part.weight,
             duration: self.duration - part.duration,
             length: self.length - part.length,
         }
     }
-}
-
-// Of the word's two parts, the length.
-const LENGTHS: u64 = 4294967296;
-
-// The durations that are short enough: 2^31 deciseconds, some seven years.
-const DURATIONS: u64 = 2147483648;
-
-/// A duration below 2^31 deciseconds with a length below 2^32 decimetres.
-impl Narrow for DurLen {
-    ghost narrowed = { durlen_narrowed };
-
-    ghost widened = { durlen_widened };
-
-    ghost lossless = { durlen_lossless };
 
     #[inline(always)]
-    fn narrow(self) -> Option<u64> {
-        if self.duration < DURATIONS && self.length < LENGTHS {
-            Some(self.duration * LENGTHS + self.length)
+    fn rank(self) -> Option<u64> {
+        if self.weight == self.duration && is_short(self) {
+            Some(word_of(self))
         } else {
             None
         }
     }
 
     #[inline(always)]
-    fn widen(word: u64) -> DurLen {
-        DurLen {
-            duration: word / LENGTHS,
-            length: word % LENGTHS,
+    fn of_rank(rank: u64) -> WeightDurLen {
+        WeightDurLen::widen(rank)
+    }
+}
+
+// Of a word's parts, the lengths, and so many durations: 2^31 decimetres, five times round the Earth, and 2^31 deciseconds, some
+// seven years.
+const PART: u64 = 2147483648;
+
+// What a word has more whose weight is the length: 2^62.
+const BY_LENGTH: u64 = 4611686018427387904;
+
+// Whether duration and length fit into a word.
+#[inline(always)]
+fn is_short(cost: WeightDurLen) -> bool
+    ensures { result ≡ is_short_cost cost }
+{
+    cost.duration < PART && cost.length < PART
+}
+
+// The duration in front of the length.
+#[inline(always)]
+fn word_of(cost: WeightDurLen) -> u64
+    requires { is_short_cost cost ≡ true }
+    ensures { result ≡ cost.duration * 2 ^ 31 + cost.length }
+{
+    cost.duration * PART + cost.length
+}
+
+/// A duration below 2^31 deciseconds with a length below 2^31 decimetres, where the weight is one of the two.
+impl Narrow for WeightDurLen {
+    ghost narrowed = { road_cost_narrowed };
+
+    ghost widened = { road_cost_widened };
+
+    ghost lossless = { road_cost_lossless };
+
+    #[inline(always)]
+    fn narrow(self) -> Option<u64> {
+        if !is_short(self) {
+            return None;
+        }
+        if self.weight == self.duration {
+            Some(word_of(self))
+        } else if self.weight == self.length {
+            Some(BY_LENGTH + word_of(self))
+        } else {
+            None
+        }
+    }
+
+    #[inline(always)]
+    fn widen(word: u64) -> WeightDurLen {
+        let duration = word / PART % PART;
+        let length = word % PART;
+        WeightDurLen {
+            weight: if word < BY_LENGTH { duration } else { length },
+            duration,
+            length,
         }
     }
 }

@@ -21,7 +21,7 @@ mod rows;
 mod weighting;
 
 pub use adjacency::{Graph, GraphFault};
-pub use costs::{Cost, DurLen};
+pub use costs::{Cost, WeightDurLen};
 pub use ends::{Start, Target};
 pub use indexing::{Index, index_by};
 pub use laws::simple_walks_are_within_bounds;
