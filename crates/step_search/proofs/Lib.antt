@@ -4,10 +4,11 @@ mod Bounded
 mod Falls
 mod Far
 mod Grown
+mod Heaps
 mod Laid
+mod Merged
 mod Offered
 mod Paged
-mod Queues
 mod Rewritten
 mod Settled
 mod Taken

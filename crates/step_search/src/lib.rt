@@ -18,6 +18,7 @@
 
 mod dijkstra;
 mod hops;
+mod key_heap;
 mod labels;
 mod links;
 mod pages;

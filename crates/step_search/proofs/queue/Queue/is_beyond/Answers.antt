@@ -1,10 +1,13 @@
--- No key is less than the one at the top, which isn't less than the limit.
-use Rattle.std.proofs.Common.{rules, ◌≡◌, false}
-use Rattle.std.specs.Ordering.{is_lt}
-use Rattle.step_search.proofs.Queues.{keys_beyond}
+-- Nothing of the queue is less than the limit where nothing of either heap is.
+use Rattle.std.proofs.Common.{ℕ}
+use Rattle.std.proofs.lemmas.Bool.{OnTrue_from, OnTrue_at}
+use Rattle.std.specs.List.{Contains}
+use Rattle.search_graph.specs.Costs.{NoDearer}
+use Rattle.step_search.proofs.Merged.{both_beyond}
 use Rattle.step_search.proofs.queue.Queue.is_beyond.Goals as goal
 
-pub returns-else-is_lt : goal.returns-else-is_lt
-returns-else-is_lt g c =
-    let not : is_lt (g.C.Ord.cmp c.in-Some.field-0.now.0.0 c.args.limit) ≡ false = search rules in
-    record { yes = rw (← c.self.view_is) (keys_beyond g.met.C.Cost.laws g.C.Ord.cmp g.met.C.Cost.same_order c.in-Some.field-0.now _ c.args.limit (c.in-Some.ensures.greatest c.self.invariant.0) not) }
+pub returns-then-are_ranks_beyond : goal.returns-then-are_ranks_beyond
+returns-then-are_ranks_beyond g c = record {
+  yes = OnTrue_from c.are_keys_beyond.result ((k : _) (v : ℕ) → Contains c.args.self.now (k, v) → NoDearer g.C.Cost.ops c.args.limit k) (λ h.
+      rw (← c.self.view_is) (both_beyond g.met.C.Cost.laws g.met.C.Cost.ranks c.args.limit c.self.inside.ranked c.self.inside.others c.if-are_ranks_beyond.ensures (OnTrue_at h c.are_keys_beyond.ensures)));
+}

@@ -1,17 +1,17 @@
--- The heap has the new entry and what it had; where there was no memory, only what it had.
-use Rattle.std.proofs.Common.{◌≡◌, heap_items}
-use Rattle.std.proofs.lemmas.List.Sorted.{IsPermutation-map}
-use Rattle.step_search.specs.Queued.{entry_of}
-use Rattle.step_search.proofs.Queues.{Adds-permutation, AreShort-pushed}
+-- The new entry goes into one of the heaps; where there was no memory, the heap has what it had.
+use Rattle.std.proofs.Common.{sym}
+use Rattle.std.proofs.lemmas.Result.{on_ok_weaker}
+use Rattle.step_search.proofs.Merged.{AreRanked-tried, Adds-ranked, Adds-right}
 use Rattle.step_search.proofs.queue.Queue.push.Goals as goal
 
 pub invariant_of-self : goal.invariant_of-self
 invariant_of-self g c =
-    let same : heap_items c.push.new.self ≡ heap_items c.self.inside.heap = c.in_err-push.ensures.unchanged.0 in
-    rw same c.self.invariant
+    AreRanked-tried g.met.C.Cost.laws g.met.C.Cost.ranks c.push.result c.args.key c.in-Some.rank c.args.vertex c.self.inside.ranked c.push.new.self (sym c.in-Some.ensures) c.push.ensures.ok c.push.ensures.err c.self.invariant
 
-pub invariant_of-self-2 : goal.invariant_of-self-2
-invariant_of-self-2 g c = (c.in_ok-push.ensures.heap_order c.self.invariant.0, AreShort-pushed _ _ _ c.in_ok-push.ensures.permutation c.ranges.vertex.fits c.self.invariant.1)
+pub returns-in-Some : goal.returns-in-Some
+returns-in-Some g c =
+    on_ok_weaker c.push.result (λ h. rw (← c.self.view_is) (Adds-ranked g.met.C.Cost.laws g.met.C.Cost.ranks c.args.key c.in-Some.rank c.args.vertex c.self.inside.ranked c.push.new.self c.self.inside.others (sym c.in-Some.ensures) h)) c.push.ensures.ok
 
-pub returns : goal.returns
-returns g c = rw (← c.self.view_is) (Adds-permutation _ _ _ (IsPermutation-map entry_of _ _ c.in_ok-push.ensures.permutation))
+pub returns-in-None : goal.returns-in-None
+returns-in-None g c =
+    on_ok_weaker c.push-in-None.result (λ h. rw (← c.self.view_is) (Adds-right (c.args.key, c.args.vertex) _ c.self.inside.others c.push-in-None.new.self h)) c.push-in-None.ensures.ok
