@@ -3,12 +3,13 @@ use Rattle.std.proofs.Common.{◌≡◌, ℕ, List, [], ◌∷◌, ◌++◌, Opt
 use Rattle.std.specs.List.{AllByRecursion}
 use Rattle.toml.specs.Data.{Members, get_member}
 use Rattle.vehicle_settings.specs.ClassSettings.{bad_classes, is_excludable}
-use Rattle.vehicle_settings.specs.Settings.{AreNumbersGood, bad_common, bad_second, bad_value, is_factor, is_penalty, is_side, is_speed}
+use Rattle.vehicle_settings.specs.Settings.{AreNumbersGood, bad_common, bad_second, bad_value, is_factor, is_penalty, is_side, is_speed, is_weight_name}
 use Rattle.vehicle_settings.specs.SettingsData.{bad_at, bad_inside, first_of, is_between, is_name, is_text_list, is_truth, members_at}
 use Rattle.vehicle_settings.proofs.Firsts.{or_else, first_of-next, first_of-one, first_of-then, none_of}
 
 abbrev pub bad_names : Members → List (Option (List ℕ))
-bad_names m = bad_at (is_between 1 2) (codes "version") m ∷ bad_at is_name (codes "name") m ∷ bad_at is_name (codes "vehicle") m ∷ []
+bad_names m =
+    bad_at (is_between 1 2) (codes "version") m ∷ bad_at is_name (codes "name") m ∷ bad_at is_name (codes "vehicle") m ∷ bad_at is_weight_name (codes "weight_name") m ∷ []
 
 abbrev pub bad_lists : Members → List (Option (List ℕ))
 bad_lists m = bad_at is_text_list (codes "access_keys") m ∷ bad_at is_text_list (codes "denied") m ∷ bad_at is_text_list (codes "barriers") m ∷ []
@@ -46,9 +47,9 @@ AreNumbersGood-of m h =
     let common : AllByRecursion (λ x. x ≡ None) (commons m) = none_of (commons m) both.0 in
     let second : AllByRecursion (λ x. x ≡ None) (seconds m) = none_of (seconds m) both.1.0 in
     record {
-      speeds = common.1.1.1.0;
-      turn_penalty = common.1.1.1.1.1.1.1.0;
-      u_turn_penalty = common.1.1.1.1.1.1.1.1.0;
-      signal_penalty = common.1.1.1.1.1.1.1.1.1.0;
+      speeds = common.1.1.1.1.0;
+      turn_penalty = common.1.1.1.1.1.1.1.1.0;
+      u_turn_penalty = common.1.1.1.1.1.1.1.1.1.0;
+      signal_penalty = common.1.1.1.1.1.1.1.1.1.1.0;
       surfaces = second.1.0;
     }

@@ -18,8 +18,8 @@ tree_of bytes = if is_utf8 bytes then parse_document bytes else None
 -- the keys that settings of each version may have
 abbrev pub common_keys : List (List ℕ)
 common_keys =
-    codes "version" ∷ codes "name" ∷ codes "vehicle" ∷ codes "speeds" ∷ codes "access_keys" ∷ codes "denied"
-    ∷ codes "barriers" ∷ codes "turn_penalty" ∷ codes "u_turn_penalty" ∷ codes "signal_penalty"
+    codes "version" ∷ codes "name" ∷ codes "vehicle" ∷ codes "weight_name" ∷ codes "speeds" ∷ codes "access_keys"
+    ∷ codes "denied" ∷ codes "barriers" ∷ codes "turn_penalty" ∷ codes "u_turn_penalty" ∷ codes "signal_penalty"
     ∷ codes "driving_side" ∷ []
 
 -- the keys that version 2 has besides
@@ -75,6 +75,10 @@ is_factor = is_between 1 1000
 abbrev pub is_penalty : Data → Bool
 is_penalty = is_between 0 1000000
 
+-- what the weight of a road is unless traffic says otherwise
+abbrev pub is_weight_name : Data → Bool
+is_weight_name = is_one_of (codes "duration" ∷ codes "distance" ∷ [])
+
 -- a side of the road
 abbrev pub is_side : Data → Bool
 is_side = is_one_of (codes "right" ∷ codes "left" ∷ [])
@@ -85,6 +89,7 @@ bad_common settings = first_of (
     bad_at (is_between 1 2) (codes "version") settings
     ∷ bad_at is_name (codes "name") settings
     ∷ bad_at is_name (codes "vehicle") settings
+    ∷ bad_at is_weight_name (codes "weight_name") settings
     ∷ bad_inside is_speed (codes "speeds") settings
     ∷ bad_at is_text_list (codes "access_keys") settings
     ∷ bad_at is_text_list (codes "denied") settings

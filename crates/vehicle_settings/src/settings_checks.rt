@@ -5,8 +5,8 @@ ghost use Rattle.std.specs.List.{list_all};
 ghost use Rattle.std.specs.Option.{option_map_or};
 ghost use Rattle.toml.specs.Data.{get_member};
 ghost use Rattle.toml.specs.View.{table_view, view};
-ghost use Rattle.vehicle_settings.specs.Settings.{bad_common, bad_second, bad_value, is_penalty, is_side};
-ghost use Rattle.vehicle_settings.specs.SettingsData.{bad_at, bad_entry, bad_inside, bad_table, first_of, is_between, is_name, is_text, is_text_list, is_truth};
+ghost use Rattle.vehicle_settings.specs.Settings.{bad_common, bad_second, bad_value, is_penalty, is_side, is_weight_name};
+ghost use Rattle.vehicle_settings.specs.SettingsData.{bad_at, bad_entry, bad_inside, bad_table, first_of, is_between, is_name, is_one_of, is_text, is_text_list, is_truth};
 
 use crate::class_checks::{bad_classes, is_excludable_at};
 use crate::settings_tree::value_at;
@@ -65,12 +65,13 @@ fn bad_second(alloc: Global, table: &Table) -> Result<Option<Text>, AllocError>
     Ok(None)
 }
 
-// The first of `version` and the names that has a bad value.
+// The first of `version`, the names and `weight_name` that has a bad value.
 fn bad_name(table: &Table) -> Option<&'static str>
     ensures { option_copied result ≡ first_of (
         bad_at (is_between 1 2) (codes "version") (table_view table.now)
         ∷ bad_at is_name (codes "name") (table_view table.now)
         ∷ bad_at is_name (codes "vehicle") (table_view table.now)
+        ∷ bad_at is_weight_name (codes "weight_name") (table_view table.now)
         ∷ []) }
 {
     if !is_number_at(table, "version", 1, 2) {
@@ -79,6 +80,8 @@ fn bad_name(table: &Table) -> Option<&'static str>
         Some("name")
     } else if !is_name_at(table, "vehicle") {
         Some("vehicle")
+    } else if !is_either_at(table, "weight_name", "duration", "distance") {
+        Some("weight_name")
     } else {
         None
     }
@@ -115,7 +118,7 @@ fn bad_after_tables(table: &Table) -> Option<&'static str>
         Some("u_turn_penalty")
     } else if !is_number_at(table, "signal_penalty", 0, 1_000_000) {
         Some("signal_penalty")
-    } else if !is_side_at(table, "driving_side") {
+    } else if !is_either_at(table, "driving_side", "right", "left") {
         Some("driving_side")
     } else {
         None
@@ -199,12 +202,12 @@ fn is_text_list_at(table: &Table, key: &str) -> bool
     }
 }
 
-// Whether the value at a key, if there is one, is a side of the road.
-fn is_side_at(table: &Table, key: &str) -> bool
-    ensures { result ≡ option_map_or is_side (get_member key.now (table_view table.now)) true }
+// Whether the value at a key, if there is one, is one of two texts.
+fn is_either_at(table: &Table, key: &str, one: &str, other: &str) -> bool
+    ensures { result ≡ option_map_or (is_one_of (one.now ∷ other.now ∷ [])) (get_member key.now (table_view table.now)) true }
 {
     match value_at(table, key) {
-        Some(value) => is_side(value),
+        Some(value) => is_either(value, one, other),
         None => true,
     }
 }
@@ -252,11 +255,11 @@ fn are_texts(values: &[Value]) -> bool
     values.iter().all(|value| value.is_str())
 }
 
-fn is_side(value: &Value) -> bool
-    ensures { result ≡ is_side (view value.now) }
+fn is_either(value: &Value, one: &str, other: &str) -> bool
+    ensures { result ≡ is_one_of (one.now ∷ other.now ∷ []) (view value.now) }
 {
     match value.as_str() {
-        Some(text) => text == "right" || text == "left",
+        Some(text) => text == one || text == other,
         None => false,
     }
 }

@@ -8,9 +8,9 @@ use std::alloc::AllocError;
 
 /// Why a settings file is refused. Of several faults the first is told: no TOML; unknown keys in byte
 /// order, those of the file before those of `turn_penalty`; missing keys; and bad values. The last two
-/// stand in the order `version`, `name`, `vehicle`, `speeds`, `access_keys`, `denied`, `barriers`,
-/// `turn_penalty`, `u_turn_penalty`, `signal_penalty`, `driving_side`, `maxspeed`, `surfaces`, `classes`,
-/// `excludable`, and inside a table in byte order. A key inside a table is told with the table's, as
+/// stand in the order `version`, `name`, `vehicle`, `weight_name`, `speeds`, `access_keys`, `denied`,
+/// `barriers`, `turn_penalty`, `u_turn_penalty`, `signal_penalty`, `driving_side`, `maxspeed`, `surfaces`,
+/// `classes`, `excludable`, and inside a table in byte order. A key inside a table is told with the table's, as
 /// `speeds.residential`; of a list the list's key is told. The last four are unknown where `version` isn't 2.
 #[derive(Debug, Drop)]
 pub enum SettingsFault {

@@ -14,10 +14,11 @@ use toml::Table;
 
 /// The table of a settings file, which is TOML (toml.io), where it has no fault. Each setting stands once:
 /// `version`, if it is there, is 1 or 2; `name` and `vehicle` are texts that are not empty; `speeds` is a table
-/// from values of `highway` to whole km/h from 1 to 1000. The others may be absent. `access_keys`, `denied` and
-/// `barriers` are lists of texts. `turn_penalty` is a table from `straight`, `slight_right`, `right`,
-/// `sharp_right`, `uturn`, `sharp_left`, `left` and `slight_left`, and `u_turn_penalty` and `signal_penalty` are
-/// penalties: whole deciseconds from 0 to 1000000. `driving_side` is `right` or `left`.
+/// from values of `highway` to whole km/h from 1 to 1000. The others may be absent. `weight_name` is `duration`
+/// or `distance`. `access_keys`, `denied` and `barriers` are lists of texts. `turn_penalty` is a table from
+/// `straight`, `slight_right`, `right`, `sharp_right`, `uturn`, `sharp_left`, `left` and `slight_left`, and
+/// `u_turn_penalty` and `signal_penalty` are penalties: whole deciseconds from 0 to 1000000. `driving_side` is
+/// `right` or `left`.
 ///
 /// Where `version` is 2 four more may stand: `maxspeed`, `true` or `false`; `surfaces`, a table from values of
 /// `surface` to thousandths from 1 to 1000; `classes`, a table of at most 8, from names of lower-case letters,

@@ -65,6 +65,7 @@ fn is_common(key: &str) -> bool
         "version"
             | "name"
             | "vehicle"
+            | "weight_name"
             | "speeds"
             | "access_keys"
             | "denied"

@@ -6,6 +6,7 @@ abbrev pub profile_seen : Inside → ProfileView
 profile_seen p = record {
   name = p.name;
   vehicle = p.vehicle;
+  by_distance = p.by_distance;
   speeds = p.speeds.items;
   access_keys = p.access_keys;
   denied = p.denied;

@@ -10,11 +10,12 @@ use Rattle.way_profile.specs.SettingsValues.{classes_of_table, is_true, is_word,
 use Rattle.way_profile.specs.Vehicle.{ProfileView}
 
 -- what settings with no fault say, speeds in thousandths of km/h; a list or table that is absent is empty, a
--- penalty 0, the side right, and `maxspeed` false
+-- penalty 0, the weight the duration, the side right, and `maxspeed` false
 abbrev pub profile_of : Members → ProfileView
 profile_of settings = record {
   name = text_at (codes "name") settings;
   vehicle = text_at (codes "vehicle") settings;
+  by_distance = option_map_or (is_word (codes "distance")) (get_member (codes "weight_name") settings) false;
   speeds = scaled_numbers 1000 (members_at (codes "speeds") settings);
   access_keys = texts_at (codes "access_keys") settings;
   denied = texts_at (codes "denied") settings;

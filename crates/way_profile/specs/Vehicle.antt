@@ -5,16 +5,18 @@ use Rattle.road_base.specs.declared.directions.Modifier.TheVariants.{Straight, S
 use Rattle.road_base.specs.Words.{is_among}
 use Rattle.way_profile.specs.declared.turn_penalties.TurnPenalties.{TurnPenalties}
 
--- the profile of a vehicle: its own name; the word by which `except` of a turn restriction knows it; a
--- speed in thousandths of km/h for each value of `highway` that it may use; the keys of which the first
--- that a way carries decides whether it may enter, and the values by which it may not; the values of
--- `barrier` that close a node; and in deciseconds the penalty of a turn by the way it bends, of turning
--- back onto the same segment and of a signal; whether it drives on the left side; whether a way's `maxspeed`
--- counts; a factor in thousandths for each value of `surface` that slows it; the classes of ways, each with
--- the tags of which one makes a way be of it; and the sets of classes that a request may exclude
+-- the profile of a vehicle: its own name; the word by which `except` of a turn restriction knows it; whether
+-- a road weighs its length and not its duration where traffic says nothing else; a speed in thousandths of
+-- km/h for each value of `highway` that it may use; the keys of which the first that a way carries decides
+-- whether it may enter, and the values by which it may not; the values of `barrier` that close a node; and in
+-- deciseconds the penalty of a turn by the way it bends, of turning back onto the same segment and of a
+-- signal; whether it drives on the left side; whether a way's `maxspeed` counts; a factor in thousandths for
+-- each value of `surface` that slows it; the classes of ways, each with the tags of which one makes a way be
+-- of it; and the sets of classes that a request may exclude
 pub record ProfileView : Type 0 where
   pub name : List ℕ
   pub vehicle : List ℕ
+  pub by_distance : Bool
   pub speeds : List (List ℕ × ℕ)
   pub access_keys : List (List ℕ)
   pub denied : List (List ℕ)

@@ -158,21 +158,21 @@ fn number_in(value: &Value) -> u32
     }
 }
 
-// Whether the side at a key is the left one; an absent one is not.
-pub(crate) fn is_left_at(table: &Table, key: &str) -> bool
-    ensures { result ≡ option_map_or (is_word (codes "left")) (get_member key.now (table_view table.now)) false }
+// Whether the value at a key is this text; an absent one is not.
+pub(crate) fn is_word_at(table: &Table, key: &str, word: &str) -> bool
+    ensures { result ≡ option_map_or (is_word word.now) (get_member key.now (table_view table.now)) false }
 {
     match value_at(table, key) {
-        Some(value) => is_left(value),
+        Some(value) => is_word(value, word),
         None => false,
     }
 }
 
-fn is_left(value: &Value) -> bool
-    ensures { result ≡ is_word (codes "left") (view value.now) }
+fn is_word(value: &Value, word: &str) -> bool
+    ensures { result ≡ is_word word.now (view value.now) }
 {
     match value.as_str() {
-        Some(text) => text == "left",
+        Some(text) => text == word,
         None => false,
     }
 }

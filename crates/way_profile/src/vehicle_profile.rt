@@ -11,7 +11,7 @@ ghost use Rattle.way_profile.specs.WayTags.{number_by};
 
 use crate::class_values::{classes_at, sets_at};
 use crate::settings_values::{
-    is_left_at, is_true_at, penalty_at, speeds_at, surfaces_at, text_at, texts_at,
+    is_true_at, is_word_at, penalty_at, speeds_at, surfaces_at, text_at, texts_at,
     turn_penalties_at,
 };
 use crate::turn_penalties::TurnPenalties;
@@ -24,15 +24,16 @@ use std::marker::Model;
 use toml::Table;
 use vehicle_settings::{SettingsFault, checked};
 
-/// What a settings file says of one vehicle. Contracts see its name, its vehicle word, its speeds by
-/// value of `highway` in thousandths of km/h, its access keys and the values that they deny, the values of
-/// `barrier` that close a node, its penalties in deciseconds, its side of the road, whether `maxspeed` of a
-/// way counts, its factors by value of `surface` in thousandths, its classes of ways, and the sets of them
-/// that a request may exclude.
+/// What a settings file says of one vehicle. Contracts see its name, its vehicle word, whether a road weighs
+/// its length and not its duration, its speeds by value of `highway` in thousandths of km/h, its access keys and
+/// the values that they deny, the values of `barrier` that close a node, its penalties in deciseconds, its side
+/// of the road, whether `maxspeed` of a way counts, its factors by value of `surface` in thousandths, its
+/// classes of ways, and the sets of them that a request may exclude.
 #[derive(Debug)]
 pub struct Profile {
     name: Text,
     vehicle: Text,
+    by_distance: bool,
     speeds: Vec<(Text, u32)>,
     access_keys: Words,
     denied: Words,
@@ -52,6 +53,7 @@ impl Drop for Profile {
         let Profile {
             name: _name,
             vehicle: _vehicle,
+            by_distance: _by_distance,
             speeds: _speeds,
             access_keys: _access_keys,
             denied: _denied,
@@ -83,7 +85,8 @@ impl Model for Profile {
 impl Profile {
     /// Reads a settings file, which is TOML (toml.io), as `vehicle_settings` checks it: each fault comes exactly
     /// where [`SettingsFault`] says, but for want of memory, which may come at any time. A list or a table that
-    /// is absent is empty, a penalty 0, the side of the road `right`, and `maxspeed` `false`.
+    /// is absent is empty, a penalty 0, `weight_name` `duration`, the side of the road `right`, and `maxspeed`
+    /// `false`.
     #[tactic(auto, unfolding(crate::specs::Settings::settings_of))]
     pub fn read(alloc: Global, bytes: &[u8]) -> Result<Profile, SettingsFault>
         ensures { IsReadAs bytes.now result }
@@ -100,6 +103,7 @@ impl Profile {
         Ok(Profile {
             name: Text::copy_of(alloc, text_at(table, "name"))?,
             vehicle: Text::copy_of(alloc, text_at(table, "vehicle"))?,
+            by_distance: is_word_at(table, "weight_name", "distance"),
             speeds: speeds_at(alloc, table)?,
             access_keys: texts_at(alloc, table, "access_keys")?,
             denied: texts_at(alloc, table, "denied")?,
@@ -107,7 +111,7 @@ impl Profile {
             turn_penalties: turn_penalties_at(table),
             u_turn_penalty: penalty_at(table, "u_turn_penalty"),
             signal_penalty: penalty_at(table, "signal_penalty"),
-            left_side: is_left_at(table, "driving_side"),
+            left_side: is_word_at(table, "driving_side", "left"),
             maxspeed: is_true_at(table, "maxspeed"),
             surfaces: surfaces_at(alloc, table)?,
             classes: classes_at(alloc, table)?,
@@ -222,6 +226,14 @@ impl Profile {
         self.vehicle.as_str()
     }
 
+    /// Whether a road weighs its length, and a turn nothing, where traffic says nothing else; else each weighs
+    /// its duration.
+    pub fn by_distance(&self) -> bool
+        ensures { result ≡ self.now.by_distance }
+    {
+        self.by_distance
+    }
+
     /// The name of the profile.
     pub fn name(&self) -> &str
         ensures { result.now ≡ self.now.name }
@@ -274,6 +286,7 @@ impl Profile {
         Ok(Profile {
             name: Text::copy_of(alloc, self.name.as_str())?,
             vehicle: Text::copy_of(alloc, self.vehicle.as_str())?,
+            by_distance: self.by_distance,
             speeds: copy_of_numbers(alloc, &self.speeds)?,
             access_keys: self.access_keys.try_clone(alloc)?,
             denied: self.denied.try_clone(alloc)?,
