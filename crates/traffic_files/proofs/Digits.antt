@@ -1,10 +1,11 @@
 -- The digits that are kept behind a point, zeros where none is written, and numbers that are held within the limit.
-use Rattle.std.proofs.Common.{◌≡◌, ℕ, zero, suc, ◌-◌, ◌≤◌, min, Bool, List, [], ◌∷◌, ◌++◌, true, false, length, take, refl, sym, ◌∙◌, subst, ap, codes, arith, cond, Some, None}
-use Rattle.std.specs.Prelude.{nat_le}
+use Rattle.std.proofs.Common.{◌≡◌, ℕ, zero, suc, ◌-◌, ◌≤◌, min, Bool, List, [], ◌∷◌, ◌++◌, true, false, length, take, refl, sym, ◌∙◌, subst, ap, codes, arith, cond}
+use Rattle.std.specs.Prelude.{nat_le, Ok, Err}
 use Rattle.std.specs.Char.{is_ascii_digit}
 use Rattle.std.specs.List.{list_all}
 use Rattle.std.proofs.lemmas.Bool.{leb-true, leb-false}
 use Rattle.traffic_files.specs.Numbers.{limited}
+use Rattle.traffic_files.specs.declared.numbers.NumberFault.TheVariants.{NotInRange}
 
 -- the digits that are there, and zeros for the others
 abbrev pub KeepsDigits : List ℕ → ℕ → ℕ → Type 0
@@ -67,7 +68,7 @@ limited_case n true h =
 limited_case n false h =
     let gt = leb-false n 1000000 h in
     let same : min n 1000001 ≡ 1000001 = omega (arith, gt) in
-    ap limited same ∙ sym (ap (λ b. cond b (Some n) None) h)
+    ap limited same ∙ sym (ap (λ b. cond b (Ok n) (Err NotInRange)) h)
 
 -- a number that is too great may be held within the first that is
 pub limited-min : (n : ℕ) → limited (min n 1000001) ≡ limited n

@@ -1,25 +1,48 @@
 -- Decimals of traffic files. How many digits are kept, and what is too great, is this project's rule.
-use Rattle.std.specs.Prelude.{ℕ, List, ◌++◌, take, codes, nat_le, Option, Some, None, option_map, if◌then◌else◌}
+use Rattle.std.specs.Prelude.{ℕ, Bool, ◌&&◌, ◌==◌, List, ◌++◌, take, codes, max, nat_le, Result, Ok, Err, if◌then◌else◌}
+use Rattle.std.specs.Result.{result_map_both}
 use Rattle.std.specs.Str.Parse.{digits_value, starts_with_minus}
 use Rattle.decimal_text.specs.Numeral.{without_minus}
 use Rattle.decimal_text.specs.Decimal.{before_point, after_point, is_unsigned_decimal}
+use Rattle.traffic_files.specs.declared.numbers.NumberFault.{NumberFault}
+use Rattle.traffic_files.specs.declared.numbers.NumberFault.TheVariants.{NoDecimal, NotInRange}
 
 -- the number that a decimal's digits make with this many kept behind the point, at most three
 abbrev pub scaled : ℕ → List ℕ → ℕ
 scaled kept text = digits_value 10 (before_point text ++ take kept (after_point text ++ codes "000"))
 
--- a number up to the greatest that a file may have: 1000 km/h in thousandths, and 100000 s in deciseconds
-abbrev pub limited : ℕ → Option ℕ
-limited number = if nat_le number 1000000 then Some number else None
+-- a number up to the greatest that a file may have: 1000 km/h or metres in thousandths, and 100000 s in deciseconds
+abbrev pub limited : ℕ → Result ℕ NumberFault
+limited number = if nat_le number 1000000 then Ok number else Err NotInRange
 
--- a decimal without a sign; None where the text is something else, Some None where it is too great
-abbrev pub scaled_of : ℕ → List ℕ → Option (Option ℕ)
-scaled_of kept text = if is_unsigned_decimal text then Some (limited (scaled kept text)) else None
+-- a decimal without a sign
+abbrev pub scaled_of : ℕ → List ℕ → Result ℕ NumberFault
+scaled_of kept text = if is_unsigned_decimal text then limited (scaled kept text) else Err NoDecimal
 
-abbrev pub speed_of : List ℕ → Option (Option ℕ)
-speed_of text = scaled_of 3 text
+-- a decimal with a minus sign
+abbrev pub is_minus_decimal : List ℕ → Bool
+is_minus_decimal text = starts_with_minus text && is_unsigned_decimal (without_minus text)
 
--- a penalty may be below zero, and then counts as 0
-abbrev pub penalty_of : List ℕ → Option (Option ℕ)
-penalty_of text =
-    if starts_with_minus text then option_map (λ magnitude. Some 0) (scaled_of 1 (without_minus text)) else scaled_of 1 text
+-- a speed above 0 is at least 1 km/h
+abbrev pub kept_speed : ℕ → ℕ
+kept_speed speed = if speed == 0 then 0 else max speed 1000
+
+-- a speed in thousandths of km/h
+abbrev pub speed_of : List ℕ → Result ℕ NumberFault
+speed_of text = result_map_both kept_speed (λ fault. fault) (scaled_of 3 text)
+
+-- a rate is above 0, and then at least 0.278 metres for each unit of weight
+abbrev pub kept_rate : ℕ → Result ℕ NumberFault
+kept_rate rate = if rate == 0 then Err NotInRange else Ok (max rate 278)
+
+abbrev pub rate_kept : Result ℕ NumberFault → Result ℕ NumberFault
+rate_kept (Ok rate) = kept_rate rate
+rate_kept (Err fault) = Err fault
+
+-- a rate in thousandths; one with a minus sign is never in range
+abbrev pub rate_of : List ℕ → Result ℕ NumberFault
+rate_of text = if is_minus_decimal text then Err NotInRange else rate_kept (scaled_of 3 text)
+
+-- a penalty in deciseconds, or a weight in tenths; one below zero counts as 0
+abbrev pub tenths_of : List ℕ → Result ℕ NumberFault
+tenths_of text = if is_minus_decimal text then Ok 0 else scaled_of 1 text

@@ -3,10 +3,10 @@
 ghost use Rattle.std.specs.Prelude.{◌≡◌, reverse};
 ghost use Rattle.csv.specs.Records.{fields_of};
 ghost use Rattle.decimal_text.specs.ObjectId.{id_of};
-ghost use Rattle.traffic_files.specs.Fields.{skip_blanks, text_at, is_unused_at};
+ghost use Rattle.traffic_files.specs.Fields.{skip_blanks, text_at};
 
 use csv::ByteRecord;
-use decimal_text::{id, microdegrees};
+use decimal_text::id;
 
 // The field at a place without the blanks round it, nothing where there is none.
 #[tactic(auto, unfolding(crate::specs::Fields::without_blanks))]
@@ -24,14 +24,6 @@ pub(crate) fn id_at(fields: &ByteRecord, place: usize) -> Option<i64>
     ensures { result ≡ id_of (text_at (fields_of fields.now) place) }
 {
     id(text_at(fields, place))
-}
-
-// Whether the field at a place, which nobody uses, is absent or a decimal.
-#[tactic(auto, unfolding(decimal_text::specs::Decimal::microdegrees_of))]
-pub(crate) fn is_unused_at(fields: &ByteRecord, place: usize) -> bool
-    ensures { result ≡ is_unused_at (fields_of fields.now) place }
-{
-    fields.len() <= place || microdegrees(text_at(fields, place)).is_some()
 }
 
 // The text from its first byte that is no blank.

@@ -1,4 +1,4 @@
-//! Decimals in whole thousandths or tenths.
+//! Speeds and rates in whole thousandths, penalties and weights in whole tenths.
 
 ghost use Rattle.std.specs.Prelude.{◌≡◌, ◌≤◌, ◌++◌, take, codes, min, true, false, MatchOption, position};
 ghost use Rattle.std.specs.Char.{is_ascii_digit};
@@ -6,30 +6,103 @@ ghost use Rattle.std.specs.List.{list_all};
 ghost use Rattle.std.specs.Str.Parse.{digits_value, digits_value_after};
 ghost use Rattle.decimal_text.specs.Numeral.{is_numeral};
 ghost use Rattle.decimal_text.specs.Decimal.{is_point, is_unsigned_decimal, ArePartsOf};
-ghost use Rattle.traffic_files.specs.Numbers.{limited, scaled, scaled_of};
+ghost use Rattle.traffic_files.specs.Numbers.{is_minus_decimal, kept_rate, kept_speed, limited, rate_of, scaled_of, speed_of, tenths_of};
 
 const GREATEST: u64 = 1_000_000;
 
 // Numbers above the greatest are counted as this one.
 const TOO_GREAT: u64 = 1_000_001;
 
+// The slowest speed that a way is passed at, in thousandths of km/h.
+const SLOWEST: u32 = 1000;
+
+// The least rate, in thousandths of a metre for each unit of weight.
+const LEAST_RATE: u32 = 278;
+
 // The digits behind the point, where none is written.
 const ABSENT_DIGITS: [u8; 3] = *b"000";
 
+/// Why a field has no number.
+#[derive(Clone, Copy, Drop)]
+pub(crate) enum NumberFault {
+    /// It is no decimal, or has a sign where none may stand.
+    NoDecimal,
+    /// Its number is too small or too great.
+    NotInRange,
+}
+
+// A speed in thousandths of km/h.
+pub(crate) fn speed_in(text: &[u8]) -> Result<u32, NumberFault>
+    ensures { result ≡ speed_of text.now }
+{
+    let speed = scaled_in(text, 3)?;
+    Ok(kept_speed(speed))
+}
+
+// A speed above 0 is at least the slowest.
+fn kept_speed(speed: u32) -> u32
+    ensures { result ≡ kept_speed speed }
+{
+    if speed == 0 { 0 } else { speed.max(SLOWEST) }
+}
+
+// A rate in thousandths of a metre for each unit of weight: one with a minus sign is out of range.
+pub(crate) fn rate_in(text: &[u8]) -> Result<u32, NumberFault>
+    ensures { result ≡ rate_of text.now }
+{
+    if is_minus_decimal(text) {
+        return Err(NumberFault::NotInRange);
+    }
+    let rate = scaled_in(text, 3)?;
+    kept_rate(rate)
+}
+
+// A rate above 0 is at least the least; 0 is none.
+fn kept_rate(rate: u32) -> Result<u32, NumberFault>
+    ensures { result ≡ kept_rate rate }
+{
+    if rate == 0 {
+        Err(NumberFault::NotInRange)
+    } else {
+        Ok(rate.max(LEAST_RATE))
+    }
+}
+
+// A penalty in deciseconds, or a weight in tenths: one below zero is 0.
+pub(crate) fn tenths_in(text: &[u8]) -> Result<u32, NumberFault>
+    ensures { result ≡ tenths_of text.now }
+{
+    if is_minus_decimal(text) {
+        Ok(0)
+    } else {
+        scaled_in(text, 1)
+    }
+}
+
+// Whether the text is a decimal with a minus sign.
+fn is_minus_decimal(text: &[u8]) -> bool
+    ensures { result ≡ is_minus_decimal text.now }
+{
+    match text {
+        [b'-', magnitude @ ..] => parts(magnitude).is_some(),
+        _ => false,
+    }
+}
+
 // A decimal without a sign with this many digits kept behind its point, as a whole number of the last one's
-// unit: further ones are dropped. None where the text is something else; nothing in it where it is above the greatest.
-pub(crate) fn scaled_in(text: &[u8], kept: usize) -> Option<Option<u32>>
+// unit: further ones are dropped.
+fn scaled_in(text: &[u8], kept: usize) -> Result<u32, NumberFault>
     requires { kept ≤ 3 }
     ensures { result ≡ scaled_of kept text.now }
 {
     match parts(text) {
-        Some((whole, fraction)) => Some(joined(whole, fraction, kept)),
-        None => None,
+        Some((whole, fraction)) => joined(whole, fraction, kept),
+        None => Err(NumberFault::NoDecimal),
     }
 }
 
 // The number that these digits before and behind a point make, if it is not above the greatest.
-fn joined(whole: &[u8], fraction: &[u8], kept: usize) -> Option<u32>
+fn joined(whole: &[u8], fraction: &[u8], kept: usize) -> Result<u32, NumberFault>
     requires whole_digits { list_all (λ b. is_ascii_digit b) whole.now ≡ true }
     requires fraction_digits { list_all (λ b. is_ascii_digit b) fraction.now ≡ true }
     requires few { kept ≤ 3 }
@@ -45,13 +118,13 @@ fn joined(whole: &[u8], fraction: &[u8], kept: usize) -> Option<u32>
 }
 
 // The number if it is not above the greatest.
-fn limited(number: u64) -> Option<u32>
+fn limited(number: u64) -> Result<u32, NumberFault>
     ensures { result ≡ limited number }
 {
     if number <= GREATEST {
-        Some(number as u32)
+        Ok(number as u32)
     } else {
-        None
+        Err(NumberFault::NotInRange)
     }
 }
 

@@ -14,11 +14,13 @@ use std::alloc::Global;
 ///
 /// The file is CSV without a header row: rows are its records, counted from 1, of any length, and blanks round a
 /// field are dropped. A speed is a decimal without a sign; of the digits behind its point three are kept. A
-/// speed from 0.001 to 0.999 counts as 1 km/h. A rate is a decimal, and is not used.
+/// speed from 0.001 to 0.999 counts as 1 km/h. A rate is a decimal, metres for each unit of the printed weight, of
+/// which three digits behind the point are kept too; one from 0.001 to 0.277 counts as 0.278.
 ///
 /// The first faulty row is told, and of its faults the first of these: `BadCount` for a number of fields other
-/// than 3 or 4, `BadId`, `BadNumber`, and `OutOfRange` for a speed above 1000 km/h. Want of memory may come at
-/// any time; any error of `csv` is told as that, since it gives no other over a slice.
+/// than 3 or 4, `BadId`, `BadNumber`, and `OutOfRange` for a speed above 1000 km/h, or a rate above 1000, of 0 or
+/// with a minus sign. Want of memory may come at any time; any error of `csv` is told as that, since it gives no
+/// other over a slice.
 pub fn read_speeds(alloc: Global, bytes: &[u8]) -> Result<Vec<SpeedRow>, TrafficFault>
     ensures rows { IfOk result (λ rows. SpeedsRead bytes.now (Ok rows.items)) }
     ensures in_range { IfOk result (λ rows. AreSpeedsInRange rows.items) }
@@ -48,8 +50,8 @@ pub fn read_speeds(alloc: Global, bytes: &[u8]) -> Result<Vec<SpeedRow>, Traffic
 /// The rows of a turns file, `from_osm_id,via_osm_id,to_osm_id,penalty_in_seconds[,weight]` each, in file order.
 ///
 /// The file is read as a speeds file is. A penalty is a decimal, of which one digit behind the point is kept; one
-/// below zero counts as 0. A weight is a decimal, and is not used. `BadCount` is for a number of fields other
-/// than 4 or 5, and `OutOfRange` for a penalty above 100000 s.
+/// below zero counts as 0. A weight is read alike. `BadCount` is for a number of fields other than 4 or 5, and
+/// `OutOfRange` for a penalty above 100000 s or a weight above 100000.
 pub fn read_turns(alloc: Global, bytes: &[u8]) -> Result<Vec<TurnRow>, TrafficFault>
     ensures rows { IfOk result (λ rows. TurnsRead bytes.now (Ok rows.items)) }
     ensures in_range { IfOk result (λ rows. ArePenaltiesInRange rows.items) }

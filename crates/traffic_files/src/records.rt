@@ -2,17 +2,14 @@
 
 ghost use Rattle.std.specs.Prelude.{◌≡◌};
 ghost use Rattle.csv.specs.Records.{fields_of};
-ghost use Rattle.traffic_files.specs.Fields.{text_at};
-ghost use Rattle.traffic_files.specs.Numbers.{penalty_of};
-ghost use Rattle.traffic_files.specs.Rows.{kept_speed, speed_row_of, turn_row_of};
+ghost use Rattle.traffic_files.specs.Fields.{optional_at};
+ghost use Rattle.traffic_files.specs.Numbers.{rate_of, tenths_of};
+ghost use Rattle.traffic_files.specs.Rows.{both_numbers, speed_row_of, turn_row_of};
 
-use crate::fields::{id_at, is_unused_at, text_at};
-use crate::numbers::scaled_in;
+use crate::fields::{id_at, text_at};
+use crate::numbers::{NumberFault, rate_in, speed_in, tenths_in};
 use crate::rows::{RowKind, SpeedRow, TurnRow};
 use csv::ByteRecord;
-
-// The slowest speed that a way is passed at, in thousandths of km/h.
-const SLOWEST: u32 = 1000;
 
 // The row that a record of a speeds file stands for.
 pub(crate) fn speed_row(fields: &ByteRecord) -> Result<SpeedRow, RowKind>
@@ -24,22 +21,13 @@ pub(crate) fn speed_row(fields: &ByteRecord) -> Result<SpeedRow, RowKind>
     let (Some(from), Some(to)) = (id_at(fields, 0), id_at(fields, 1)) else {
         return Err(RowKind::BadId);
     };
-    match (scaled_in(text_at(fields, 2), 3), is_unused_at(fields, 3)) {
-        (Some(Some(speed)), true) => Ok(SpeedRow {
-            from,
-            to,
-            speed: kept_speed(speed),
-        }),
-        (Some(None), true) => Err(RowKind::OutOfRange),
-        _ => Err(RowKind::BadNumber),
-    }
-}
-
-// A speed above 0 is at least the slowest.
-fn kept_speed(speed: u32) -> u32
-    ensures { result ≡ kept_speed speed }
-{
-    if speed == 0 { 0 } else { speed.max(SLOWEST) }
+    let (speed, rate) = both_numbers(speed_in(text_at(fields, 2)), rate_at(fields, 3))?;
+    Ok(SpeedRow {
+        from,
+        to,
+        speed,
+        rate,
+    })
 }
 
 // The row that a record of a turns file stands for.
@@ -53,27 +41,50 @@ pub(crate) fn turn_row(fields: &ByteRecord) -> Result<TurnRow, RowKind>
     else {
         return Err(RowKind::BadId);
     };
-    match (penalty_in(text_at(fields, 3)), is_unused_at(fields, 4)) {
-        (Some(Some(penalty)), true) => Ok(TurnRow {
-            from,
-            via,
-            to,
-            penalty,
-        }),
-        (Some(None), true) => Err(RowKind::OutOfRange),
-        _ => Err(RowKind::BadNumber),
-    }
+    let (penalty, weight) = both_numbers(tenths_in(text_at(fields, 3)), weight_at(fields, 4))?;
+    Ok(TurnRow {
+        from,
+        via,
+        to,
+        penalty,
+        weight,
+    })
 }
 
-// A penalty in deciseconds: one below zero is 0.
-fn penalty_in(text: &[u8]) -> Option<Option<u32>>
-    ensures { result ≡ penalty_of text.now }
+// The rate at a place, if the record has that many fields.
+fn rate_at(fields: &ByteRecord, place: usize) -> Result<Option<u32>, NumberFault>
+    ensures { result ≡ optional_at rate_of (fields_of fields.now) place }
 {
-    match text {
-        [b'-', magnitude @ ..] => match scaled_in(magnitude, 1) {
-            Some(_) => Some(Some(0)),
-            None => None,
-        },
-        _ => scaled_in(text, 1),
+    if fields.len() <= place {
+        return Ok(None);
+    }
+    let rate = rate_in(text_at(fields, place))?;
+    Ok(Some(rate))
+}
+
+// The weight at a place, if the record has that many fields.
+fn weight_at(fields: &ByteRecord, place: usize) -> Result<Option<u32>, NumberFault>
+    ensures { result ≡ optional_at tenths_of (fields_of fields.now) place }
+{
+    if fields.len() <= place {
+        return Ok(None);
+    }
+    let weight = tenths_in(text_at(fields, place))?;
+    Ok(Some(weight))
+}
+
+// The two numbers of a row: one that is no decimal is told before any that is out of range.
+fn both_numbers(
+    number: Result<u32, NumberFault>,
+    other: Result<Option<u32>, NumberFault>,
+) -> Result<(u32, Option<u32>), RowKind>
+    ensures { result ≡ both_numbers number other }
+{
+    match (number, other) {
+        (Ok(number), Ok(other)) => Ok((number, other)),
+        (Err(NumberFault::NoDecimal), _) | (_, Err(NumberFault::NoDecimal)) => {
+            Err(RowKind::BadNumber)
+        }
+        _ => Err(RowKind::OutOfRange),
     }
 }

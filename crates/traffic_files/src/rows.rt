@@ -5,22 +5,27 @@ ghost use Rattle.traffic_files.specs.declared.rows.TrafficFault.TheVariants.{Mem
 
 use std::alloc::{AllocError, AllocFailed};
 
-/// The speed from one node to the next, in thousandths of km/h: 0, which closes the way there, or from 1000 to
-/// 1000000.
+/// The speed from one node to the next, and how far one gets there for a unit of weight.
 #[derive(Clone, Copy, Debug, PartialEq, Eq, Drop)]
 pub struct SpeedRow {
     pub from: i64,
     pub to: i64,
+    /// In thousandths of km/h: 0, which closes the way there, or from 1000 to 1000000.
     pub speed: u32,
+    /// In thousandths of a metre for each unit of the printed weight, from 278 to 1000000, where the row has one.
+    pub rate: Option<u32>,
 }
 
-/// What it costs to go over these three nodes in turn, in deciseconds: at most 1000000.
+/// What it costs to go over these three nodes in turn.
 #[derive(Clone, Copy, Debug, PartialEq, Eq, Drop)]
 pub struct TurnRow {
     pub from: i64,
     pub via: i64,
     pub to: i64,
+    /// In deciseconds, at most 1000000.
     pub penalty: u32,
+    /// In tenths of the printed weight, at most 1000000, where the row has one.
+    pub weight: Option<u32>,
 }
 
 /// Which of the two files.
@@ -37,9 +42,10 @@ pub enum RowKind {
     BadCount,
     /// A node's id isn't of its form or out of range.
     BadId,
-    /// A speed, a penalty, or the unused field behind them is no decimal, or a speed has a sign.
+    /// A speed, a rate, a penalty or a weight is no decimal, or a speed has a sign.
     BadNumber,
-    /// A speed is above 1000 km/h, or a penalty above 100000 s.
+    /// A speed is above 1000 km/h, a penalty above 100000 s, a weight above 100000, or a rate not above 0 or
+    /// above 1000; told only of a row whose numbers are all decimals.
     OutOfRange,
 }
 
