@@ -12,14 +12,14 @@ use Rattle.geo_integer.specs.Plane.{cosine_of, length_of, plane_between, squared
 use Rattle.geo_integer.specs.Position.{Position, position_of}
 use Rattle.geo_integer.specs.Root.{root_of}
 use Rattle.road_base.specs.declared.coordinates.Point.{Point}
-use Rattle.search_graph.specs.declared.costs.DurLen.{DurLen}
+use Rattle.search_graph.specs.declared.costs.WeightDurLen.{WeightDurLen}
 use Rattle.list_lemmas.proofs.Gets.{get_some}
 use Rattle.road_segments.specs.Segment.{Segment}
 use Rattle.edge_graph.specs.NetworkView.{NetworkView, vertices_of}
 use Rattle.edge_graph.specs.Turn.{exits}
 use Rattle.road_segments.specs.Vertex.{Vertex, against, along, opposite, vertices}
 use Rattle.road_segments.specs.Laws.{vertices-even, vertices-odd}
-use Rattle.metric_make.specs.MetricOf.{bearing_along, bend_penalty, cost_at, penalty_at, penalty_under, vertex_cost}
+use Rattle.metric_make.specs.MetricOf.{bearing_along, bend_penalty, cost_at, turn_cost_at, turn_cost_under, vertex_cost}
 use Rattle.metric_make.specs.TurnParts.{row_at, turning_at, waiting_at}
 use Rattle.traffic_files.specs.declared.rows.SpeedRow.{SpeedRow}
 use Rattle.traffic_files.specs.declared.rows.TurnRow.{TurnRow}
@@ -50,15 +50,15 @@ pub length_of-same : (a b : Position) → length_of a b ≡ length_of b a
 length_of-same a b = ap (λ (n : ℕ). max 1 (root_of n * 111195 / 6553600000)) (plane_between-same a b)
 
 -- the costs of both directions of one more segment
-pub segment-step : (speeds : List SpeedRow) (segments : List Segment) (s decimetres : ℕ) (from to : Point) (costs new : List (Option DurLen)) (one other : Option DurLen) (total : List (Option DurLen)) → s < length segments
+pub segment-step : (by_distance : Bool) (speeds : List SpeedRow) (segments : List Segment) (s decimetres : ℕ) (from to : Point) (costs new : List (Option WeightDurLen)) (one other : Option WeightDurLen) (total : List (Option WeightDurLen)) → s < length segments
     → option_map {U = Point × Point} (λ x. (x.from, x.to)) (slice_get segments s) ≡ Some (from, to)
     → decimetres ≡ length_of (position_of from) (position_of to)
-    → option_map (cost_at speeds decimetres) (slice_get (vertices segments) (2 * s)) ≡ Some one
-    → option_map (cost_at speeds decimetres) (slice_get (vertices segments) (2 * s + 1)) ≡ Some other
+    → option_map (cost_at by_distance speeds decimetres) (slice_get (vertices segments) (2 * s)) ≡ Some one
+    → option_map (cost_at by_distance speeds decimetres) (slice_get (vertices segments) (2 * s + 1)) ≡ Some other
     → new ≡ (costs ++ one ∷ []) ++ other ∷ []
-    → costs ++ map (vertex_cost speeds) (vertices (drop s segments)) ≡ total
-    → new ++ map (vertex_cost speeds) (vertices (drop (s + 1) segments)) ≡ total
-segment-step speeds segments s decimetres from to costs new one other total lt ends long first second both so_far =
+    → costs ++ map (vertex_cost by_distance speeds) (vertices (drop s segments)) ≡ total
+    → new ++ map (vertex_cost by_distance speeds) (vertices (drop (s + 1) segments)) ≡ total
+segment-step by_distance speeds segments s decimetres from to costs new one other total lt ends long first second both so_far =
     let g = get_some segments s lt in
     let x = g.0 in
     let up : suc s ≡ s + 1 = omega arith in
@@ -67,20 +67,20 @@ segment-step speeds segments s decimetres from to costs new one other total lt e
     let to_is : x.to ≡ to = ap (λ (e : Point × Point). e.1) ends_are in
     let long_is : decimetres ≡ length_of (position_of x.from) (position_of x.to) =
     long ∙ ap (λ (p : Point). length_of (position_of p) (position_of to)) (sym from_is) ∙ ap (λ (p : Point). length_of (position_of x.from) (position_of p)) (sym to_is) in
-    let one_is : one ≡ vertex_cost speeds (along x) =
-    same_Some _ _ (sym first ∙ ap (option_map (cost_at speeds decimetres)) (vertices-even segments s x (2 * s) g.1 refl)) ∙ ap (λ (n : ℕ). cost_at speeds n (along x)) long_is in
-    let other_is : other ≡ vertex_cost speeds (against x) =
-    same_Some _ _ (sym second ∙ ap (option_map (cost_at speeds decimetres)) (vertices-odd segments s x (2 * s + 1) g.1 refl))
-    ∙ ap (λ (n : ℕ). cost_at speeds n (against x)) (long_is ∙ length_of-same (position_of x.from) (position_of x.to)) in
-    let rest = map (vertex_cost speeds) (vertices (drop (s + 1) segments)) in
-    let front : map (vertex_cost speeds) (vertices (drop s segments)) ≡ vertex_cost speeds (along x) ∷ vertex_cost speeds (against x) ∷ rest =
-    ap (λ (l : List Segment). map (vertex_cost speeds) (vertices l)) (drop-get segments s x g.1 ∙ ap (λ (k : ℕ). x ∷ drop k segments) up) in
-    ap (λ (l : List (Option DurLen)). l ++ rest) both
+    let one_is : one ≡ vertex_cost by_distance speeds (along x) =
+    same_Some _ _ (sym first ∙ ap (option_map (cost_at by_distance speeds decimetres)) (vertices-even segments s x (2 * s) g.1 refl)) ∙ ap (λ (n : ℕ). cost_at by_distance speeds n (along x)) long_is in
+    let other_is : other ≡ vertex_cost by_distance speeds (against x) =
+    same_Some _ _ (sym second ∙ ap (option_map (cost_at by_distance speeds decimetres)) (vertices-odd segments s x (2 * s + 1) g.1 refl))
+    ∙ ap (λ (n : ℕ). cost_at by_distance speeds n (against x)) (long_is ∙ length_of-same (position_of x.from) (position_of x.to)) in
+    let rest = map (vertex_cost by_distance speeds) (vertices (drop (s + 1) segments)) in
+    let front : map (vertex_cost by_distance speeds) (vertices (drop s segments)) ≡ vertex_cost by_distance speeds (along x) ∷ vertex_cost by_distance speeds (against x) ∷ rest =
+    ap (λ (l : List Segment). map (vertex_cost by_distance speeds) (vertices l)) (drop-get segments s x g.1 ∙ ap (λ (k : ℕ). x ∷ drop k segments) up) in
+    ap (λ (l : List (Option WeightDurLen)). l ++ rest) both
     ∙ append_assoc (costs ++ one ∷ []) (other ∷ []) rest
     ∙ append_assoc costs (one ∷ []) (other ∷ rest)
-    ∙ ap (λ (o : Option DurLen). costs ++ o ∷ other ∷ rest) one_is
-    ∙ ap (λ (o : Option DurLen). costs ++ vertex_cost speeds (along x) ∷ o ∷ rest) other_is
-    ∙ ap (λ (l : List (Option DurLen)). costs ++ l) (sym front)
+    ∙ ap (λ (o : Option WeightDurLen). costs ++ o ∷ other ∷ rest) one_is
+    ∙ ap (λ (o : Option WeightDurLen). costs ++ vertex_cost by_distance speeds (along x) ∷ o ∷ rest) other_is
+    ∙ ap (λ (l : List (Option WeightDurLen)). costs ++ l) (sym front)
     ∙ so_far
 
 -- the bearings of both directions of one more segment
@@ -146,18 +146,19 @@ module _ (network : NetworkView) (from to : ℕ) (d e : Vertex) (at : slice_get 
       let test : nat_le 2 (exits (vertices_of network) from) ≡ true = grind (arith, nat_tests, many) in
       turning-on apart ∙ ap (λ (b : Bool). cond b (penalty_of network.profile (modifier_of (bearing_along d) (bearing_along e) false)) 0) test
 
-  -- the penalty of a turn is the row's, or the two parts of the profile's
-  pub penalty-parts : (rows : List TurnRow) → penalty_at network rows from to (slice_get (vertices_of network) from) (slice_get (vertices_of network) to)
-      ≡ penalty_under (row_at rows (slice_get (vertices_of network) from) (slice_get (vertices_of network) to))
+  -- a turn costs what its row says, or the two parts of the profile's penalty
+  pub cost-parts : (rows : List TurnRow) → turn_cost_at network rows from to (slice_get (vertices_of network) from) (slice_get (vertices_of network) to)
+      ≡ turn_cost_under network.profile.by_distance
       (turning_at network from to (slice_get (vertices_of network) from) (slice_get (vertices_of network) to) + waiting_at network (slice_get (vertices_of network) from))
-  penalty-parts rows =
-      ap (λ (o : Option Vertex). penalty_at network rows from to o (slice_get (vertices_of network) to)) at
-      ∙ ap (λ (o : Option Vertex). penalty_at network rows from to (Some d) o) next
-      ∙ ap (λ (o : Option Vertex). penalty_under (row_at rows (Some d) o) (turning_at network from to (Some d) o + waiting_at network (Some d))) (sym next)
-      ∙ ap (λ (o : Option Vertex). penalty_under (row_at rows o (slice_get (vertices_of network) to)) (turning_at network from to o (slice_get (vertices_of network) to) + waiting_at network o)) (sym at)
+      (row_at rows (slice_get (vertices_of network) from) (slice_get (vertices_of network) to))
+  cost-parts rows =
+      ap (λ (o : Option Vertex). turn_cost_at network rows from to o (slice_get (vertices_of network) to)) at
+      ∙ ap (λ (o : Option Vertex). turn_cost_at network rows from to (Some d) o) next
+      ∙ ap (λ (o : Option Vertex). turn_cost_under network.profile.by_distance (turning_at network from to (Some d) o + waiting_at network (Some d)) (row_at rows (Some d) o)) (sym next)
+      ∙ ap (λ (o : Option Vertex). turn_cost_under network.profile.by_distance (turning_at network from to o (slice_get (vertices_of network) to) + waiting_at network o) (row_at rows o (slice_get (vertices_of network) to))) (sym at)
 
 -- the cost of one more turn
-pub turn-step : (f : ℕ × ℕ → DurLen) (arcs : List (ℕ × ℕ)) (i from to : ℕ) (costs new : List DurLen) (cost : DurLen) (total : List DurLen)
+pub turn-step : (f : ℕ × ℕ → WeightDurLen) (arcs : List (ℕ × ℕ)) (i from to : ℕ) (costs new : List WeightDurLen) (cost : WeightDurLen) (total : List WeightDurLen)
     → slice_get arcs i ≡ Some (from, to) → cost ≡ f (from, to) → new ≡ costs ++ cost ∷ []
     → costs ++ map f (drop i arcs) ≡ total
     → new ++ map f (drop (i + 1) arcs) ≡ total
@@ -166,8 +167,8 @@ turn-step f arcs i from to costs new cost total at is added so_far =
     let rest = map f (drop (i + 1) arcs) in
     let front : map f (drop i arcs) ≡ f (from, to) ∷ rest =
     ap (λ (l : List (ℕ × ℕ)). map f l) (drop-get arcs i (from, to) at ∙ ap (λ (k : ℕ). (from, to) ∷ drop k arcs) up) in
-    ap (λ (l : List DurLen). l ++ rest) added
+    ap (λ (l : List WeightDurLen). l ++ rest) added
     ∙ append_assoc costs (cost ∷ []) rest
-    ∙ ap (λ (c : DurLen). costs ++ c ∷ rest) is
-    ∙ ap (λ (l : List DurLen). costs ++ l) (sym front)
+    ∙ ap (λ (c : WeightDurLen). costs ++ c ∷ rest) is
+    ∙ ap (λ (l : List WeightDurLen). costs ++ l) (sym front)
     ∙ so_far

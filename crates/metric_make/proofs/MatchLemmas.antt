@@ -1,19 +1,16 @@
 -- Which rows the vertices and turns so far have matched.
-use Rattle.std.proofs.Common.{◌≡◌, ℕ, ◌+◌, All, Bool, true, false, cond, List, [], ◌∷◌, ◌++◌, take, Option, Some, None, sym, ap, ◌∙◌}
+use Rattle.std.proofs.Common.{◌≡◌, ℕ, ◌+◌, Bool, true, false, cond, List, [], ◌∷◌, ◌++◌, take, Option, Some, None, sym, ap, ◌∙◌}
 use Rattle.std.specs.Prelude.{ℤ, ◌&&◌, ◌||◌, option_map}
 use Rattle.std.specs.List.{slice_get}
-use Rattle.std.specs.Option.{ForSome}
 use Rattle.std.specs.Ordering.{int_eq}
 use Rattle.std.proofs.lemmas.List.Folds.{list_any-append, list_any_more}
-use Rattle.std.proofs.lemmas.Option.{get_or_from_slice_get, none-some, same_Some, slice_get_within}
+use Rattle.std.proofs.lemmas.Option.{get_or_from_slice_get, same_Some, slice_get_within}
 use Rattle.road_segments.specs.Vertex.{Vertex}
 use Rattle.metric_make.specs.LastRows.{AreMarked, pair_eq, triple_eq}
 use Rattle.metric_make.specs.MetricOf.{cost_at, cost_under}
 use Rattle.metric_make.specs.TrafficRows.{goes_over, is_turn_over, is_way, speed_for}
-use Rattle.metric_make.specs.TurnParts.{row_at}
-use Rattle.metric_make.proofs.LastRowLemmas.{Entries, last_where-holds, or-false}
+use Rattle.metric_make.proofs.LastRowLemmas.{Entries, or-false}
 use Rattle.traffic_files.specs.declared.rows.SpeedRow.{SpeedRow}
-use Rattle.traffic_files.specs.declared.rows.TurnRow.{TurnRow}
 
 -- a field of a vertex that was read
 pub field-at : {A : Type 0} (field : Vertex → A) (vs : List Vertex) (v : ℕ) (x : Vertex) (value : A) → slice_get vs v ≡ Some x → option_map field (slice_get vs v) ≡ Some value → field x ≡ value
@@ -51,18 +48,18 @@ module _ (vs : List Vertex) (v : ℕ) (x : Vertex) (at : slice_get vs v ≡ Some
       h q e k ∙ sym (is_way-more q.0 q.1 ∙ ap (λ (b : Bool). was || (b && (int_eq x.tail q.0 && int_eq x.head q.1))) closed ∙ or-false was)
 
   -- what a vertex costs
-  pub cost-permitted : (rows : List SpeedRow) (decimetres speed : ℕ) (tail head : ℤ) → x.permitted ≡ true → x.speed ≡ speed → x.tail ≡ tail → x.head ≡ head
-      → option_map (cost_at rows decimetres) (slice_get vs v) ≡ Some (cost_under decimetres speed (speed_for rows tail head))
-  cost-permitted rows decimetres speed tail head permitted fast from to =
-      ap (option_map (cost_at rows decimetres)) at
-      ∙ ap (λ (b : Bool). Some (cond b (cost_under decimetres x.speed (speed_for rows x.tail x.head)) None)) permitted
-      ∙ ap (λ (n : ℕ). Some (cost_under decimetres n (speed_for rows x.tail x.head))) fast
-      ∙ ap (λ (z : ℤ). Some (cost_under decimetres speed (speed_for rows z x.head))) from
-      ∙ ap (λ (z : ℤ). Some (cost_under decimetres speed (speed_for rows tail z))) to
+  pub cost-permitted : (by_distance : Bool) (rows : List SpeedRow) (decimetres speed : ℕ) (tail head : ℤ) → x.permitted ≡ true → x.speed ≡ speed → x.tail ≡ tail → x.head ≡ head
+      → option_map (cost_at by_distance rows decimetres) (slice_get vs v) ≡ Some (cost_under by_distance decimetres speed (speed_for rows tail head))
+  cost-permitted by_distance rows decimetres speed tail head permitted fast from to =
+      ap (option_map (cost_at by_distance rows decimetres)) at
+      ∙ ap (λ (b : Bool). Some (cond b (cost_under by_distance decimetres x.speed (speed_for rows x.tail x.head)) None)) permitted
+      ∙ ap (λ (n : ℕ). Some (cost_under by_distance decimetres n (speed_for rows x.tail x.head))) fast
+      ∙ ap (λ (z : ℤ). Some (cost_under by_distance decimetres speed (speed_for rows z x.head))) from
+      ∙ ap (λ (z : ℤ). Some (cost_under by_distance decimetres speed (speed_for rows tail z))) to
 
-  pub cost-closed : (rows : List SpeedRow) (decimetres : ℕ) → x.permitted ≡ false → option_map (cost_at rows decimetres) (slice_get vs v) ≡ Some None
-  cost-closed rows decimetres closed =
-      ap (option_map (cost_at rows decimetres)) at ∙ ap (λ (b : Bool). Some (cond b (cost_under decimetres x.speed (speed_for rows x.tail x.head)) None)) closed
+  pub cost-closed : (by_distance : Bool) (rows : List SpeedRow) (decimetres : ℕ) → x.permitted ≡ false → option_map (cost_at by_distance rows decimetres) (slice_get vs v) ≡ Some None
+  cost-closed by_distance rows decimetres closed =
+      ap (option_map (cost_at by_distance rows decimetres)) at ∙ ap (λ (b : Bool). Some (cond b (cost_under by_distance decimetres x.speed (speed_for rows x.tail x.head)) None)) closed
 
 -- one turn more
 pub is_turn_over-more : (vs : List Vertex) (before : List (ℕ × ℕ)) (turn : ℕ × ℕ) (d e : Vertex) (from via to : ℤ) → slice_get vs turn.0 ≡ Some d → slice_get vs turn.1 ≡ Some e
@@ -73,9 +70,3 @@ is_turn_over-more vs before turn d e from via to at next =
     ∙ ap (λ (b : Bool). was || b) (or-false (goes_over from via to (slice_get vs turn.0) (slice_get vs turn.1)))
     ∙ ap (λ (o : Option Vertex). was || goes_over from via to o (slice_get vs turn.1)) at
     ∙ ap (λ (o : Option Vertex). was || goes_over from via to (Some d) o) next
-
--- the row for a turn is one of the rows
-pub row_at-holds : (P : TurnRow → Type 0) (rows : List TurnRow) (from to : Option Vertex) → All P rows → ForSome (row_at rows from to) P
-row_at-holds P rows (Some d) (Some e) h = last_where-holds P (λ row. (int_eq row.from d.tail && int_eq row.via d.head) && int_eq row.to e.head) rows h
-row_at-holds P rows (Some d) None h = λ x e. absurd (none-some x e)
-row_at-holds P rows None to h = λ x e. absurd (none-some x e)

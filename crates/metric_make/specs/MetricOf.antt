@@ -7,9 +7,9 @@ use Rattle.geo_integer.specs.Bearing.{bearing_of, modifier_of}
 use Rattle.geo_integer.specs.Plane.{length_of}
 use Rattle.geo_integer.specs.Position.{position_of}
 use Rattle.search_graph.specs.Digraph.{Weighting}
-use Rattle.search_graph.specs.Durations.{durlen_ops}
+use Rattle.search_graph.specs.RoadCosts.{road_cost_ops}
 use Rattle.search_graph.specs.Weighted.{IsWeighting}
-use Rattle.search_graph.specs.declared.costs.DurLen.{DurLen}
+use Rattle.search_graph.specs.declared.costs.WeightDurLen.{WeightDurLen}
 use Rattle.edge_graph.specs.NetworkView.{NetworkView, graph_of, vertices_of}
 use Rattle.edge_graph.specs.Turn.{exits}
 use Rattle.road_segments.specs.Vertex.{Vertex, opposite}
@@ -22,20 +22,34 @@ use Rattle.way_profile.specs.Vehicle.{ProfileView, penalty_of}
 abbrev pub duration_of : ℕ → ℕ → ℕ
 duration_of length speed = max 1 (length * 3600 / speed)
 
-abbrev pub cost_of : ℕ → ℕ → DurLen
-cost_of length speed = record { duration = duration_of length speed; length = length }
+-- what so many decimetres weigh at a rate, rounded down, at least 1: tenths of the printed weight, at so many
+-- thousandths of a metre for each unit of it
+abbrev pub rate_weight : ℕ → ℕ → ℕ
+rate_weight length rate = max 1 (length * 1000 / rate)
 
--- what a permitted vertex of this length costs: at its own speed, or at that of the row for it; speed 0 closes it
-abbrev pub cost_under : ℕ → ℕ → Option SpeedRow → Option DurLen
-cost_under length speed None = Some (cost_of length speed)
-cost_under length speed (Some row) = if row.speed == 0 then None else Some (cost_of length row.speed)
+-- what a vertex weighs: by the rate, where there is one; else its length where the profile weighs by distance, and
+-- its duration where it does not
+abbrev pub vertex_weight : Bool → ℕ → ℕ → Option ℕ → ℕ
+vertex_weight by_distance length duration (Some rate) = rate_weight length rate
+vertex_weight by_distance length duration None = if by_distance then length else duration
+
+abbrev pub cost_of : Bool → ℕ → ℕ → Option ℕ → WeightDurLen
+cost_of by_distance length speed rate =
+    let duration = duration_of length speed in
+    record { weight = vertex_weight by_distance length duration rate; duration = duration; length = length }
+
+-- what a permitted vertex of this length costs: at its own speed, or at that and the rate of the row for it; speed 0
+-- closes it
+abbrev pub cost_under : Bool → ℕ → ℕ → Option SpeedRow → Option WeightDurLen
+cost_under by_distance length speed None = Some (cost_of by_distance length speed None)
+cost_under by_distance length speed (Some row) = if row.speed == 0 then None else Some (cost_of by_distance length row.speed row.rate)
 
 -- what a vertex of this length costs under these rows; one that is not permitted is closed
-abbrev pub cost_at : List SpeedRow → ℕ → Vertex → Option DurLen
-cost_at speeds length v = if v.permitted then cost_under length v.speed (speed_for speeds v.tail v.head) else None
+abbrev pub cost_at : Bool → List SpeedRow → ℕ → Vertex → Option WeightDurLen
+cost_at by_distance speeds length v = if v.permitted then cost_under by_distance length v.speed (speed_for speeds v.tail v.head) else None
 
-abbrev pub vertex_cost : List SpeedRow → Vertex → Option DurLen
-vertex_cost speeds v = cost_at speeds (length_of (position_of v.from) (position_of v.to)) v
+abbrev pub vertex_cost : Bool → List SpeedRow → Vertex → Option WeightDurLen
+vertex_cost by_distance speeds v = cost_at by_distance speeds (length_of (position_of v.from) (position_of v.to)) v
 
 -- the bearing of a vertex, from its tail to its head
 abbrev pub bearing_along : Vertex → ℕ
@@ -51,33 +65,41 @@ abbrev pub penalty_between : ProfileView → ℕ → Bool → Vertex → Vertex 
 penalty_between profile exits back d e =
     (if back then profile.u_turn_penalty else bend_penalty profile exits d e) + (if d.signal then profile.signal_penalty else 0)
 
--- the penalty of a row, whole, where there is one for the turn; else the profile's
-abbrev pub penalty_under : Option TurnRow → ℕ → ℕ
-penalty_under None penalty = penalty
-penalty_under (Some row) penalty = row.penalty
+-- what a turn weighs: the weight of its row, where it has one; else nothing where the profile weighs by distance, and
+-- its penalty where it does not
+abbrev pub turn_weight : Bool → ℕ → Option ℕ → ℕ
+turn_weight by_distance penalty (Some weight) = weight
+turn_weight by_distance penalty None = if by_distance then 0 else penalty
 
--- the penalty of the turn between the vertices of two numbers; none where there are no such vertices
-abbrev pub penalty_at : NetworkView → List TurnRow → ℕ → ℕ → Option Vertex → Option Vertex → ℕ
-penalty_at network rows from to (Some d) (Some e) =
-    penalty_under (turn_for rows d.tail d.head e.head) (penalty_between network.profile (exits (vertices_of network) from) (to == opposite from) d e)
-penalty_at network rows from to _ _ = 0
+abbrev pub turn_cost_of : Bool → ℕ → Option ℕ → WeightDurLen
+turn_cost_of by_distance penalty weight = record { weight = turn_weight by_distance penalty weight; duration = penalty; length = 0 }
 
-abbrev pub turn_cost : NetworkView → List TurnRow → ℕ × ℕ → DurLen
-turn_cost network rows turn = record {
-  duration = penalty_at network rows turn.0 turn.1 (slice_get (vertices_of network) turn.0) (slice_get (vertices_of network) turn.1);
-  length = 0;
-}
+-- what a turn costs: the penalty of a row, whole, and its weight, where there is one for the turn; else the profile's
+-- penalty
+abbrev pub turn_cost_under : Bool → ℕ → Option TurnRow → WeightDurLen
+turn_cost_under by_distance penalty None = turn_cost_of by_distance penalty None
+turn_cost_under by_distance penalty (Some row) = turn_cost_of by_distance row.penalty row.weight
+
+-- the cost of the turn between the vertices of two numbers; nothing where there are no such vertices
+abbrev pub turn_cost_at : NetworkView → List TurnRow → ℕ → ℕ → Option Vertex → Option Vertex → WeightDurLen
+turn_cost_at network rows from to (Some d) (Some e) =
+    turn_cost_under network.profile.by_distance (penalty_between network.profile (exits (vertices_of network) from) (to == opposite from) d e) (turn_for rows d.tail d.head e.head)
+turn_cost_at network rows from to _ _ = record { weight = 0; duration = 0; length = 0 }
+
+abbrev pub turn_cost : NetworkView → List TurnRow → ℕ × ℕ → WeightDurLen
+turn_cost network rows turn = turn_cost_at network rows turn.0 turn.1 (slice_get (vertices_of network) turn.0) (slice_get (vertices_of network) turn.1)
 
 -- what the metric of a network is to those who use it: the costs, and how many rows matched nothing
 pub record MetricView : Type 0 where
-  pub weights : Weighting DurLen
+  pub weights : Weighting WeightDurLen
   pub unmatched : ℕ
 
--- the metric of a network under these rows: the last row for a vertex or a turn decides, else the profile. It
--- begins with the profile, whatever metric was there before, and a vertex that is closed leaves all turns as they are
+-- the metric of a network under these rows: the last row for a vertex or a turn decides, also where an earlier one has
+-- a rate or a weight and it has none, else the profile. It begins with the profile, whatever metric was there before,
+-- and a vertex that is closed leaves all turns as they are
 abbrev pub metric_of : NetworkView → List SpeedRow → List TurnRow → MetricView
 metric_of network speeds turns = record {
-  weights = record { vertex = map (vertex_cost speeds) (vertices_of network); arc = map (turn_cost network turns) network.turns };
+  weights = record { vertex = map (vertex_cost network.profile.by_distance speeds) (vertices_of network); arc = map (turn_cost network turns) network.turns };
   unmatched = unmatched_of network speeds turns;
 }
 
@@ -85,12 +107,16 @@ metric_of network speeds turns = record {
 abbrev pub base_of : NetworkView → MetricView
 base_of network = metric_of network [] []
 
--- each cost is within one unit, and a vertex takes less than 2^31 deciseconds
-pub record AreWithinUnit (weights : Weighting DurLen) : Type 0 where
-  pub vertex : All (λ o. ForSome o (λ x. durlen_ops.units x 1)) weights.vertex
-  pub arc : All (λ a. durlen_ops.units a 1) weights.arc
-  pub short : All (λ o. ForSome o (λ x. x.duration < 2 ^ 31)) weights.vertex
+-- a weight below 2^31 and less than 2^31 deciseconds
+abbrev pub IsShort : WeightDurLen → Type 0
+IsShort x = (x.weight < 2 ^ 31) × (x.duration < 2 ^ 31)
+
+-- each cost is within one unit, and that of a vertex is short
+pub record AreWithinUnit (weights : Weighting WeightDurLen) : Type 0 where
+  pub vertex : All (λ o. ForSome o (λ x. road_cost_ops.units x 1)) weights.vertex
+  pub arc : All (λ a. road_cost_ops.units a 1) weights.arc
+  pub short : All (λ o. ForSome o IsShort) weights.vertex
 
 -- what a metric of a network owes to those who search under it: its costs are a weighting of the graph that is searched
-pub record IsMetricOn (network : NetworkView) (weights : Weighting DurLen) : Type 0 where
-  pub weighting : IsWeighting durlen_ops (graph_of network) weights
+pub record IsMetricOn (network : NetworkView) (weights : Weighting WeightDurLen) : Type 0 where
+  pub weighting : IsWeighting road_cost_ops (graph_of network) weights

@@ -12,11 +12,11 @@ use Rattle.traffic_files.specs.declared.rows.TurnRow.{TurnRow}
 abbrev pub last_where : {A : Type 0} → (A → Bool) → List A → Option A
 last_where test xs = find test (reverse xs)
 
--- the row that decides the speed from one node to the next: the last one for these two
+-- the row that decides the speed and the rate from one node to the next: the last one for these two
 abbrev pub speed_for : List SpeedRow → ℤ → ℤ → Option SpeedRow
 speed_for rows tail head = last_where (λ row. int_eq row.from tail && int_eq row.to head) rows
 
--- the row that decides the penalty of going over three nodes in turn: the last one for these three
+-- the row that decides the penalty and the weight of going over three nodes in turn: the last one for these three
 abbrev pub turn_for : List TurnRow → ℤ → ℤ → ℤ → Option TurnRow
 turn_for rows from via to = last_where (λ row. (int_eq row.from from && int_eq row.via via) && int_eq row.to to) rows
 

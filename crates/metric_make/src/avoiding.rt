@@ -9,7 +9,7 @@ ghost use Rattle.road_base.specs.Words.{is_among};
 use cost_lists::CostList;
 use edge_graph::Network;
 use road_base::Words;
-use search_graph::{DurLen, Weights};
+use search_graph::{WeightDurLen, Weights};
 use std::alloc::{AllocError, Global};
 
 // Whether one of these classes is in the set.
@@ -23,7 +23,7 @@ fn is_one_among(set: &Words, classes: &Words) -> bool
 }
 
 // What a vertex of these classes costs those who avoid the set.
-fn avoided_cost(set: &Words, classes: &Words, cost: Option<DurLen>) -> Option<DurLen>
+fn avoided_cost(set: &Words, classes: &Words, cost: Option<WeightDurLen>) -> Option<WeightDurLen>
     ensures { result ≡ if list_any (is_among set.now) classes.now then None else cost }
 {
     if is_one_among(set, classes) {
@@ -37,9 +37,9 @@ fn avoided_cost(set: &Words, classes: &Words, cost: Option<DurLen>) -> Option<Du
 pub(crate) fn avoided_costs(
     alloc: Global,
     network: &Network,
-    weights: &Weights<DurLen>,
+    weights: &Weights<WeightDurLen>,
     set: &Words,
-) -> Result<CostList<DurLen>, AllocError>
+) -> Result<CostList<WeightDurLen>, AllocError>
     requires { length weights.now.vertex ≡ 2 * length network.now.segments }
     ensures { IfOk result (λ costs. costs ≡ avoided_costs set.now (vertices_of network.now) weights.now.vertex) }
 {

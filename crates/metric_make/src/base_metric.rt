@@ -1,26 +1,27 @@
 //! The metric of a network.
 
-ghost use Rattle.std.specs.Prelude.{◌≡◌, ◌^◌, ◌<◌, IfOk, OnOk, Some, length};
+ghost use Rattle.std.specs.Prelude.{◌≡◌, ◌<◌, IfOk, OnOk, Some, length};
 ghost use Rattle.std.specs.List.{slice_get};
 ghost use Rattle.std.specs.Option.{ForSome};
 ghost use Rattle.metric_make.specs.Avoiding.{avoided};
-ghost use Rattle.metric_make.specs.MetricOf.{AreWithinUnit, IsMetricOn, base_of, metric_of};
-ghost use Rattle.search_graph.specs.Durations.{durlen_ops};
+ghost use Rattle.metric_make.specs.MetricOf.{AreWithinUnit, IsMetricOn, IsShort, base_of, metric_of};
+ghost use Rattle.search_graph.specs.RoadCosts.{road_cost_ops};
 ghost use Rattle.traffic_files.specs.Ranges.{ArePenaltiesInRange, AreSpeedsInRange};
 
 use crate::avoiding::avoided_costs;
 use crate::turns::turn_costs;
 use crate::vertices::vertex_costs;
 use edge_graph::Network;
-use search_graph::{DurLen, Weights, small_weights};
+use search_graph::{WeightDurLen, Weights, small_weights};
 use std::alloc::{AllocError, Global};
 use std::marker::Model;
 use traffic_files::{SpeedRow, TurnRow};
 
-/// What each vertex and each turn of a network costs: 8 bytes a vertex and 8 bytes a turn, as long as a
-/// duration is below 2^31 deciseconds and a length below 2^32 decimetres. Each cost is within one unit, 2^32 of both.
+/// What each vertex and each turn of a network costs: 8 bytes a vertex and 8 bytes a turn, and 24 more for one whose
+/// weight is neither its duration nor its length, as a rate or the weight of a row may make it. Each cost is within one
+/// unit, 2^32 of each part.
 pub struct BaseMetric {
-    weights: Weights<DurLen>,
+    weights: Weights<WeightDurLen>,
     unmatched: u64,
 }
 
@@ -49,8 +50,8 @@ impl Model for BaseMetric {
 /// cost; a permitted one costs the decimetres between its two points, at least 1, and the deciseconds
 /// for them at its speed, rounded down, at least 1. A turn costs the profile's penalty, and no length: back
 /// onto its own segment that of turning back; else, where the vertex before it has two or more exits, that
-/// of its bend; else none; and that of a signal beside it where one stands at the node. It answers an error
-/// only where memory runs out.
+/// of its bend; else none; and that of a signal beside it where one stands at the node. The weight of each is its
+/// duration, or its length where the profile weighs by distance. It answers an error only where memory runs out.
 pub fn base(alloc: Global, network: &Network) -> Result<BaseMetric, AllocError>
     ensures value { IfOk result (λ metric. metric ≡ base_of network.now) }
     ensures on { OnOk result (IsMetricOn network.now (base_of network.now).weights) }
@@ -62,9 +63,11 @@ pub fn base(alloc: Global, network: &Network) -> Result<BaseMetric, AllocError>
 /// their readers give. It begins with the profile each time.
 ///
 /// A row of speeds is for each permitted vertex from its one node to its other: its speed counts in place of the
-/// vertex's own, and 0 closes the vertex, which leaves all turns as they are. A row of turns is for each turn over
-/// its three nodes: its penalty counts in place of the profile's whole one. Of several rows for one vertex or turn
-/// the last counts. It answers an error only where memory runs out.
+/// vertex's own, and 0 closes the vertex, which leaves all turns as they are. Where it has a rate, in thousandths of a
+/// metre per unit of weight, the vertex weighs its decimetres * 1000 / rate in tenths of that unit, rounded down, at
+/// least 1, however the profile weighs. A row of turns is for each turn over its three nodes: its penalty counts in
+/// place of the profile's whole one, and so does its weight, in tenths, where it has one. Of several rows for one vertex
+/// or turn the last counts alone. It answers an error only where memory runs out.
 pub fn metric(
     alloc: Global,
     network: &Network,
@@ -109,27 +112,28 @@ impl BaseMetric {
         })
     }
 
-    /// What vertex `v` costs, or None where it is closed. It takes less than 2^31 deciseconds, some seven years.
-    pub fn vertex(&self, v: u32) -> Option<DurLen>
+    /// What vertex `v` costs, or None where it is closed. It takes less than 2^31 deciseconds, some seven years, and
+    /// weighs less than 2^31 tenths.
+    pub fn vertex(&self, v: u32) -> Option<WeightDurLen>
         requires { v < length self.now.weights.vertex }
         ensures value { slice_get self.now.weights.vertex v ≡ Some result }
-        ensures unit { ForSome result (λ x. durlen_ops.units x 1) }
-        ensures short { ForSome result (λ x. x.duration < 2 ^ 31) }
+        ensures unit { ForSome result (λ x. road_cost_ops.units x 1) }
+        ensures short { ForSome result IsShort }
     {
         self.weights.vertex(v)
     }
 
     /// What turn `i` costs.
-    pub fn turn(&self, i: u32) -> DurLen
+    pub fn turn(&self, i: u32) -> WeightDurLen
         requires { i < length self.now.weights.arc }
         ensures value { slice_get self.now.weights.arc i ≡ Some result }
-        ensures unit { durlen_ops.units result 1 }
+        ensures unit { road_cost_ops.units result 1 }
     {
         self.weights.arc(i)
     }
 
     /// The costs as a search takes them.
-    pub fn weights(&self) -> &Weights<DurLen>
+    pub fn weights(&self) -> &Weights<WeightDurLen>
         ensures value { result.now ≡ self.now.weights }
         ensures unit { AreWithinUnit result.now }
     {

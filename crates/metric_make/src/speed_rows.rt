@@ -26,7 +26,7 @@ pub(crate) fn last_speeds(alloc: Global, rows: &[SpeedRow]) -> Result<LastSpeeds
     Ok(last)
 }
 
-/// The row that decides the speed from one node to the next, which is matched from now on.
+/// The row that decides the speed and the rate from one node to the next, which is matched from now on.
 pub(crate) fn matching_speed(
     rows: &[SpeedRow],
     last: &mut LastSpeeds,

@@ -26,7 +26,7 @@ pub(crate) fn last_turns(alloc: Global, rows: &[TurnRow]) -> Result<LastTurns, A
     Ok(last)
 }
 
-/// The row that decides the penalty of going over three nodes in turn, which is matched from now on.
+/// The row that decides the penalty and the weight of going over three nodes in turn, which is matched from now on.
 pub(crate) fn matching_turn(
     rows: &[TurnRow],
     last: &mut LastTurns,

@@ -2,28 +2,26 @@
 
 ghost use Rattle.std.specs.Prelude.{◌≡◌, ℕ, ◌+◌, ◌*◌, ◌<◌, ◌≤◌, ◌++◌, ◌∷◌, [], List, IfOk, OnOk, Some, All, length, map, false, not, count_by};
 ghost use Rattle.std.specs.List.{slice_get};
-ghost use Rattle.std.specs.Option.{ForSome};
 ghost use Rattle.edge_graph.specs.NetworkView.{vertices_of};
 ghost use Rattle.road_segments.specs.Vertex.{opposite};
 ghost use Rattle.metric_make.specs.LastRows.{AreLastTurns, AreMarked, triple_eq};
-ghost use Rattle.metric_make.specs.MetricOf.{bearing_along, penalty_under, turn_cost};
+ghost use Rattle.metric_make.specs.MetricOf.{bearing_along, turn_cost, turn_cost_under, turn_weight};
 ghost use Rattle.metric_make.specs.TrafficRows.{is_turn_over};
 ghost use Rattle.metric_make.specs.TurnParts.{row_at, turning_at, waiting_at};
-ghost use Rattle.search_graph.specs.Durations.{durlen_ops};
-ghost use Rattle.traffic_files.specs.Ranges.{ArePenaltiesInRange};
+ghost use Rattle.search_graph.specs.RoadCosts.{road_cost_ops};
 
 use crate::turn_rows::{LastTurns, last_turns, matching_turn, unmatched_turns};
 use cost_lists::FullCostList;
 use edge_graph::Network;
 use geo_integer::{bearing, modifier};
-use search_graph::DurLen;
+use search_graph::WeightDurLen;
 use std::alloc::{AllocError, Global};
 use traffic_files::TurnRow;
 
 /// What the turns cost, and how many rows matched none.
 #[derive(Drop)]
 pub(crate) struct TurnCosts {
-    pub costs: FullCostList<DurLen>,
+    pub costs: FullCostList<WeightDurLen>,
     pub unmatched: u64,
 }
 
@@ -108,18 +106,28 @@ fn row_for(
     matching_turn(rows, last, tail, via, network.head(to))
 }
 
-// What a turn costs that has this penalty by the profile.
-fn cost_under(penalty: u32, row: Option<TurnRow>) -> DurLen
-    requires row { ForSome row (λ r. r.penalty ≤ 1000000) }
-    requires bound { penalty ≤ 2000000 }
-    ensures value { result ≡ record { duration = penalty_under row penalty; length = 0 } }
-    ensures unit { durlen_ops.units result 1 }
+// What a turn of this penalty weighs.
+fn turn_weight(by_distance: bool, penalty: u32, weight: Option<u32>) -> u32
+    ensures { result ≡ turn_weight by_distance penalty weight }
 {
-    let penalty = match row {
-        Some(row) => row.penalty,
+    match weight {
+        Some(weight) => weight,
+        None if by_distance => 0,
         None => penalty,
+    }
+}
+
+// What a turn costs that has this penalty by the profile.
+fn cost_under(by_distance: bool, penalty: u32, row: Option<TurnRow>) -> WeightDurLen
+    ensures value { result ≡ turn_cost_under by_distance penalty row }
+    ensures unit { road_cost_ops.units result 1 }
+{
+    let (penalty, weight) = match row {
+        Some(row) => (row.penalty, row.weight),
+        None => (penalty, None),
     };
-    DurLen {
+    WeightDurLen {
+        weight: u64::from(turn_weight(by_distance, penalty, weight)),
         duration: u64::from(penalty),
         length: 0,
     }
@@ -131,23 +139,23 @@ fn costs_by(
     network: &Network,
     rows: &[TurnRow],
     last: &mut LastTurns,
-) -> Result<FullCostList<DurLen>, AllocError>
-    requires in_range { ArePenaltiesInRange rows.now }
+) -> Result<FullCostList<WeightDurLen>, AllocError>
     requires rows { AreLastTurns rows.now last.old }
     requires matched { AreMarked triple_eq (λ q. false) last.old }
     ensures value { IfOk result (λ costs. costs ≡ map (turn_cost network.now rows.now) network.now.turns) }
-    ensures unit { IfOk result (λ costs. All (λ a. durlen_ops.units a 1) costs) }
+    ensures unit { IfOk result (λ costs. All (λ a. road_cost_ops.units a 1) costs) }
     ensures rows { OnOk result (AreLastTurns rows.now last.new) }
     ensures matched { OnOk result (AreMarked triple_eq (λ q. is_turn_over (vertices_of network.now) network.now.turns q.0 q.1 q.2) last.new) }
 {
     let bearings = bearings_of(alloc, network)?;
     let graph = network.graph();
+    let by_distance = network.profile().by_distance();
     let mut costs = FullCostList::with_capacity(alloc, graph.arcs() as usize)?;
     for i in 0..graph.arcs() {
         let (from, to) = graph.arc(i);
         let row = row_for(network, rows, last, from, to);
         let penalty = profile_penalty(network, &bearings, from, to);
-        costs.push(cost_under(penalty, row))?;
+        costs.push(cost_under(by_distance, penalty, row))?;
     }
     Ok(costs)
 }
@@ -158,9 +166,8 @@ pub(crate) fn turn_costs(
     network: &Network,
     rows: &[TurnRow],
 ) -> Result<TurnCosts, AllocError>
-    requires { ArePenaltiesInRange rows.now }
     ensures value { IfOk result (λ found. found.costs ≡ map (turn_cost network.now rows.now) network.now.turns) }
-    ensures unit { IfOk result (λ found. All (λ a. durlen_ops.units a 1) found.costs) }
+    ensures unit { IfOk result (λ found. All (λ a. road_cost_ops.units a 1) found.costs) }
     ensures unmatched { IfOk result (λ found. found.unmatched ≡ count_by (λ row. not (is_turn_over (vertices_of network.now) network.now.turns row.from row.via row.to)) rows.now) }
 {
     let mut last = last_turns(alloc, rows)?;

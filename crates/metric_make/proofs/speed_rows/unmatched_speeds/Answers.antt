@@ -1,5 +1,5 @@
 -- A row is counted where the last row for its nodes is not matched.
-use Rattle.std.proofs.Common.{◌≡◌, ℤ, true, false, Some, get_or, pos, arith, ◌∙◌, sym, ap}
+use Rattle.std.proofs.Common.{◌≡◌, ℤ, true, false, None, Some, get_or, pos, arith, ◌∙◌, sym, ap}
 use Rattle.std.specs.Prelude.{not, ◌&&◌}
 use Rattle.std.specs.List.{slice_get}
 use Rattle.std.specs.Ordering.{int_eq}
@@ -14,7 +14,7 @@ pub loop-row-preserved : goal.loop-row-preserved
 loop-row-preserved c =
     let rows = c.args.rows.now in
     let i = c.loop-row.row-index in
-    let none : SpeedRow = record { from = pos 0; to = pos 0; speed = 0 } in
+    let none : SpeedRow = record { from = pos 0; to = pos 0; speed = 0; rate = None } in
     let row : SpeedRow = get_or rows i none in
     let key : ℤ × ℤ = (row.from, row.to) in
     let at : slice_get rows i ≡ Some row = slice_get-get_or rows i none c.loop-row-test.true in

@@ -1,4 +1,4 @@
-use Rattle.std.proofs.Common.{◌≡◌, ℤ, cond, false, Some, get_or, pos, ◌∙◌, refl, ap, rules, FitsSigned, w64}
+use Rattle.std.proofs.Common.{◌≡◌, ℤ, cond, false, None, Some, get_or, pos, ◌∙◌, refl, ap, rules, FitsSigned, w64}
 use Rattle.std.specs.HashMap.{get}
 use Rattle.std.specs.Ordering.{int_eq}
 use Rattle.std.specs.Prelude.{◌&&◌}
@@ -13,7 +13,7 @@ pub loop-i-preserved : goal.loop-i-preserved
 loop-i-preserved c =
     let rows = c.args.rows.now in
     let i = c.loop-i.i in
-    let none : TurnRow = record { from = pos 0; via = pos 0; to = pos 0; penalty = 0 } in
+    let none : TurnRow = record { from = pos 0; via = pos 0; to = pos 0; penalty = 0; weight = None } in
     let row : TurnRow = get_or rows i none in
     let from_fits : FitsSigned w64 (get_or rows i none).from = search rules in
     let via_fits : FitsSigned w64 (get_or rows i none).via = search rules in

@@ -1,27 +1,21 @@
 -- A turn costs what the row for it says, or the two parts of the profile's penalty.
-use Rattle.std.proofs.Common.{◌≡◌, ℕ, ◌<◌, ◌≤◌, ◌*◌, List, take, length, ◌∙◌, Some, arith, rules, subst, sym, ap}
+use Rattle.std.proofs.Common.{◌≡◌, ℕ, ◌+◌, ◌<◌, ◌*◌, Bool, List, take, length, ◌∙◌, Some, arith, rules, subst, sym, ap}
 use Rattle.std.specs.List.{slice_get}
 use Rattle.std.proofs.lemmas.List.{take_all}
 use Rattle.std.proofs.lemmas.List.Elements.{All-push}
 use Rattle.list_lemmas.proofs.Gets.{get_some}
 use Rattle.search_graph.specs.Digraph.{Digraph}
-use Rattle.search_graph.specs.Durations.{durlen_ops}
-use Rattle.search_graph.specs.declared.costs.DurLen.{DurLen}
+use Rattle.search_graph.specs.RoadCosts.{road_cost_ops}
 use Rattle.road_segments.specs.Laws.{length-vertices}
 use Rattle.edge_graph.specs.NetworkView.{vertices_of}
 use Rattle.metric_make.specs.LastRows.{AreMarked, triple_eq}
-use Rattle.metric_make.specs.MetricOf.{penalty_at, penalty_under, turn_cost}
+use Rattle.metric_make.specs.MetricOf.{turn_cost, turn_cost_under}
 use Rattle.metric_make.specs.TrafficRows.{is_turn_over}
-use Rattle.metric_make.specs.TurnParts.{row_at}
-use Rattle.metric_make.proofs.CostLemmas.{penalty-parts, turn-step}
+use Rattle.metric_make.specs.TurnParts.{turning_at, waiting_at}
+use Rattle.metric_make.proofs.CostLemmas.{cost-parts, turn-step}
 use Rattle.metric_make.proofs.LastRowLemmas.{take-push}
-use Rattle.metric_make.proofs.MatchLemmas.{row_at-holds}
+use Rattle.way_profile.specs.Vehicle.{ProfileView}
 use Rattle.metric_make.proofs.turns.costs_by.Goals as goal
-
-pub cost_under-requires-clause-row : goal.cost_under-requires-clause-row
-cost_under-requires-clause-row c x e =
-    let vs = vertices_of c.args.network.now in
-    row_at-holds (λ row. row.penalty ≤ 1000000) c.args.rows.now (slice_get vs c.arc-from.result.0) (slice_get vs c.arc-from.result.1) c.requires.in_range x (sym c.row_for-row.ensures.row ∙ e)
 
 pub loop-i-preserved : goal.loop-i-preserved
 loop-i-preserved c =
@@ -36,16 +30,17 @@ loop-i-preserved c =
     let to_in : c.arc-from.result.1 < 2 * length c.args.network.now.segments = search rules in
     let d = get_some vs from (omega (arith, length-vertices c.args.network.now.segments, from_in)) in
     let e = get_some vs to (omega (arith, length-vertices c.args.network.now.segments, to_in)) in
-    let total : penalty_under c.row_for-row.result c.profile_penalty-penalty.result ≡ penalty_at network c.args.rows.now from to (slice_get vs from) (slice_get vs to) =
-    ap (λ o. penalty_under o c.profile_penalty-penalty.result) c.row_for-row.ensures.row
-    ∙ ap (penalty_under (row_at c.args.rows.now (slice_get vs from) (slice_get vs to))) c.profile_penalty-penalty.ensures.value
-    ∙ sym (penalty-parts network from to d.0 e.0 d.1 e.1 c.args.rows.now) in
+    let kind : c.by_distance-by_distance.result ≡ c.args.network.now.profile.by_distance = c.by_distance-by_distance.ensures ∙ ap (λ (p : ProfileView). p.by_distance) c.profile.ensures in
     let cost : c.cost_under.result ≡ turn_cost network c.args.rows.now (from, to) =
-    c.cost_under.ensures.value ∙ ap (λ (n : ℕ). let r : DurLen = record { duration = n; length = 0 } in r) total in
+    c.cost_under.ensures.value
+    ∙ ap (λ (b : Bool). turn_cost_under b c.profile_penalty-penalty.result c.row_for-row.result) kind
+    ∙ ap (λ (n : ℕ). turn_cost_under c.args.network.now.profile.by_distance n c.row_for-row.result) c.profile_penalty-penalty.ensures.value
+    ∙ ap (turn_cost_under c.args.network.now.profile.by_distance (turning_at network from to (slice_get vs from) (slice_get vs to) + waiting_at network (slice_get vs from))) c.row_for-row.ensures.row
+    ∙ sym (cost-parts network from to d.0 e.0 d.1 e.1 c.args.rows.now) in
     record {
       rest = turn-step (turn_cost network c.args.rows.now) turns c.loop-i.i from to c.loop-i.costs c.push.new.self c.cost_under.result _
           at cost c.in_ok-push.ensures.pushed c.loop-i.invariant.rest;
-      unit = rw c.in_ok-push.ensures.pushed (All-push (λ a. durlen_ops.units a 1) c.loop-i.costs c.cost_under.result c.loop-i.invariant.unit c.cost_under.ensures.unit);
+      unit = rw c.in_ok-push.ensures.pushed (All-push (λ a. road_cost_ops.units a 1) c.loop-i.costs c.cost_under.result c.loop-i.invariant.unit c.cost_under.ensures.unit);
       rows = c.row_for-row.ensures.rows;
       matched =
           subst (λ (l : List (ℕ × ℕ)). AreMarked triple_eq (λ q. is_turn_over vs l q.0 q.1 q.2) c.row_for-row.new.last) (sym (take-push {A = ℕ × ℕ} turns c.loop-i.i (from, to) at))

@@ -1,7 +1,7 @@
 use Rattle.std.proofs.Common.{◌≡◌, ℕ, List, Some, get_or, refl, sym, ap, ap₂, subst, ◌∙◌}
 use Rattle.search_graph.specs.Digraph.{Weighting}
-use Rattle.search_graph.specs.declared.costs.DurLen.{DurLen}
-use Rattle.search_graph.specs.Durations.{durlen_ops}
+use Rattle.search_graph.specs.declared.costs.WeightDurLen.{WeightDurLen}
+use Rattle.search_graph.specs.RoadCosts.{road_cost_ops}
 use Rattle.search_graph.specs.WeightLaws.{small_from_lists}
 use Rattle.edge_graph.specs.NetworkView.{graph_of}
 use Rattle.metric_make.specs.Avoiding.{avoided}
@@ -26,7 +26,7 @@ returns-clause-value c =
     c.index-excludable-set.is ∙ ap (λ (sets : List (List (List ℕ))). get_or sets c.args.set c.index-excludable-set.result) (c.excludable.ensures ∙ ap (λ (p : ProfileView). p.excludable) c.profile.ensures) in
     let kept : c.self.inside.weights ≡ c.args.self.now.weights = ap (λ (b : MetricView). b.weights) c.self.view_is in
     let made = avoided-made c.args.network.now c.args.set c.index-excludable-set.result c.self.inside.weights c.args.self.now.weights c.in_ok-with_vertices.field-0 c.in_ok-vertex.vertex c.requires.set read kept c.in_ok-vertex.ensures c.in_ok-with_vertices.ensures in
-    ap₂ (λ (w : Weighting DurLen) (n : ℕ). record { weights = w; unmatched = n }) made (ap (λ (b : MetricView). b.unmatched) c.self.view_is)
+    ap₂ (λ (w : Weighting WeightDurLen) (n : ℕ). record { weights = w; unmatched = n }) made (ap (λ (b : MetricView). b.unmatched) c.self.view_is)
 
 -- the costs are small as they were
 pub returns-clause-on : goal.returns-clause-on
@@ -35,4 +35,4 @@ returns-clause-on c =
     let w = c.args.self.now.weights in
     let within : AreWithinUnit w = subst (λ (b : MetricView). AreWithinUnit b.weights) c.self.view_is c.self.invariant in
     let fits = c.requires.of.weighting in
-    avoided-on network (Some c.args.set) w (small_from_lists durlen_ops (graph_of network) w.vertex w.arc c.graph-few.ensures.few fits.vertices fits.arcs within.vertex within.arc)
+    avoided-on network (Some c.args.set) w (small_from_lists road_cost_ops (graph_of network) w.vertex w.arc c.graph-few.ensures.few fits.vertices fits.arcs within.vertex within.arc)
