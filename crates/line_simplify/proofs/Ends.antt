@@ -3,13 +3,14 @@ use Rattle.std.proofs.Common.{◌≡◌, ℕ, suc, ◌+◌, ◌-◌, ◌*◌, �
 use Rattle.std.specs.Prelude.{MatchOption, Some, None, Option, reverse}
 use Rattle.std.proofs.lemmas.List.{append-nil, drop-drop, get_or-drop, get_or_at, get_or_default, length-reverse, length-take-le, reverse-append, take-append-drop, take_at}
 use Rattle.road_base.specs.declared.coordinates.Point.{Point}
+use Rattle.line_simplify.specs.Splits.{between}
 use Rattle.line_simplify.specs.Steps.{IsFarthestAt, IsStep}
 use Rattle.line_simplify.specs.Simplified.{kept_between, limit_of, offset_of, simplified}
 use Rattle.line_simplify.proofs.Kept.{between-far, between-near, drop-behind}
 
 -- the points behind the one at `from` and before the one at `to`
 abbrev pub part : List Point → ℕ → ℕ → List Point
-part points from to = take (to - (from + 1)) (drop (from + 1) points)
+part points from to = between points from to
 
 -- what stays of the points behind the one at `from`, where those at the ends stay, the nearest end first
 pub rest_of : ℕ → List Point → Point → ℕ → List ℕ → List Point

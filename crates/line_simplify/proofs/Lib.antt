@@ -1,3 +1,4 @@
+pub mod Alike
 pub mod Bounding
 pub mod Ends
 pub mod Farthest

@@ -11,9 +11,11 @@ use Rattle.geo_integer.specs.Project.{place_of, position_at}
 use Rattle.list_lemmas.proofs.Gets.{All_get, get_part, get_set, part_get}
 use Rattle.road_base.specs.declared.coordinates.Point.{Point}
 use Rattle.line_simplify.specs.Finds.{AreFinds, AreWithin}
+use Rattle.line_simplify.specs.Searches.{Knows}
 use Rattle.line_simplify.specs.Simplified.{offset_of}
 use Rattle.line_simplify.specs.declared.bounds.Chord.{Chord}
 use Rattle.line_simplify.specs.declared.finds.Find.{Find}
+use Rattle.line_simplify.specs.declared.simplifying.Search.{Search}
 use Rattle.line_simplify.proofs.Ends.{part}
 
 -- points that compare equal lie at one place
@@ -55,7 +57,7 @@ finds-set points from finds n find h new = λ k other at. elim (get_set finds n 
 ]
 
 -- as more points are done
-pub finds-later : (points : List Point) (from next : ℕ) (finds : List Find) → from ≤ next → AreFinds points from finds → AreFinds points next finds
+finds-later : (points : List Point) (from next : ℕ) (finds : List Find) → from ≤ next → AreFinds points from finds → AreFinds points next finds
 finds-later points from next finds le h = λ k find at i p low high is. h k find at i p (omega (arith, le, low)) high is
 
 -- the points between two ends, by their numbers
@@ -69,3 +71,11 @@ part-within points from to line most le all = λ i p low high at.
     let n : from + 1 + (i - (from + 1)) ≡ i = omega (arith, low) in
     All_get (λ q. offset_of line.from line.to q ≤ most) (part points from to) (i - (from + 1)) p all
     (part_get points (from + 1) to (i - (from + 1)) p le (omega (arith, low, high)) (subst (λ k. slice_get points k ≡ Some p) (sym n) at))
+
+pub knows-later : (limit : ℕ) (points : List Point) (from next : ℕ) (search : Search) → from ≤ next → Knows limit points from search → Knows limit points next search
+knows-later limit points from next search le h = record {
+  limited = h.limited;
+  runs = h.runs;
+  finds = finds-later points from next search.finds.finds.items le h.finds;
+  parts = h.parts;
+}

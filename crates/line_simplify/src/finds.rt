@@ -82,18 +82,18 @@ impl Finds {
     }
 }
 
-// At which of so many places a chord is remembered.
-fn place_of(line: Chord, end: usize, places: usize) -> usize
+// At which of so many places a chord is remembered, with the number of its last point or of all.
+pub(crate) fn place_of(line: Chord, number: usize, places: usize) -> usize
     requires { 0 < places }
     ensures { result < places }
 {
     let east = line.from.lon.unsigned_abs() as usize;
     let north = line.from.lat.unsigned_abs() as usize;
-    (east * 31 + north * 7 + end % 65536) % places
+    (east * 31 + north * 7 + number % 65536) % places
 }
 
 // Whether two chords have the same ends.
-fn are_same(one: Chord, other: Chord) -> bool
+pub(crate) fn are_same(one: Chord, other: Chord) -> bool
     ensures from { IsTrue result → position_of one.from ≡ position_of other.from }
     ensures to { IsTrue result → position_of one.to ≡ position_of other.to }
 {

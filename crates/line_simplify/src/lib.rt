@@ -9,6 +9,7 @@ mod blocks;
 mod bounds;
 mod extents;
 mod finds;
+mod parts;
 mod simplifying;
 mod tolerances;
 

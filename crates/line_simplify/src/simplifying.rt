@@ -6,10 +6,13 @@ ghost use Rattle.road_base.specs.declared.coordinates.Point.{Point};
 ghost use Rattle.line_simplify.specs.Blocks.{AreCovered};
 ghost use Rattle.line_simplify.specs.Steps.{IsFarthestAt, IsStep};
 ghost use Rattle.line_simplify.specs.Simplified.{IsSimplified, limit_of, offset_of, simplified};
+ghost use Rattle.line_simplify.specs.Searches.{Knows};
+ghost use Rattle.line_simplify.specs.Splits.{IsSplit};
 
 use crate::blocks::{Blocks, passed_by};
 use crate::bounds::Chord;
 use crate::finds::{Find, Finds};
+use crate::parts::{Part, Parts, chord_of};
 use geo_integer::{plane_distance, point_at, project};
 use road_base::Point;
 use std::alloc::{AllocError, Global};
@@ -28,30 +31,14 @@ pub fn simplify(alloc: Global, points: &[Point], tolerance: u32) -> Result<Vec<P
     if points.len() < 3 {
         return Vec::from_slice(alloc, points);
     }
-    let limit = limit(tolerance);
-    let runs = Blocks::of(alloc, points)?;
+    let mut search = Search::of(alloc, points, tolerance)?;
     let mut kept = vec![in alloc; points[0]]?;
-    let mut finds = Finds::none(alloc, points[0], points.len())?;
     let mut from = 0;
     // the points that stay behind `from`, as far as they are known: the last of them is the next one
     let mut ends = vec![in alloc; points.len() - 1]?;
     while let Some(to) = ends.pop() {
-        let line = Chord {
-            from: points[from],
-            to: points[to],
-        };
-        let reach = Reach {
-            limit,
-            most: finds.most(line, to),
-        };
-        let found = farthest(&runs, line, &points[from + 1..to], from + 1, reach);
-        let find = Find {
-            line,
-            end: to,
-            most: found.most,
-        };
-        finds.keep(find, to - from);
-        from = step(&mut kept, &mut ends, from, to, line.to, found.at)?;
+        let split = search.split(points, from, to);
+        from = step(&mut kept, &mut ends, from, to, points[to], split)?;
     }
     Ok(kept)
 }
@@ -90,6 +77,74 @@ fn limit(tolerance: u32) -> u128
 {
     let wide = u128::from(tolerance) * 65536;
     wide * wide
+}
+
+/// What is known of a line: its limit, the extents of its runs, how far off chords points were found, and at which
+/// points its parts were split.
+struct Search {
+    limit: u128,
+    runs: Blocks,
+    finds: Finds,
+    parts: Parts,
+}
+
+impl Drop for Search {
+    fn drop(self) {
+        let Search {
+            limit: _limit,
+            runs: _runs,
+            finds: _finds,
+            parts: _parts,
+        } = self;
+    }
+}
+
+impl Search {
+    // Nothing is looked through yet.
+    fn of(alloc: Global, points: &[Point], tolerance: u32) -> Result<Search, AllocError>
+        requires { 0 < length points.now }
+        ensures { IfOk result (λ search. Knows (limit_of tolerance) points.now 0 search) }
+    {
+        Ok(Search {
+            limit: limit(tolerance),
+            runs: Blocks::of(alloc, points)?,
+            finds: Finds::none(alloc, points[0], points.len())?,
+            parts: Parts::none(alloc, points.len())?,
+        })
+    }
+
+    // At which of the points between two the part between these is split, by its number among them; None where it is
+    // not split.
+    fn split(&mut self, points: &[Point], from: usize, to: usize) -> Option<usize>
+        requires ordered { from < to }
+        requires inside { to < length points.now }
+        requires knows { Knows self.old.limit points.now from self.old }
+        ensures split { IsSplit self.old.limit points.now from to result }
+        ensures knows { Knows self.old.limit points.now from self.new }
+    {
+        if let Some(part) = self.parts.alike(points, from, to) {
+            return part.split;
+        }
+        let line = chord_of(points, from, to);
+        let reach = Reach {
+            limit: self.limit,
+            most: self.finds.most(line, to),
+        };
+        let found = farthest(&self.runs, line, &points[from + 1..to], from + 1, reach);
+        let find = Find {
+            line,
+            end: to,
+            most: found.most,
+        };
+        self.finds.keep(find, to - from);
+        let part = Part {
+            from,
+            to,
+            split: found.at,
+        };
+        self.parts.keep(part, line);
+        found.at
+    }
 }
 
 /// The squares of distances off a line that count: those beyond the limit. None is greater than `most`.

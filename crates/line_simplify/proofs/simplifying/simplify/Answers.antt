@@ -1,15 +1,18 @@
-use Rattle.std.proofs.Common.{◌≡◌, ◌∙◌, ℕ, ◌+◌, ◌-◌, ◌≤◌, List, [], ◌∷◌, length, All, sym, subst, arith}
-use Rattle.std.specs.Prelude.{MatchOption}
+use Rattle.std.proofs.Common.{◌≡◌, ◌∙◌, ℕ, ◌-◌, ◌≤◌, List, [], ◌∷◌, length, All, sym, subst, arith}
+use Rattle.std.specs.Prelude.{MatchOption, Some}
+use Rattle.std.specs.List.{slice_get}
 use Rattle.std.proofs.lemmas.List.{get_or_read, nil_from_length}
 use Rattle.std.proofs.lemmas.Result.{IfOk-weaker}
-use Rattle.list_lemmas.proofs.Gets.{get_part}
-use Rattle.line_simplify.specs.Blocks.{IsCovered}
+use Rattle.std.proofs.lemmas.Option.{get_or_from_slice_get}
+use Rattle.list_lemmas.proofs.Gets.{get_some}
 use Rattle.road_base.specs.declared.coordinates.Point.{Point}
 use Rattle.line_simplify.specs.Steps.{IsFarthestAt}
 use Rattle.line_simplify.specs.Simplified.{IsSimplified, few, limit_of, offset_of, simplified}
 use Rattle.line_simplify.proofs.Ends.{next-end, part, stands-all, stands-first, stands-next, step-later, step-smaller}
-use Rattle.line_simplify.specs.Finds.{AreWithin}
-use Rattle.line_simplify.proofs.Repeats.{finds-later, part-within, within-part}
+use Rattle.line_simplify.specs.Searches.{Knows}
+use Rattle.line_simplify.specs.Splits.{IsSplit}
+use Rattle.line_simplify.proofs.Repeats.{knows-later}
+use Rattle.line_simplify.proofs.Runs.{read-is}
 use Rattle.line_simplify.proofs.Lines.{simplified-few, simplified-is, simplified-rule}
 use Rattle.line_simplify.proofs.simplifying.simplify.Goals as goal
 
@@ -33,50 +36,38 @@ loop-to-init c =
     let i : c.in_ok-ends.ends.items ≡ (length points - 1) ∷ [] = c.in_ok-ends.ensures.items in
     record {
       stands = stands-first c.args.tolerance points c.in_ok-kept.kept.items c.in_ok-ends.ends.items x le (get_or_read points 0 x (omega (arith, le)) c.index-points-0.is) e i;
-      finds = c.in_ok-finds.ensures points 0;
+      knows = c.in_ok-search.ensures;
     }
-
--- the points between two ends have the numbers behind the first
-pub farthest-found-requires-clause-covered : goal.farthest-found-requires-clause-covered
-farthest-found-requires-clause-covered c = λ i p at.
-    let next = next-end c.args.tolerance c.args.points.now c.loop-to.kept.items c.loop-to.from c.loop-to.ends.items c.pop.new.self.items c.in-Some.to c.loop-to.invariant.stands c.in-Some.ensures.items in
-    let there = get_part c.args.points.now (c.loop-to.from + 1) c.in-Some.to i p (omega (arith, next.1)) at in
-    let whole : 0 + (c.loop-to.from + 1 + i) ≡ c.loop-to.from + 1 + i = omega arith in
-    subst (λ n. IsCovered c.in_ok-runs.runs n p) whole (c.in_ok-runs.ensures (c.loop-to.from + 1 + i) p there.1)
-
--- none of them lies farther off than what is known of the chord
-pub farthest-found-requires-clause-reach : goal.farthest-found-requires-clause-reach
-farthest-found-requires-clause-reach c =
-    let points = c.args.points.now in
-    let from = c.loop-to.from in
-    let to = c.in-Some.to in
-    let next = next-end c.args.tolerance points c.loop-to.kept.items from c.loop-to.ends.items c.pop.new.self.items to c.loop-to.invariant.stands c.in-Some.ensures.items in
-    within-part points from to (record { from = c.index-points-from.result; to = c.index-points-to.result }) c.most.result (omega (arith, next.1)) (c.most.ensures points from c.loop-to.invariant.finds)
 
 -- one step more
 pub loop-to-smaller : goal.loop-to-smaller
 loop-to-smaller c =
     step-smaller c.args.tolerance c.args.points.now c.loop-to.kept.items c.loop-to.from c.loop-to.ends.items c.pop.new.self.items c.in-Some.to c.loop-to.invariant.stands c.in-Some.ensures.items
-    c.index-points-to.result c.farthest-found.result.at c.step.new.kept.items c.in_ok-from.from c.step.new.ends.items c.in_ok-from.ensures
+    c.index-points-to.result c.split-split.result c.step.new.kept.items c.in_ok-from.from c.step.new.ends.items c.in_ok-from.ensures
 
 pub loop-to-preserved : goal.loop-to-preserved
 loop-to-preserved c =
     let points = c.args.points.now in
     let from = c.loop-to.from in
     let to = c.in-Some.to in
-    let x = c.index-points-from.result in
     let y = c.index-points-to.result in
-    let split = c.farthest-found.result.at in
+    let split = c.split-split.result in
+    let limit = limit_of c.args.tolerance in
     let e = c.in-Some.ensures.items in
-    let next = next-end c.args.tolerance points c.loop-to.kept.items from c.loop-to.ends.items c.pop.new.self.items to c.loop-to.invariant.stands e in
-    let found : MatchOption split (All (λ q. offset_of x y q ≤ limit_of c.args.tolerance) (part points from to)) (IsFarthestAt (limit_of c.args.tolerance) x y (part points from to)) =
-    subst (λ (limit : ℕ). MatchOption split (All (λ q. offset_of x y q ≤ limit) (part points from to)) (IsFarthestAt limit x y (part points from to))) c.limit-limit.ensures c.farthest-found.ensures.value in
-    let later : from ≤ c.in_ok-from.from = step-later c.args.tolerance points c.loop-to.kept.items from c.loop-to.ends.items c.pop.new.self.items to c.loop-to.invariant.stands e y split c.step.new.kept.items c.in_ok-from.from c.step.new.ends.items c.in_ok-from.ensures in
-    let within : AreWithin points from to (record { from = x; to = y }) c.farthest-found.result.most = part-within points from to (record { from = x; to = y }) c.farthest-found.result.most (omega (arith, next.1)) c.farthest-found.ensures.most in
+    let stands = c.loop-to.invariant.stands in
+    let next = next-end c.args.tolerance points c.loop-to.kept.items from c.loop-to.ends.items c.pop.new.self.items to stands e in
+    let at_from = get_some points from stands.inside in
+    let x = at_from.0 in
+    let at_to : slice_get points to ≡ Some y = read-is points to y y next.1 (sym c.index-points-to.is) in
+    let limited = c.loop-to.invariant.knows.limited in
+    let parted : IsSplit limit points from to split = subst (λ (n : ℕ). IsSplit n points from to split) limited c.split-split.ensures.split in
+    let found : MatchOption split (All (λ q. offset_of x y q ≤ limit) (part points from to)) (IsFarthestAt limit x y (part points from to)) = parted.farthest x y at_from.1 at_to in
+    let later : from ≤ c.in_ok-from.from = step-later c.args.tolerance points c.loop-to.kept.items from c.loop-to.ends.items c.pop.new.self.items to stands e y split c.step.new.kept.items c.in_ok-from.from c.step.new.ends.items c.in_ok-from.ensures in
+    let knows : Knows limit points from c.split-split.new.self = subst (λ (n : ℕ). Knows n points from c.split-split.new.self) limited c.split-split.ensures.knows in
     record {
-      stands = stands-next c.args.tolerance points c.loop-to.kept.items from c.loop-to.ends.items c.pop.new.self.items to c.loop-to.invariant.stands e x y split c.step.new.kept.items c.in_ok-from.from c.step.new.ends.items
-          (get_or_read points from x c.loop-to.invariant.stands.inside c.index-points-from.is) (get_or_read points to y next.1 c.index-points-to.is) found c.in_ok-from.ensures;
-      finds = finds-later points from c.in_ok-from.from c.keep.new.self.finds.items later (c.keep.ensures points from c.loop-to.invariant.finds within);
+      stands = stands-next c.args.tolerance points c.loop-to.kept.items from c.loop-to.ends.items c.pop.new.self.items to stands e x y split c.step.new.kept.items c.in_ok-from.from c.step.new.ends.items
+          (λ d. sym (get_or_from_slice_get points from x d at_from.1)) (get_or_read points to y next.1 c.index-points-to.is) found c.in_ok-from.ensures;
+      knows = knows-later limit points from c.in_ok-from.from c.split-split.new.self later knows;
     }
 
 -- no end is left
