@@ -9,9 +9,9 @@ use Rattle.std.proofs.lemmas.List.FromFn.{get_or-range_with_len, length-range_wi
 use Rattle.std.proofs.lemmas.Option.{same_Some, slice_get-map, slice_get_within}
 use Rattle.list_lemmas.proofs.Fronts.{all_zip-each, all_zip-length, all_zip-more, all_zip-second, slice_get-zip, take-get}
 use Rattle.list_lemmas.proofs.Gets.{All_get, get_is, get_some}
-use Rattle.search_graph.specs.declared.costs.DurLen.{DurLen}
+use Rattle.search_graph.specs.declared.costs.WeightDurLen.{WeightDurLen}
 use Rattle.search_graph.specs.Digraph.{Digraph, Weighting}
-use Rattle.search_graph.specs.Durations.{durlen_ops}
+use Rattle.search_graph.specs.RoadCosts.{road_cost_ops}
 use Rattle.search_graph.specs.Weighted.{AreSmall}
 use Rattle.edge_graph.specs.NetworkView.{NetworkView, graph_of}
 use Rattle.metric_make.specs.Avoiding.{avoided}
@@ -73,22 +73,22 @@ exclusion-at network None h = refl
 exclusion-at network (Some k) h = ap (slice_get (exclusions network)) (add-one k) ∙ set-at network k (h k refl)
 
 -- one set more
-pub sets-step : (network : NetworkView) (w : Weighting DurLen) (k : ℕ) (bases new : List MetricView) (base : MetricView) → k < length network.profile.excludable
+pub sets-step : (network : NetworkView) (w : Weighting WeightDurLen) (k : ℕ) (bases new : List MetricView) (base : MetricView) → k < length network.profile.excludable
     → base.weights ≡ avoided network (Some k) w
     → new ≡ bases ++ base ∷ []
     → map (λ (b : MetricView). b.weights) bases ≡ map (λ set. avoided network set w) (take k (sets network))
     → map (λ (b : MetricView). b.weights) new ≡ map (λ set. avoided network set w) (take (k + 1) (sets network))
 sets-step network w k bases new base lt is pushed so_far =
-    let weights : MetricView → Weighting DurLen = λ b. b.weights in
-    let under : Option ℕ → Weighting DurLen = λ set. avoided network set w in
+    let weights : MetricView → Weighting WeightDurLen = λ b. b.weights in
+    let under : Option ℕ → Weighting WeightDurLen = λ set. avoided network set w in
     ap (map weights) pushed
     ∙ map-append weights bases (base ∷ [])
-    ∙ ap₂ (λ (front : List (Weighting DurLen)) (x : Weighting DurLen). front ++ x ∷ []) so_far is
+    ∙ ap₂ (λ (front : List (Weighting WeightDurLen)) (x : Weighting WeightDurLen). front ++ x ∷ []) so_far is
     ∙ sym (map-append under (take k (sets network)) (Some k ∷ []))
     ∙ ap (map under) (sym (take-get (sets network) k (Some k) (set-at network k lt)))
 
 -- the changes of one more
-pub changes-step : (before after : List (Weighting DurLen)) (k : ℕ) (old w : Weighting DurLen) (changes new : List Changed) (c : Changed) → k < length after → length before ≡ length after
+pub changes-step : (before after : List (Weighting WeightDurLen)) (k : ℕ) (old w : Weighting WeightDurLen) (changes new : List Changed) (c : Changed) → k < length after → length before ≡ length after
     → old ≡ get_or before k old
     → w ≡ get_or after k w
     → AreChangesBetween (old, w) c
@@ -100,30 +100,30 @@ changes-step before after k old w changes new c lt many at beside between pushed
     subst (λ (l : List Changed). AllZip AreChangesBetween (take (k + 1) (zip before after)) l) (sym pushed) (all_zip-more AreChangesBetween (zip before after) changes k (old, w) c so_far pair between)
 
 -- as many as there are sets avoid one
-pub length-avoiding : (network : NetworkView) (bases : Bases) (w : Weighting DurLen) → weights_in bases ≡ weights_under network w → length bases.avoiding.items ≡ length network.profile.excludable
+pub length-avoiding : (network : NetworkView) (bases : Bases) (w : Weighting WeightDurLen) → weights_in bases ≡ weights_under network w → length bases.avoiding.items ≡ length network.profile.excludable
 length-avoiding network bases w same =
     let e = ap length same in
     omega (arith, e, length-map bases.avoiding.items (λ (b : MetricView). b.weights), length-map (sets network) (λ set. avoided network set w), length-sets network)
 
 -- the costs at the place of a set are those of its exclusion
-pub weights-at : (network : NetworkView) (bases : Bases) (w x : Weighting DurLen) (set : Option ℕ) → ForSome set (λ k. k < length network.profile.excludable)
+pub weights-at : (network : NetworkView) (bases : Bases) (w x : Weighting WeightDurLen) (set : Option ℕ) → ForSome set (λ k. k < length network.profile.excludable)
     → weights_in bases ≡ weights_under network w
     → slice_get (weights_in bases) (place_of set) ≡ Some x
     → x ≡ avoided network set w
 weights-at network bases w x set h same at =
-    let under : Option ℕ → Weighting DurLen = λ s. avoided network s w in
+    let under : Option ℕ → Weighting WeightDurLen = λ s. avoided network s w in
     same_Some x (under set)
-    (sym at ∙ ap (λ (l : List (Weighting DurLen)). slice_get l (place_of set)) same ∙ slice_get-map under (exclusions network) (place_of set) ∙ ap (option_map under) (exclusion-at network set h))
+    (sym at ∙ ap (λ (l : List (Weighting WeightDurLen)). slice_get l (place_of set)) same ∙ slice_get-map under (exclusions network) (place_of set) ∙ ap (option_map under) (exclusion-at network set h))
 
 -- so are the cliques
-pub cliques-at : (m : Customized) (set : Option ℕ) (all : List (List (Rows DurLen))) (cliques : List (Rows DurLen)) → ForSome set (λ k. k < length m.road.network.profile.excludable)
+pub cliques-at : (m : Customized) (set : Option ℕ) (all : List (List (Rows WeightDurLen))) (cliques : List (Rows WeightDurLen)) → ForSome set (λ k. k < length m.road.network.profile.excludable)
     → AllZip (λ s c. IsExact (excluding s m) c) (exclusions m.road.network) all
     → slice_get all (place_of set) ≡ Some cliques
     → IsExact (excluding set m) cliques
 cliques-at m set all cliques h exact at = all_zip-at (λ s c. IsExact (excluding s m) c) (exclusions m.road.network) all (place_of set) set cliques exact (exclusion-at m.road.network set h) at
 
 -- and there are cliques for each
-pub place-below : (m : Customized) (set : Option ℕ) (all : List (List (Rows DurLen))) → ForSome set (λ k. k < length m.road.network.profile.excludable)
+pub place-below : (m : Customized) (set : Option ℕ) (all : List (List (Rows WeightDurLen))) → ForSome set (λ k. k < length m.road.network.profile.excludable)
     → AllZip (λ s c. IsExact (excluding s m) c) (exclusions m.road.network) all
     → place_of set < length all
 place-below m set all h exact =
@@ -131,12 +131,12 @@ place-below m set all h exact =
     omega (arith, within, all_zip-length (λ s c. IsExact (excluding s m) c) (exclusions m.road.network) all exact)
 
 -- the costs of each are small
-pub small-under : (m : Customized) (set : Option ℕ) (all : List (List (Rows DurLen))) → AllZip (λ s c. IsExact (excluding s m) c) (exclusions m.road.network) all
-    → AreSmall durlen_ops (graph_of m.road.network) (avoided m.road.network set m.road.weights)
+pub small-under : (m : Customized) (set : Option ℕ) (all : List (List (Rows WeightDurLen))) → AllZip (λ s c. IsExact (excluding s m) c) (exclusions m.road.network) all
+    → AreSmall road_cost_ops (graph_of m.road.network) (avoided m.road.network set m.road.weights)
 small-under m set all exact = avoided-small m.road.network set m.road.weights (all_zip-second (λ s c. IsExact (excluding s m) c) (exclusions m.road.network) all 0 None exact refl).1.small
 
 -- what is read of a metric is exact
-pub exact-under : (m : Customized) (set : Option ℕ) (network : NetworkView) (frame : Framed) (base : MetricView) (cliques : List (Rows DurLen))
+pub exact-under : (m : Customized) (set : Option ℕ) (network : NetworkView) (frame : Framed) (base : MetricView) (cliques : List (Rows WeightDurLen))
     → network ≡ m.road.network
     → frame ≡ m.frame
     → base.weights ≡ avoided m.road.network set m.road.weights
@@ -145,53 +145,53 @@ pub exact-under : (m : Customized) (set : Option ℕ) (network : NetworkView) (f
 exact-under m set network frame base cliques networks frames weights exact =
     subst (λ (n : NetworkView). IsExact (record { road = record { network = n; weights = base.weights }; frame = frame }) cliques) (sym networks)
     (subst (λ (f : Framed). IsExact (record { road = record { network = m.road.network; weights = base.weights }; frame = f }) cliques) (sym frames)
-    (subst (λ (w : Weighting DurLen). IsExact (record { road = record { network = m.road.network; weights = w }; frame = m.frame }) cliques) (sym weights) exact))
+    (subst (λ (w : Weighting WeightDurLen). IsExact (record { road = record { network = m.road.network; weights = w }; frame = m.frame }) cliques) (sym weights) exact))
 
 -- small costs are small under each exclusion, and fit the graph
-pub weights_under-small : (network : NetworkView) (w : Weighting DurLen) → AreSmall durlen_ops (graph_of network) w → All (AreSmall durlen_ops (graph_of network)) (weights_under network w)
+pub weights_under-small : (network : NetworkView) (w : Weighting WeightDurLen) → AreSmall road_cost_ops (graph_of network) w → All (AreSmall road_cost_ops (graph_of network)) (weights_under network w)
 weights_under-small network w small =
-    All-map (AreSmall durlen_ops (graph_of network)) (λ set. avoided network set w) (exclusions network) (λ k d lt. avoided-small network (get_or (exclusions network) k d) w small)
+    All-map (AreSmall road_cost_ops (graph_of network)) (λ set. avoided network set w) (exclusions network) (λ k d lt. avoided-small network (get_or (exclusions network) k d) w small)
 
-pub fit-all : (g : Digraph) (ws : List (Weighting DurLen)) → All (AreSmall durlen_ops g) ws → All (FitGraph g) ws
+pub fit-all : (g : Digraph) (ws : List (Weighting WeightDurLen)) → All (AreSmall road_cost_ops g) ws → All (FitGraph g) ws
 fit-all g ws small k d lt = let s = small k d lt in record { vertices = s.vertices; arcs = s.arcs }
 
 -- cliques that were made for the costs side by side are exact for each
-pub exact-for_each : (roads : RoadsView) (bases : Bases) (all : List (List (Rows DurLen))) (network : NetworkView) (frame : Framed) (base : MetricView) (weights : List (Weighting DurLen))
+pub exact-for_each : (roads : RoadsView) (bases : Bases) (all : List (List (Rows WeightDurLen))) (network : NetworkView) (frame : Framed) (base : MetricView) (weights : List (Weighting WeightDurLen))
     → network ≡ roads.network
     → frame ≡ roads.frame
     → bases.plain ≡ base
     → weights_in bases ≡ weights_under network base.weights
     → weights ≡ weights_in bases
     → roads.frame.graph ≡ graph_of roads.network
-    → AreSmall durlen_ops (graph_of roads.network) base.weights
-    → AllZip (λ w cliques. AreExact durlen_ops frame w cliques (length frame.cells.levels)) weights all
+    → AreSmall road_cost_ops (graph_of roads.network) base.weights
+    → AllZip (λ w cliques. AreExact road_cost_ops frame w cliques (length frame.cells.levels)) weights all
     → IsExactForEach (customized_on roads bases.plain) (weights_in bases) all
 exact-for_each roads bases all network frame base weights networks frames plain under listed graph small made =
     let m = customized_on roads bases.plain in
     let same : weights_in bases ≡ weights_under roads.network bases.plain.weights = under ∙ ap₂ (λ (n : NetworkView) (b : MetricView). weights_under n b.weights) networks (sym plain) in
-    let here : AllZip (λ w cliques. AreExact durlen_ops roads.frame w cliques (length roads.frame.cells.levels)) (weights_under roads.network bases.plain.weights) all =
-    subst (λ (l : List (Weighting DurLen)). AllZip (λ w cliques. AreExact durlen_ops roads.frame w cliques (length roads.frame.cells.levels)) l all) (listed ∙ same)
-    (subst (λ (f : Framed). AllZip (λ w cliques. AreExact durlen_ops f w cliques (length f.cells.levels)) weights all) frames made) in
-    let plain_small : AreSmall durlen_ops (graph_of roads.network) bases.plain.weights = subst (λ (b : MetricView). AreSmall durlen_ops (graph_of roads.network) b.weights) (sym plain) small in
+    let here : AllZip (λ w cliques. AreExact road_cost_ops roads.frame w cliques (length roads.frame.cells.levels)) (weights_under roads.network bases.plain.weights) all =
+    subst (λ (l : List (Weighting WeightDurLen)). AllZip (λ w cliques. AreExact road_cost_ops roads.frame w cliques (length roads.frame.cells.levels)) l all) (listed ∙ same)
+    (subst (λ (f : Framed). AllZip (λ w cliques. AreExact road_cost_ops f w cliques (length f.cells.levels)) weights all) frames made) in
+    let plain_small : AreSmall road_cost_ops (graph_of roads.network) bases.plain.weights = subst (λ (b : MetricView). AreSmall road_cost_ops (graph_of roads.network) b.weights) (sym plain) small in
     record {
       weights = same;
       exact =
-          all_zip-each (λ set cliques. AreExact durlen_ops roads.frame (avoided roads.network set bases.plain.weights) cliques (length roads.frame.cells.levels)) (λ set cliques. IsExact (excluding set m) cliques)
+          all_zip-each (λ set cliques. AreExact road_cost_ops roads.frame (avoided roads.network set bases.plain.weights) cliques (length roads.frame.cells.levels)) (λ set cliques. IsExact (excluding set m) cliques)
           (λ set cliques exact. record { graph = graph; small = avoided-small roads.network set bases.plain.weights plain_small; exact = exact }) (exclusions roads.network) all
-          (all_zip-from_map (λ set. avoided roads.network set bases.plain.weights) (λ w cliques. AreExact durlen_ops roads.frame w cliques (length roads.frame.cells.levels)) (exclusions roads.network) all here);
+          (all_zip-from_map (λ set. avoided roads.network set bases.plain.weights) (λ w cliques. AreExact road_cost_ops roads.frame w cliques (length roads.frame.cells.levels)) (exclusions roads.network) all here);
     }
 
 -- what was exact under each exclusion serves the new costs, but where they differ
-pub kept-for_each : (m : Customized) (w : Weighting DurLen) (all : List (List (Rows DurLen))) (changes : List Changed)
+pub kept-for_each : (m : Customized) (w : Weighting WeightDurLen) (all : List (List (Rows WeightDurLen))) (changes : List Changed)
     → AllZip (λ s c. IsExact (excluding s m) c) (exclusions m.road.network) all
     → AllZip AreChangesBetween (zip (weights_under m.road.network m.road.weights) (weights_under m.road.network w)) changes
-    → AreKept durlen_ops m.frame (weights_under m.road.network w) all changes
+    → AreKept road_cost_ops m.frame (weights_under m.road.network w) all changes
 kept-for_each m w all changes exact between =
     let network = m.road.network in
-    let old : Option ℕ → Weighting DurLen = λ s. avoided network s m.road.weights in
-    let new : Option ℕ → Weighting DurLen = λ s. avoided network s w in
+    let old : Option ℕ → Weighting WeightDurLen = λ s. avoided network s m.road.weights in
+    let new : Option ℕ → Weighting WeightDurLen = λ s. avoided network s w in
     let among = exclusions network in
-    let kept : (k : ℕ) (v : Weighting DurLen) (cliques : List (Rows DurLen)) (c : Changed) → slice_get (map new among) k ≡ Some v → slice_get all k ≡ Some cliques → slice_get changes k ≡ Some c → IsKept durlen_ops m.frame v cliques c =
+    let kept : (k : ℕ) (v : Weighting WeightDurLen) (cliques : List (Rows WeightDurLen)) (c : Changed) → slice_get (map new among) k ≡ Some v → slice_get all k ≡ Some cliques → slice_get changes k ≡ Some c → IsKept road_cost_ops m.frame v cliques c =
     λ k v cliques c at_v at_cliques at_c.
     let within = slice_get_within (map new among) k v at_v in
     let found = get_some among k (omega (arith, within, length-map among new)) in
@@ -203,12 +203,12 @@ kept-for_each m w all changes exact between =
     let differ : AreChangesBetween (old set, new set) c = all_zip-at AreChangesBetween (zip (map old among) (map new among)) changes k (old set, new set) c between (slice_get-zip (map old among) (map new among) k (old set) (new set) old_at new_at) at_c in
     let vertices : length (old set).vertex ≡ m.frame.graph.vertices = was.small.vertices ∙ ap (λ (g : Digraph). g.vertices) (sym was.graph) in
     let arcs : length (old set).arc ≡ length m.frame.graph.arcs = was.small.arcs ∙ ap (λ (g : Digraph). length g.arcs) (sym was.graph) in
-    let here : IsKept durlen_ops m.frame (new set) cliques c = record {
+    let here : IsKept road_cost_ops m.frame (new set) cliques c = record {
       vertices = subst (λ (n : ℕ). All (λ i. i < n) c.vertices) vertices differ.vertices.in_range;
       arcs = subst (λ (n : ℕ). All (λ i. i < n) c.arcs) arcs differ.arcs.in_range;
-      exact = WereExact-changed durlen_ops m.frame (old set) (new set) cliques c.vertices c.arcs differ.vertices differ.arcs was.exact;
+      exact = WereExact-changed road_cost_ops m.frame (old set) (new set) cliques c.vertices c.arcs differ.vertices differ.arcs was.exact;
     } in
-    subst (λ (x : Weighting DurLen). IsKept durlen_ops m.frame x cliques c) is_v here in
+    subst (λ (x : Weighting WeightDurLen). IsKept road_cost_ops m.frame x cliques c) is_v here in
     record {
       sets = all_zip-length (λ s c. IsExact (excluding s m) c) among all exact ∙ sym (length-map among new);
       changes = all_zip-length AreChangesBetween (zip (map old among) (map new among)) changes between ∙ length-zip-map old new among ∙ sym (length-map among new);
@@ -216,7 +216,7 @@ kept-for_each m w all changes exact between =
     }
 
 -- and the searches are counted for each
-pub remade-by : (m : Customized) (w : Weighting DurLen) (changes : List Changed) (searches : ℕ)
+pub remade-by : (m : Customized) (w : Weighting WeightDurLen) (changes : List Changed) (searches : ℕ)
     → AllZip AreChangesBetween (zip (weights_under m.road.network m.road.weights) (weights_under m.road.network w)) changes
     → AreCounted m.frame changes searches
     → IsRemadeBy m w searches

@@ -2,9 +2,9 @@
 use Rattle.std.specs.Prelude.{◌≡◌, ℕ, ◌-◌, ◌^◌, List, Option, length, min, sum}
 use Rattle.std.specs.List.{AllZip}
 use Rattle.std.proofs.Common.{◌∙◌, sym}
-use Rattle.search_graph.specs.declared.costs.DurLen.{DurLen}
+use Rattle.search_graph.specs.declared.costs.WeightDurLen.{WeightDurLen}
 use Rattle.search_graph.specs.Digraph.{Weighting}
-use Rattle.search_graph.specs.Durations.{durlen_ops}
+use Rattle.search_graph.specs.RoadCosts.{road_cost_ops}
 use Rattle.search_graph.specs.Weighted.{AreSmall}
 use Rattle.edge_graph.specs.NetworkView.{graph_of}
 use Rattle.metric_make.specs.Avoiding.{avoided, avoiding}
@@ -29,10 +29,10 @@ customized_on roads base = record { road = road_of roads.network base; frame = r
 
 -- The frame is over the network's graph, the costs are small, and in all levels the cliques are the least costs inside the
 -- cells under just these costs.
-pub record IsExact (m : Customized) (cliques : List (Rows DurLen)) : Type 0 where
+pub record IsExact (m : Customized) (cliques : List (Rows WeightDurLen)) : Type 0 where
   pub graph : m.frame.graph ≡ graph_of m.road.network
-  pub small : AreSmall durlen_ops (graph_of m.road.network) m.road.weights
-  pub exact : AreExact durlen_ops m.frame m.road.weights cliques (length m.frame.cells.levels)
+  pub small : AreSmall road_cost_ops (graph_of m.road.network) m.road.weights
+  pub exact : AreExact road_cost_ops m.frame m.road.weights cliques (length m.frame.cells.levels)
 
 -- the two are of one network and one frame
 abbrev pub ShareRoads : Customized → Customized → Type 0
@@ -51,25 +51,25 @@ abbrev pub excluding : Option ℕ → Customized → Customized
 excluding set m = record { road = avoiding set m.road; frame = m.frame }
 
 -- The weights are those of the metric under each exclusion, and for each of them the cliques are exact for just these.
-pub record IsExactForEach (m : Customized) (bases : List (Weighting DurLen)) (sets : List (List (Rows DurLen))) : Type 0 where
+pub record IsExactForEach (m : Customized) (bases : List (Weighting WeightDurLen)) (sets : List (List (Rows WeightDurLen))) : Type 0 where
   pub weights : bases ≡ weights_under m.road.network m.road.weights
   pub exact : AllZip (λ set cliques. IsExact (excluding set m) cliques) (exclusions m.road.network) sets
 
 -- the places where two weightings differ
-pub record AreChangesBetween (both : Weighting DurLen × Weighting DurLen) (changed : Changed) : Type 0 where
+pub record AreChangesBetween (both : Weighting WeightDurLen × Weighting WeightDurLen) (changed : Changed) : Type 0 where
   pub vertices : AreChanges both.0.vertex both.1.vertex changed.vertices
   pub arcs : AreChanges both.0.arc both.1.arc changed.arcs
 
 -- Of the cells of a frame those that hold a vertex that costs other than before, or both ends of a turn that does, have n
 -- entries in all.
-pub record IsTouchedBy (frame : Framed) (before after : Weighting DurLen) (n : ℕ) : Type 0 where
+pub record IsTouchedBy (frame : Framed) (before after : Weighting WeightDurLen) (n : ℕ) : Type 0 where
   pub changed : Changed
   pub differ : AreChangesBetween (before, after) changed
   pub touched : IsTouchedCount frame changed.vertices changed.arcs n
 
 -- Of the cells that these costs touch without exclusion, and for each set where just those who avoid it pay other than
 -- before, there are n entries in all; the count stands still at the end of 64 bits.
-pub record IsRemadeBy (m : Customized) (after : Weighting DurLen) (n : ℕ) : Type 0 where
+pub record IsRemadeBy (m : Customized) (after : Weighting WeightDurLen) (n : ℕ) : Type 0 where
   pub counts : List ℕ
   pub each : AllZip (λ set count. IsTouchedBy m.frame (avoided m.road.network set m.road.weights) (avoided m.road.network set after) count) (exclusions m.road.network) counts
   pub all : n ≡ min (sum counts) (2 ^ 64 - 1)

@@ -12,7 +12,7 @@ ghost use Rattle.metric_make.specs.MetricOf.{IsMetricOn};
 use cell_recustomize::{Changed, changed};
 use edge_graph::Network;
 use metric_make::BaseMetric;
-use search_graph::{DurLen, Graph, Weights};
+use search_graph::{Graph, WeightDurLen, Weights};
 use std::alloc::{AllocError, Global};
 
 /// What the vertices and turns of a network cost, and what they cost those who avoid a set of classes that the
@@ -86,7 +86,7 @@ impl Bases {
     }
 
     /// All of them as a search takes them, those without exclusion first: copies that share their memory.
-    pub fn weights(&self, alloc: Global) -> Result<Vec<Weights<DurLen>>, AllocError>
+    pub fn weights(&self, alloc: Global) -> Result<Vec<Weights<WeightDurLen>>, AllocError>
         ensures { IfOk result (λ weights. weights.items ≡ weights_in self.now) }
     {
         let mut weights = Vec::with_capacity(alloc, self.avoiding.len())?;
@@ -102,8 +102,8 @@ impl Bases {
 pub(crate) fn changes(
     alloc: Global,
     graph: &Graph,
-    before: &[Weights<DurLen>],
-    after: &[Weights<DurLen>],
+    before: &[Weights<WeightDurLen>],
+    after: &[Weights<WeightDurLen>],
 ) -> Result<Vec<Changed>, AllocError>
     requires many { length before.now ≡ length after.now }
     requires before { All (FitGraph graph.now) before.now }

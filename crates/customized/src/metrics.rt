@@ -7,7 +7,7 @@ ghost use Rattle.edge_graph.specs.NetworkView.{graph_of};
 ghost use Rattle.customized.specs.Exact.{IsRemadeBy, ShareRoads, customized_on, excluding, roads_of};
 ghost use Rattle.metric_make.specs.Avoiding.{avoided};
 ghost use Rattle.metric_make.specs.MetricOf.{IsMetricOn};
-ghost use Rattle.search_graph.specs.Durations.{durlen_ops};
+ghost use Rattle.search_graph.specs.RoadCosts.{road_cost_ops};
 ghost use Rattle.search_graph.specs.Weighted.{AreSmall};
 
 use crate::bases::{Bases, changes, place_of};
@@ -18,7 +18,7 @@ use class_sets::{CliqueSets, customize_all, recustomize_all};
 use edge_graph::Network;
 use metric_make::BaseMetric;
 use metric_publish::entry::Kindred;
-use search_graph::DurLen;
+use search_graph::WeightDurLen;
 use std::alloc::{AllocError, Global};
 use std::marker::Model;
 use std::thread::Threads;
@@ -30,7 +30,7 @@ use std::thread::Threads;
 pub struct Metric {
     roads: Roads,
     bases: Bases,
-    cliques: CliqueSets<DurLen>,
+    cliques: CliqueSets<WeightDurLen>,
 }
 
 impl Drop for Metric {
@@ -153,15 +153,15 @@ impl Metric {
     pub fn base(&self, set: Option<u32>) -> &BaseMetric
         requires { ForSome set (λ k. k < length self.now.road.network.profile.excludable) }
         ensures value { result.now.weights ≡ avoided self.now.road.network set self.now.road.weights }
-        ensures small { AreSmall durlen_ops (graph_of self.now.road.network) (avoided self.now.road.network set self.now.road.weights) }
+        ensures small { AreSmall road_cost_ops (graph_of self.now.road.network) (avoided self.now.road.network set self.now.road.weights) }
     {
         self.bases.get(set)
     }
 
     /// What cheapest walks cost inside the cells of the frame, under just these costs.
-    pub fn cliques(&self, set: Option<u32>) -> &Cliques<DurLen>
+    pub fn cliques(&self, set: Option<u32>) -> &Cliques<WeightDurLen>
         requires { ForSome set (λ k. k < length self.now.road.network.profile.excludable) }
-        ensures { AreExact durlen_ops self.now.frame (avoided self.now.road.network set self.now.road.weights) result.now (length self.now.frame.cells.levels) }
+        ensures { AreExact road_cost_ops self.now.frame (avoided self.now.road.network set self.now.road.weights) result.now (length self.now.frame.cells.levels) }
     {
         self.cliques.get(place_of(set))
     }
@@ -193,8 +193,8 @@ impl Metric {
 // Tells a proof that the costs of roads are small, and that their frame is over their graph. It does nothing.
 fn known_small(roads: &Roads, base: &BaseMetric)
     requires { IsMetricOn roads.now.network base.now.weights }
-    ensures network { AreSmall durlen_ops (graph_of roads.now.network) base.now.weights }
-    ensures frame { AreSmall durlen_ops roads.now.frame.graph base.now.weights }
+    ensures network { AreSmall road_cost_ops (graph_of roads.now.network) base.now.weights }
+    ensures frame { AreSmall road_cost_ops roads.now.frame.graph base.now.weights }
     ensures graph { roads.now.frame.graph ≡ graph_of roads.now.network }
 {
     let _graph = roads.frame();

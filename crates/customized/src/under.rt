@@ -3,13 +3,13 @@
 ghost use Rattle.std.specs.Prelude.{◌≡◌, length};
 ghost use Rattle.cell_frame.specs.Cliqued.{AreExact};
 ghost use Rattle.edge_graph.specs.NetworkView.{graph_of};
-ghost use Rattle.search_graph.specs.Durations.{durlen_ops};
+ghost use Rattle.search_graph.specs.RoadCosts.{road_cost_ops};
 ghost use Rattle.search_graph.specs.Weighted.{AreSmall};
 
 use cell_frame::{Cliques, Frame};
 use edge_graph::Network;
 use metric_make::BaseMetric;
-use search_graph::DurLen;
+use search_graph::WeightDurLen;
 use std::marker::Model;
 
 /// A network with its costs, the frame of its graph, and cliques that are exact for just these costs: all that
@@ -19,7 +19,7 @@ pub struct Under<'a> {
     pub(crate) network: &'a Network,
     pub(crate) frame: &'a Frame,
     pub(crate) base: &'a BaseMetric,
-    pub(crate) cliques: &'a Cliques<DurLen>,
+    pub(crate) cliques: &'a Cliques<WeightDurLen>,
 }
 
 impl<'a> Model for Under<'a> {
@@ -52,14 +52,14 @@ impl<'a> Under<'a> {
     /// What the vertices and turns of the network cost.
     pub fn base(&self) -> &BaseMetric
         ensures value { result.now.weights ≡ self.now.road.weights }
-        ensures small { AreSmall durlen_ops (graph_of self.now.road.network) self.now.road.weights }
+        ensures small { AreSmall road_cost_ops (graph_of self.now.road.network) self.now.road.weights }
     {
         self.base
     }
 
     /// What cheapest walks cost inside the cells of the frame, under just these costs.
-    pub fn cliques(&self) -> &Cliques<DurLen>
-        ensures { AreExact durlen_ops self.now.frame self.now.road.weights result.now (length self.now.frame.cells.levels) }
+    pub fn cliques(&self) -> &Cliques<WeightDurLen>
+        ensures { AreExact road_cost_ops self.now.frame self.now.road.weights result.now (length self.now.frame.cells.levels) }
     {
         self.cliques
     }

@@ -15,9 +15,9 @@ use Rattle.geo_integer.specs.Position.{position_of}
 use Rattle.road_places.specs.Places.{IsPlaceOn}
 use Rattle.metric_make.specs.RoadMetric.{RoadMetric, road_of}
 use Rattle.road_places.specs.declared.walks.Route.{Route}
-use Rattle.search_graph.specs.declared.costs.DurLen.{DurLen}
+use Rattle.search_graph.specs.declared.costs.WeightDurLen.{WeightDurLen}
 use Rattle.search_graph.specs.Digraph.{Digraph, Weighting}
-use Rattle.search_graph.specs.Durations.{durlen_laws, durlen_ops}
+use Rattle.search_graph.specs.RoadCosts.{road_cost_laws, road_cost_ops}
 use Rattle.search_graph.specs.Faults.{AllInRange}
 use Rattle.edge_graph.specs.NetworkView.{NetworkView, graph_of}
 use Rattle.edge_graph.specs.Turn.{IsSimple}
@@ -25,7 +25,6 @@ use Rattle.metric_make.specs.MetricOf.{MetricView}
 use Rattle.reply_texts.specs.Replies.{route_reply}
 use Rattle.reply_texts.specs.LegLaws.{IsToldInSteps, legs_told-steps}
 use Rattle.reply_texts.specs.RouteLegs.{ArePermitted, AreSmall, legs_told}
-use Rattle.step_texts.specs.Steps.{driving_side}
 use Rattle.reply_texts.specs.Waypoints.{waypoints_of}
 use Rattle.road_walks.specs.Least.{most_units}
 use Rattle.road_walks.specs.Legs.{AreAlong, AreWithinUnits, IsLegFault}
@@ -137,12 +136,12 @@ leg-fault road number request own places leg.Memory is recent snapped first = tt
 -- the routes of a network of so many segments at most cost so little that their steps can be added up
 pub few-units : (network : NetworkView) (routes : List Route) → length network.segments ≤ 2 ^ 26 → AreWithinUnits (most_units network) routes → AreSmall routes
 few-units network routes few within =
-    All-weaker (λ (route : Route). durlen_ops.units route.cost (most_units network)) (λ (route : Route). durlen_ops.units route.cost (2 ^ 30))
-    (λ route h. durlen_laws.units_more route.cost (most_units network) (2 ^ 30) h (omega (arith, few))) routes within
+    All-weaker (λ (route : Route). road_cost_ops.units route.cost (most_units network)) (λ (route : Route). road_cost_ops.units route.cost (2 ^ 30))
+    (λ route h. road_cost_laws.units_more route.cost (most_units network) (2 ^ 30) h (omega (arith, few))) routes within
 
 -- a network and costs that are a road's
 pub road-same : (road : RoadMetric) (network : NetworkView) (base : MetricView) → network ≡ road.network → base.weights ≡ road.weights → road_of network base ≡ road
-road-same road network base n w = ap₂ {C = RoadMetric} (λ (x : NetworkView) (y : Weighting DurLen). record { network = x; weights = y }) n w
+road-same road network base n w = ap₂ {C = RoadMetric} (λ (x : NetworkView) (y : Weighting WeightDurLen). record { network = x; weights = y }) n w
 
 -- what leads along the legs of one road leads along those of the same one
 pub permitted-on : (road : RoadMetric) (network : NetworkView) (base : MetricView) (places given : List Place) (routes walked : List Route) → network ≡ road.network → base.weights ≡ road.weights → given ≡ places → walked ≡ routes
@@ -154,11 +153,11 @@ permitted-on road network base places given routes walked n w p r along =
 -- and the reply is the same
 pub route-told : (number : ℕ) (skip : Bool) (telling : Telling) (points : List Point) (road : RoadMetric) (network : NetworkView) (base : MetricView) (places given : List Place) (routes walked : List Route)
     → network ≡ road.network → base.weights ≡ road.weights → given ≡ places → walked ≡ routes
-    → route_reply number skip telling (driving_side network.profile) (legs_told (road_of network base) given walked) (waypoints_of network.segments points given) ≡ route_reply number skip telling (driving_side road.network.profile) (legs_told road places routes) (waypoints_of road.network.segments points places)
+    → route_reply number skip telling network.profile (legs_told (road_of network base) given walked) (waypoints_of network.segments points given) ≡ route_reply number skip telling road.network.profile (legs_told road places routes) (waypoints_of road.network.segments points places)
 route-told number skip telling points road network base places given routes walked n w p r =
-    ap (λ (x : RoadMetric). route_reply number skip telling (driving_side x.network.profile) (legs_told x given walked) (waypoints_of x.network.segments points given)) (road-same road network base n w)
-    ∙ ap (λ (x : List Place). route_reply number skip telling (driving_side road.network.profile) (legs_told road x walked) (waypoints_of road.network.segments points x)) p
-    ∙ ap (λ (x : List Route). route_reply number skip telling (driving_side road.network.profile) (legs_told road places x) (waypoints_of road.network.segments points places)) r
+    ap (λ (x : RoadMetric). route_reply number skip telling x.network.profile (legs_told x given walked) (waypoints_of x.network.segments points given)) (road-same road network base n w)
+    ∙ ap (λ (x : List Place). route_reply number skip telling road.network.profile (legs_told road x walked) (waypoints_of road.network.segments points x)) p
+    ∙ ap (λ (x : List Route). route_reply number skip telling road.network.profile (legs_told road places x) (waypoints_of road.network.segments points places)) r
 
 -- and its legs are told in steps that add up
 pub told-in-steps : (road : RoadMetric) (network : NetworkView) (places given : List Place) (routes : List Route) → network ≡ road.network → given ≡ places
@@ -173,7 +172,7 @@ pub firsts-on : (road : RoadMetric) (network : NetworkView) (base : MetricView) 
     → AreFirsts network.segments base.weights asked.1 (position_of asked.0) number found → AreFirsts road.network.segments road.weights asked.1 (position_of asked.0) number found
 firsts-on road network base asked number found n w firsts =
     subst (λ (x : NetworkView). AreFirsts x.segments road.weights asked.1 (position_of asked.0) number found) n
-    (subst (λ (x : Weighting DurLen). AreFirsts network.segments x asked.1 (position_of asked.0) number found) w firsts)
+    (subst (λ (x : Weighting WeightDurLen). AreFirsts network.segments x asked.1 (position_of asked.0) number found) w firsts)
 
 -- nothing was found
 pub found-none : {A : Type 0} (found : List A) → eqb (length found) 0 ≡ true → found ≡ []

@@ -6,7 +6,7 @@ use Rattle.road_base.specs.declared.coordinates.Point.{Point}
 use Rattle.road_base.specs.declared.segments.Place.{Place}
 use Rattle.metric_make.specs.RoadMetric.{RoadMetric, road_of}
 use Rattle.road_places.specs.declared.walks.Route.{Route}
-use Rattle.search_graph.specs.declared.costs.DurLen.{DurLen}
+use Rattle.search_graph.specs.declared.costs.WeightDurLen.{WeightDurLen}
 use Rattle.edge_graph.specs.NetworkView.{NetworkView}
 use Rattle.metric_make.specs.MetricOf.{MetricView}
 use Rattle.refusal_texts.specs.declared.reply_codes.Code.TheVariants as code
@@ -14,7 +14,6 @@ use Rattle.reply_texts.specs.LegLaws.{IsToldInSteps}
 use Rattle.reply_texts.specs.Replies.{trip_reply}
 use Rattle.reply_texts.specs.RouteLegs.{legs_told}
 use Rattle.reply_texts.specs.Waypoints.{trip_waypoints_of}
-use Rattle.step_texts.specs.Steps.{driving_side}
 use Rattle.road_trips.specs.Trips.{IsBestThrough, stops_at}
 use Rattle.road_walks.specs.Legs.{AreAlong, AreLeastRoutes}
 use Rattle.trip_query.specs.declared.trips.Trip.{Trip}
@@ -41,17 +40,17 @@ trip-count request own is fitting = (
 -- the reply under one road is that under the same one
 pub trip-told : (number : ℕ) (skip : Bool) (telling : Telling) (points : List Point) (road : RoadMetric) (network : NetworkView) (base : MetricView) (places given stops stopped : List Place) (order ordered : List ℕ) (routes walked : List Route)
     → network ≡ road.network → base.weights ≡ road.weights → given ≡ places → stopped ≡ stops → ordered ≡ order → walked ≡ routes
-    → trip_reply number skip telling (driving_side network.profile) (legs_told (road_of network base) stopped walked) (trip_waypoints_of network.segments points given ordered) ≡ trip_reply number skip telling (driving_side road.network.profile) (legs_told road stops routes) (trip_waypoints_of road.network.segments points places order)
+    → trip_reply number skip telling network.profile (legs_told (road_of network base) stopped walked) (trip_waypoints_of network.segments points given ordered) ≡ trip_reply number skip telling road.network.profile (legs_told road stops routes) (trip_waypoints_of road.network.segments points places order)
 trip-told number skip telling points road network base places given stops stopped order ordered routes walked n w p s o r =
-    ap (λ (x : RoadMetric). trip_reply number skip telling (driving_side x.network.profile) (legs_told x stopped walked) (trip_waypoints_of x.network.segments points given ordered)) (road-same road network base n w)
-    ∙ ap₂ (λ (x : List Place) (y : List ℕ). trip_reply number skip telling (driving_side road.network.profile) (legs_told road stopped walked) (trip_waypoints_of road.network.segments points x y)) p o
-    ∙ ap₂ (λ (x : List Place) (y : List Route). trip_reply number skip telling (driving_side road.network.profile) (legs_told road x y) (trip_waypoints_of road.network.segments points places order)) s r
+    ap (λ (x : RoadMetric). trip_reply number skip telling x.network.profile (legs_told x stopped walked) (trip_waypoints_of x.network.segments points given ordered)) (road-same road network base n w)
+    ∙ ap₂ (λ (x : List Place) (y : List ℕ). trip_reply number skip telling road.network.profile (legs_told road stopped walked) (trip_waypoints_of road.network.segments points x y)) p o
+    ∙ ap₂ (λ (x : List Place) (y : List Route). trip_reply number skip telling road.network.profile (legs_told road x y) (trip_waypoints_of road.network.segments points places order)) s r
 
 -- the answer has just these places, this trip and these routes
-pub says-trip : (road : RoadMetric) (number : ℕ) (request : Request) (own : TripOptions) (answer : Answer) (places stops : List Place) (trip : Trip DurLen) (routes : List Route)
+pub says-trip : (road : RoadMetric) (number : ℕ) (request : Request) (own : TripOptions) (answer : Answer) (places stops : List Place) (trip : Trip WeightDurLen) (routes : List Route)
     → IsRecent number request → AllZip (StandsFor road) (asked_in request) places → IsBestThrough road places (rule_of own) (Some trip) → stops ≡ stops_at places own.roundtrip trip.order
     → AreAlong road stops routes → AreLeastRoutes road stops routes → All IsToldInSteps (legs_told road stops routes) → answer.places ≡ places → answer.walks ≡ map (λ (route : Route). route.walk) routes
-    → Tells answer code.Ok (trip_reply number request.skip_waypoints own.telling (driving_side road.network.profile) (legs_told road stops routes) (trip_waypoints_of road.network.segments request.points places trip.order))
+    → Tells answer code.Ok (trip_reply number request.skip_waypoints own.telling road.network.profile (legs_told road stops routes) (trip_waypoints_of road.network.segments request.points places trip.order))
     → SaysTrip road number request own answer
 says-trip road number request own answer places stops trip routes recent snapped best is along least in_steps p walks tells =
     let back = sym p in
@@ -66,6 +65,6 @@ says-trip road number request own answer places stops trip routes recent snapped
       least = subst (λ (x : List Place). AreLeastRoutes road x routes) stopped least;
       walks = walks;
       in_steps = subst (λ (x : List Place). All IsToldInSteps (legs_told road x routes)) stopped in_steps;
-      tells = subst (λ (x : List Place). Tells answer code.Ok (trip_reply number request.skip_waypoints own.telling (driving_side road.network.profile) (legs_told road x routes) (trip_waypoints_of road.network.segments request.points answer.places trip.order))) stopped
-          (subst (λ (x : List Place). Tells answer code.Ok (trip_reply number request.skip_waypoints own.telling (driving_side road.network.profile) (legs_told road stops routes) (trip_waypoints_of road.network.segments request.points x trip.order))) back tells);
+      tells = subst (λ (x : List Place). Tells answer code.Ok (trip_reply number request.skip_waypoints own.telling road.network.profile (legs_told road x routes) (trip_waypoints_of road.network.segments request.points answer.places trip.order))) stopped
+          (subst (λ (x : List Place). Tells answer code.Ok (trip_reply number request.skip_waypoints own.telling road.network.profile (legs_told road stops routes) (trip_waypoints_of road.network.segments request.points x trip.order))) back tells);
     }

@@ -10,7 +10,7 @@ use Rattle.road_base.specs.declared.coordinates.Point.{Point}
 use Rattle.road_base.specs.declared.segments.Place.{Place}
 use Rattle.option_values.specs.declared.option_types.Chosen.{Chosen}
 use Rattle.geo_integer.specs.Position.{position_of}
-use Rattle.search_graph.specs.declared.costs.DurLen.{DurLen}
+use Rattle.search_graph.specs.declared.costs.WeightDurLen.{WeightDurLen}
 use Rattle.json_text.specs.Values.{JsonValue, compact_text}
 use Rattle.url_read.specs.Request.{request_of}
 use Rattle.url_read.specs.declared.refusals.Refusal.{Refusal}
@@ -39,7 +39,6 @@ use Rattle.refusal_texts.specs.Refusals.{bad_request_value, lack_value, refusal_
 use Rattle.reply_texts.specs.Replies.{nearest_reply, route_reply, table_reply, trip_reply}
 use Rattle.reply_texts.specs.LegLaws.{IsToldInSteps}
 use Rattle.reply_texts.specs.RouteLegs.{legs_told}
-use Rattle.step_texts.specs.Steps.{driving_side}
 use Rattle.reply_texts.specs.Waypoints.{trip_waypoints_of, waypoints_of}
 use Rattle.refusal_texts.specs.declared.reply_codes.Code.{Code}
 use Rattle.refusal_texts.specs.declared.reply_codes.Code.TheVariants as code
@@ -79,8 +78,8 @@ pub record SaysLack (road : RoadMetric) (number : ℕ) (request : Request) (answ
   pub refuses : Refuses answer (lack_code what) (lack_value number what)
 
 -- the metric is recent enough; the places of the coordinates, a permitted walk along each leg, of which none
--- could cost less, and the text of exactly these: a leg's line, its annotation and its steps are of its one walk, on
--- the side of the road that the vehicle drives on, and the steps cost together what the leg costs
+-- could cost less, and the text of exactly these, for the vehicle of the profile: a leg's line, its annotation and its
+-- steps are of its one walk, and the steps cost together what the leg costs
 pub record SaysRoute (road : RoadMetric) (number : ℕ) (request : Request) (own : RouteOptions) (answer : Answer) : Type 0 where
   pub recent : IsRecent number request
   pub snapped : AllZip (StandsFor road) (asked_in request) answer.places
@@ -89,7 +88,7 @@ pub record SaysRoute (road : RoadMetric) (number : ℕ) (request : Request) (own
   pub least : AreLeastRoutes road answer.places routes
   pub walks : answer.walks ≡ map (λ route. route.walk) routes
   pub in_steps : All IsToldInSteps (legs_told road answer.places routes)
-  pub tells : Tells answer code.Ok (route_reply number request.skip_waypoints own.telling (driving_side road.network.profile) (legs_told road answer.places routes) (waypoints_of road.network.segments request.points answer.places))
+  pub tells : Tells answer code.Ok (route_reply number request.skip_waypoints own.telling road.network.profile (legs_told road answer.places routes) (waypoints_of road.network.segments request.points answer.places))
 
 -- the waypoints of the chosen ones of a request's coordinates, which have these places
 abbrev pub ends_told : RoadMetric → Request → Chosen → List Place → List JsonValue
@@ -100,7 +99,7 @@ ends_told road request which places = waypoints_of road.network.segments (chosen
 pub record SaysTable (road : RoadMetric) (number : ℕ) (request : Request) (own : TableOptions) (answer : Answer) : Type 0 where
   pub recent : IsRecent number request
   pub snapped : AllZip (StandsFor road) (asked_in request) answer.places
-  pub rows : List (List (Option DurLen))
+  pub rows : List (List (Option WeightDurLen))
   pub least : AreRowsOf road (chosen_from own.sources answer.places) (chosen_from own.destinations answer.places) rows
   pub walks : answer.walks ≡ []
   pub tells : Tells answer code.Ok (table_reply number request.skip_waypoints own.annotations rows (ends_told road request own.sources answer.places) (ends_told road request own.destinations answer.places))
@@ -125,14 +124,14 @@ pub record SaysNearest (road : RoadMetric) (number : ℕ) (request : Request) (o
 pub record SaysTrip (road : RoadMetric) (number : ℕ) (request : Request) (own : TripOptions) (answer : Answer) : Type 0 where
   pub recent : IsRecent number request
   pub snapped : AllZip (StandsFor road) (asked_in request) answer.places
-  pub trip : Trip DurLen
+  pub trip : Trip WeightDurLen
   pub best : IsBestThrough road answer.places (rule_of own) (Some trip)
   pub routes : List Route
   pub along : AreAlong road (stops_at answer.places own.roundtrip trip.order) routes
   pub least : AreLeastRoutes road (stops_at answer.places own.roundtrip trip.order) routes
   pub walks : answer.walks ≡ map (λ route. route.walk) routes
   pub in_steps : All IsToldInSteps (legs_told road (stops_at answer.places own.roundtrip trip.order) routes)
-  pub tells : Tells answer code.Ok (trip_reply number request.skip_waypoints own.telling (driving_side road.network.profile) (legs_told road (stops_at answer.places own.roundtrip trip.order) routes) (trip_waypoints_of road.network.segments request.points answer.places trip.order))
+  pub tells : Tells answer code.Ok (trip_reply number request.skip_waypoints own.telling road.network.profile (legs_told road (stops_at answer.places own.roundtrip trip.order) routes) (trip_waypoints_of road.network.segments request.points answer.places trip.order))
 
 -- what the service was asked for
 abbrev pub SaysFound : RoadMetric → ℕ → Request → Service → Answer → Type 0

@@ -10,7 +10,6 @@ ghost use Rattle.url_read.specs.declared.requests.Service.TheVariants as service
 ghost use Rattle.reply_texts.specs.Replies.{route_reply};
 ghost use Rattle.reply_texts.specs.LegLaws.{IsToldInSteps};
 ghost use Rattle.reply_texts.specs.RouteLegs.{AreSmall, legs_told};
-ghost use Rattle.step_texts.specs.Steps.{driving_side};
 ghost use Rattle.reply_texts.specs.Waypoints.{waypoints_of};
 ghost use Rattle.refusal_texts.specs.declared.reply_codes.Code.TheVariants as code;
 ghost use Rattle.reply_core.specs.Answers.{SaysRoute, Tells, status_of};
@@ -75,7 +74,7 @@ fn told(
     ensures places { IfOk result (λ answer. answer.places ≡ places.items) }
     ensures walks { IfOk result (λ answer. answer.walks ≡ map (λ route. route.walk) routes.items) }
     ensures in_steps { IfOk result (λ answer. All IsToldInSteps (legs_told under.now.road answer.places routes.items)) }
-    ensures tells { IfOk result (λ answer. Tells answer code.Ok (route_reply number request.now.skip_waypoints own.now.telling (driving_side under.now.road.network.profile) (legs_told under.now.road places.items routes.items) (waypoints_of under.now.road.network.segments request.now.points places.items))) }
+    ensures tells { IfOk result (λ answer. Tells answer code.Ok (route_reply number request.now.skip_waypoints own.now.telling under.now.road.network.profile (legs_told under.now.road places.items routes.items) (waypoints_of under.now.road.network.segments request.now.points places.items))) }
 {
     let (network, base) = (under.network(), under.base());
     // by what is known of the turns the steps are proved to add up

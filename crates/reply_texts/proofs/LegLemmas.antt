@@ -9,7 +9,7 @@ use Rattle.std.proofs.lemmas.Slice.Zip.{length-zip}
 use Rattle.list_lemmas.proofs.Fronts.{all_zip-length, slice_get-zip}
 use Rattle.road_base.specs.declared.coordinates.Point.{Point}
 use Rattle.road_base.specs.declared.segments.Place.{Place}
-use Rattle.search_graph.specs.declared.costs.DurLen.{DurLen}
+use Rattle.search_graph.specs.declared.costs.WeightDurLen.{WeightDurLen}
 use Rattle.road_places.specs.Permitted.{IsPermitted}
 use Rattle.metric_make.specs.RoadMetric.{RoadMetric}
 use Rattle.road_places.specs.declared.walks.Route.{Route}
@@ -59,7 +59,7 @@ pub costs-of : (road : RoadMetric) (ends : List (Place × Place)) (routes : List
 costs-of road [] [] same = refl
 costs-of road [] (route ∷ routes) same = absurd (omega (arith, same))
 costs-of road (end ∷ ends) [] same = refl
-costs-of road (end ∷ ends) (route ∷ routes) same = ap (λ (costs : List DurLen). route.cost ∷ costs) (costs-of road ends routes (omega (arith, same)))
+costs-of road (end ∷ ends) (route ∷ routes) same = ap (λ (costs : List WeightDurLen). route.cost ∷ costs) (costs-of road ends routes (omega (arith, same)))
 
 -- the points of one leg more
 pub joined-push : (legs : List (List Point)) (leg : List Point) → joined (legs ++ leg ∷ []) ≡ joined legs ++ points_behind (length legs) leg

@@ -3,7 +3,8 @@
 use Rattle.std.specs.Prelude.{ℕ, Bool, not, List, [], ◌∷◌, ◌++◌, codes, map, Option}
 use Rattle.road_base.specs.declared.coordinates.Point.{Point}
 use Rattle.road_base.specs.declared.segments.Place.{Place}
-use Rattle.search_graph.specs.declared.costs.DurLen.{DurLen}
+use Rattle.search_graph.specs.declared.costs.WeightDurLen.{WeightDurLen}
+use Rattle.way_profile.specs.Vehicle.{ProfileView}
 use Rattle.road_segments.specs.Segment.{Segment}
 use Rattle.json_text.specs.Values.{JsonValue}
 use Rattle.json_text.specs.Wholes.{array_of, object_of}
@@ -15,7 +16,6 @@ use Rattle.reply_texts.specs.Optional.{member_if}
 use Rattle.refusal_texts.specs.Refusals.{code_member, version_member}
 use Rattle.reply_texts.specs.Waypoints.{neighbour_of}
 use Rattle.reply_texts.specs.declared.cost_parts.CostPart.TheVariants as part
-use Rattle.step_texts.specs.declared.driving_sides.DrivingSide.{DrivingSide}
 use Rattle.refusal_texts.specs.declared.reply_codes.Code.TheVariants as code
 
 -- a result, under a metric of this number
@@ -26,15 +26,15 @@ found_value number members = object_of (code_member code.Ok ∷ version_member n
 abbrev pub waypoints_member : Bool → List ℕ → List JsonValue → List (List ℕ × JsonValue)
 waypoints_member skip name waypoints = member_if (not skip) name (array_of waypoints)
 
--- a route of these legs, driven on this side of the road
-unfoldable pub route_reply : ℕ → Bool → Telling → DrivingSide → List Leg → List JsonValue → JsonValue
-route_reply number skip telling side legs waypoints =
-    found_value number ((codes "routes", array_of (route_value telling side legs ∷ [])) ∷ waypoints_member skip (codes "waypoints") waypoints)
+-- a route of these legs, for the vehicle of this profile
+unfoldable pub route_reply : ℕ → Bool → Telling → ProfileView → List Leg → List JsonValue → JsonValue
+route_reply number skip telling profile legs waypoints =
+    found_value number ((codes "routes", array_of (route_value telling profile legs ∷ [])) ∷ waypoints_member skip (codes "waypoints") waypoints)
 
--- a trip of these legs, in its order, driven on this side of the road
-unfoldable pub trip_reply : ℕ → Bool → Telling → DrivingSide → List Leg → List JsonValue → JsonValue
-trip_reply number skip telling side legs waypoints =
-    found_value number ((codes "trips", array_of (route_value telling side legs ∷ [])) ∷ waypoints_member skip (codes "waypoints") waypoints)
+-- a trip of these legs, in its order, for the vehicle of this profile
+unfoldable pub trip_reply : ℕ → Bool → Telling → ProfileView → List Leg → List JsonValue → JsonValue
+trip_reply number skip telling profile legs waypoints =
+    found_value number ((codes "trips", array_of (route_value telling profile legs ∷ [])) ∷ waypoints_member skip (codes "waypoints") waypoints)
 
 -- the places next to a coordinate
 unfoldable pub nearest_reply : ℕ → List Segment → Point → List Place → JsonValue
@@ -42,7 +42,7 @@ nearest_reply number segments coordinate places =
     found_value number ((codes "waypoints", array_of (map (neighbour_of segments coordinate) places)) ∷ [])
 
 -- a table: a row for each source, in it a cell for each destination
-unfoldable pub table_reply : ℕ → Bool → TableAnnotations → List (List (Option DurLen)) → List JsonValue → List JsonValue → JsonValue
+unfoldable pub table_reply : ℕ → Bool → TableAnnotations → List (List (Option WeightDurLen)) → List JsonValue → List JsonValue → JsonValue
 table_reply number skip asked rows sources destinations = found_value number (
     member_if asked.duration (codes "durations") (rows_value part.Duration rows)
     ++ member_if asked.distance (codes "distances") (rows_value part.Length rows)

@@ -3,7 +3,7 @@
 use Rattle.std.specs.Prelude.{◌^◌, List, All, drop, map}
 use Rattle.std.specs.List.{AllZip, zip}
 use Rattle.road_base.specs.declared.segments.Place.{Place}
-use Rattle.search_graph.specs.Durations.{durlen_ops}
+use Rattle.search_graph.specs.RoadCosts.{road_cost_ops}
 use Rattle.road_places.specs.Paid.{paid_along}
 use Rattle.road_places.specs.Permitted.{IsPermitted}
 use Rattle.metric_make.specs.RoadMetric.{RoadMetric}
@@ -39,4 +39,4 @@ ArePermitted road places routes = AllZip (IsPermittedLeg road) (zip places (drop
 
 -- no route costs so much that what its steps cost can't be added up
 abbrev pub AreSmall : List Route → Type 0
-AreSmall routes = All (λ route. durlen_ops.units route.cost (2 ^ 30)) routes
+AreSmall routes = All (λ route. road_cost_ops.units route.cost (2 ^ 30)) routes

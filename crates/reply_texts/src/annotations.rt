@@ -9,7 +9,7 @@ ghost use Rattle.reply_texts.specs.Optional.{member_if};
 
 use crate::cost_parts::{CostPart, push_costs};
 use json_text::Json;
-use search_graph::DurLen;
+use search_graph::WeightDurLen;
 use std::alloc::AllocError;
 use url_read::RouteAnnotations;
 
@@ -39,7 +39,7 @@ fn push_costs_member(
     asked: bool,
     name: &str,
     part: CostPart,
-    costs: &[DurLen],
+    costs: &[WeightDurLen],
 ) -> Result<(), AllocError>
     requires { TakesKey json.old }
     ensures ok { OnOk result (json.new ≡ with_members (member_if asked name.now (costs_value part costs.now)) json.old) }
@@ -71,7 +71,7 @@ fn push_nodes_member(json: &mut Json, asked: bool, nodes: &[i64]) -> Result<(), 
 pub(crate) fn push_annotation(
     json: &mut Json,
     asked: RouteAnnotations,
-    paid: &[DurLen],
+    paid: &[WeightDurLen],
     nodes: &[i64],
 ) -> Result<(), AllocError>
     requires { TakesValue json.old }

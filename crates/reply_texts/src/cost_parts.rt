@@ -6,7 +6,7 @@ ghost use Rattle.reply_texts.specs.Costs.{cell_value, costs_value, part_of, row_
 
 use json_text::Json;
 use route_steps::speed;
-use search_graph::DurLen;
+use search_graph::WeightDurLen;
 use std::alloc::AllocError;
 use table_query::Row;
 
@@ -17,7 +17,7 @@ pub enum CostPart {
     Length,
     /// Deciseconds.
     Duration,
-    /// The same, as a weight.
+    /// Tenths of what is printed.
     Weight,
     /// Tenths of metres a second.
     Speed,
@@ -25,12 +25,13 @@ pub enum CostPart {
 
 impl CostPart {
     /// This part of a cost.
-    fn of(self, cost: DurLen) -> u128
+    fn of(self, cost: WeightDurLen) -> u128
         ensures { result ≡ part_of self cost }
     {
         match self {
             CostPart::Length => u128::from(cost.length),
-            CostPart::Duration | CostPart::Weight => u128::from(cost.duration),
+            CostPart::Duration => u128::from(cost.duration),
+            CostPart::Weight => u128::from(cost.weight),
             CostPart::Speed => speed(cost),
         }
     }
@@ -40,7 +41,7 @@ impl CostPart {
 pub(crate) fn push_costs(
     json: &mut Json,
     part: CostPart,
-    costs: &[DurLen],
+    costs: &[WeightDurLen],
 ) -> Result<(), AllocError>
     requires { TakesValue json.old }
     ensures { OnOk result (json.new ≡ with_value (costs_value part costs.now) json.old) }
@@ -54,7 +55,7 @@ pub(crate) fn push_costs(
 }
 
 // A cell of a table.
-fn push_cell(json: &mut Json, part: CostPart, cell: Option<DurLen>) -> Result<(), AllocError>
+fn push_cell(json: &mut Json, part: CostPart, cell: Option<WeightDurLen>) -> Result<(), AllocError>
     requires { TakesValue json.old }
     ensures { OnOk result (json.new ≡ with_value (cell_value part cell) json.old) }
 {
@@ -65,7 +66,7 @@ fn push_cell(json: &mut Json, part: CostPart, cell: Option<DurLen>) -> Result<()
 }
 
 // A row of a table.
-fn push_row(json: &mut Json, part: CostPart, row: &[Option<DurLen>]) -> Result<(), AllocError>
+fn push_row(json: &mut Json, part: CostPart, row: &[Option<WeightDurLen>]) -> Result<(), AllocError>
     requires { TakesValue json.old }
     ensures { OnOk result (json.new ≡ with_value (row_value part row.now) json.old) }
 {
@@ -81,7 +82,7 @@ fn push_row(json: &mut Json, part: CostPart, row: &[Option<DurLen>]) -> Result<(
 pub(crate) fn push_rows(
     json: &mut Json,
     part: CostPart,
-    rows: &[Row<DurLen>],
+    rows: &[Row<WeightDurLen>],
 ) -> Result<(), AllocError>
     requires { TakesValue json.old }
     ensures { OnOk result (json.new ≡ with_value (rows_value part rows.now) json.old) }

@@ -4,7 +4,7 @@ ghost use Rattle.std.specs.Prelude.{◌≡◌, ℕ, ◌^◌, [], Some, OnOk, cod
 ghost use Rattle.std.specs.List.{slice_get};
 ghost use Rattle.json_text.specs.Drafts.{TakesKey, TakesValue, with_value};
 ghost use Rattle.json_text.specs.Wholes.{array_of, with_members};
-ghost use Rattle.search_graph.specs.Durations.{durlen_ops};
+ghost use Rattle.search_graph.specs.RoadCosts.{road_cost_ops};
 ghost use Rattle.road_places.specs.Paid.{paid_along};
 ghost use Rattle.road_places.specs.Permitted.{IsPermitted};
 ghost use Rattle.road_places.specs.Places.{IsPlaceOn};
@@ -51,7 +51,7 @@ fn push_leg_steps(
     requires from { IsPlaceOn network.now ends.0 }
     requires to { IsPlaceOn network.now ends.1 }
     requires permitted { IsPermitted (road_of network.now base.now) ends.0 ends.1 route.now.walk route.now.cost }
-    requires small { durlen_ops.units route.now.cost (2 ^ 30) }
+    requires small { road_cost_ops.units route.now.cost (2 ^ 30) }
     ensures { OnOk result (json.new ≡ with_value (steps_value telling.now.steps telling.now.geometries (driving_side network.now.profile) (steps_along (road_of network.now base.now) ends.0 ends.1 route.now.walk)) json.old) }
 {
     if !telling.steps {
@@ -102,7 +102,7 @@ fn push_leg(
     requires from { IsPlaceOn network.now ends.0 }
     requires to { IsPlaceOn network.now ends.1 }
     requires permitted { IsPermitted (road_of network.now base.now) ends.0 ends.1 route.now.walk route.now.cost }
-    requires small { durlen_ops.units route.now.cost (2 ^ 30) }
+    requires small { road_cost_ops.units route.now.cost (2 ^ 30) }
     ensures { OnOk result (json.new ≡ with_value (leg_value telling.now (driving_side network.now.profile) (leg_told (road_of network.now base.now) (ends, route.now))) json.old) }
 {
     json.begin_object()?;

@@ -10,7 +10,6 @@ ghost use Rattle.metric_make.specs.RoadMetric.{road_of};
 ghost use Rattle.reply_texts.specs.Legs.{route_totals, route_value};
 ghost use Rattle.reply_texts.specs.Replies.{route_reply};
 ghost use Rattle.reply_texts.specs.RouteLegs.{ArePermitted, AreSmall, legs_told};
-ghost use Rattle.step_texts.specs.Steps.{driving_side};
 ghost use Rattle.reply_texts.specs.Waypoints.{waypoints_of};
 
 use crate::legs::push_legs;
@@ -23,7 +22,7 @@ use refusal_texts::{Code, begin_version_reply};
 use road_base::Place;
 use road_places::Route;
 use std::alloc::{AllocError, Global};
-use step_texts::{Totals, push_totals};
+use step_texts::{Totals, WeightName, push_totals};
 use url_read::{Request, Telling};
 
 // How long the routes are together, in decimetres.
@@ -48,16 +47,26 @@ fn duration_of(routes: &[Route]) -> u128
         .sum()
 }
 
+// What they weigh together, in tenths of what is printed.
+fn weight_of(routes: &[Route]) -> u128
+    requires { length routes.now < 2 ^ 32 }
+    ensures { result ≡ sum_by (λ route. route.cost.weight) routes.now }
+{
+    routes
+        .iter()
+        .map(|route| u128::from(route.cost.weight))
+        .sum()
+}
+
 // What the legs cost together.
 fn route_totals(routes: &[Route]) -> Totals
     requires { length routes.now < 2 ^ 32 }
     ensures { result ≡ route_totals (map (λ route. route.cost) routes.now) }
 {
-    let duration = duration_of(routes);
     Totals {
         length: length_of(routes),
-        duration,
-        weight: duration,
+        duration: duration_of(routes),
+        weight: weight_of(routes),
     }
 }
 
@@ -76,11 +85,12 @@ fn push_route(
     requires placed { (k : ℕ) (place : Place) → slice_get places.now k ≡ Some place → IsPlaceOn network.now place }
     requires permitted { ArePermitted (road_of network.now base.now) places.now routes.now }
     requires small { AreSmall routes.now }
-    ensures { OnOk result (json.new ≡ with_value (route_value telling.now (driving_side network.now.profile) (legs_told (road_of network.now base.now) places.now routes.now)) json.old) }
+    ensures { OnOk result (json.new ≡ with_value (route_value telling.now network.now.profile (legs_told (road_of network.now base.now) places.now routes.now)) json.old) }
 {
     json.begin_object()?;
     push_totals(json, route_totals(routes))?;
-    json.text_member("weight_name", "duration")?;
+    let name = WeightName::of(network.profile());
+    json.text_member("weight_name", name.text())?;
     push_route_line(alloc, json, network, base, telling, places, routes)?;
     json.key("legs")?;
     push_legs(alloc, json, network, base, telling, places, routes)?;
@@ -103,7 +113,7 @@ pub(crate) fn push_routes(
     requires placed { (k : ℕ) (place : Place) → slice_get places.now k ≡ Some place → IsPlaceOn network.now place }
     requires permitted { ArePermitted (road_of network.now base.now) places.now routes.now }
     requires small { AreSmall routes.now }
-    ensures { OnOk result (json.new ≡ with_value (array_of (route_value telling.now (driving_side network.now.profile) (legs_told (road_of network.now base.now) places.now routes.now) ∷ [])) json.old) }
+    ensures { OnOk result (json.new ≡ with_value (array_of (route_value telling.now network.now.profile (legs_told (road_of network.now base.now) places.now routes.now) ∷ [])) json.old) }
 {
     json.begin_list()?;
     push_route(alloc, json, network, base, telling, places, routes)?;
@@ -130,7 +140,7 @@ pub fn route_text(
     requires placed { (k : ℕ) (place : Place) → slice_get places.now k ≡ Some place → IsPlaceOn network.now place }
     requires permitted { ArePermitted (road_of network.now base.now) places.now routes.now }
     requires small { AreSmall routes.now }
-    ensures { IfOk result (λ text. string_bytes text ≡ compact_text (route_reply number request.now.skip_waypoints telling.now (driving_side network.now.profile) (legs_told (road_of network.now base.now) places.now routes.now) (waypoints_of network.now.segments request.now.points places.now))) }
+    ensures { IfOk result (λ text. string_bytes text ≡ compact_text (route_reply number request.now.skip_waypoints telling.now network.now.profile (legs_told (road_of network.now base.now) places.now routes.now) (waypoints_of network.now.segments request.now.points places.now))) }
 {
     let mut json = Json::new(alloc);
     let stops = Stops {

@@ -17,7 +17,7 @@ use edge_graph::Network;
 use json_text::Json;
 use refusal_texts::{Code, begin_version_reply};
 use road_base::Place;
-use search_graph::DurLen;
+use search_graph::WeightDurLen;
 use std::alloc::{AllocError, Global};
 use table_query::Row;
 use url_read::{Request, TableAnnotations};
@@ -28,7 +28,7 @@ fn push_rows_member(
     asked: bool,
     name: &str,
     part: CostPart,
-    rows: &[Row<DurLen>],
+    rows: &[Row<WeightDurLen>],
 ) -> Result<(), AllocError>
     requires { TakesKey json.old }
     ensures ok { OnOk result (json.new ≡ with_members (member_if asked name.now (rows_value part rows.now)) json.old) }
@@ -50,7 +50,7 @@ pub fn table_text(
     number: u32,
     request: &Request,
     asked: TableAnnotations,
-    rows: &[Row<DurLen>],
+    rows: &[Row<WeightDurLen>],
     sources: &Stops<'_>,
     destinations: &Stops<'_>,
 ) -> Result<String, AllocError>

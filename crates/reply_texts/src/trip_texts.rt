@@ -8,7 +8,6 @@ ghost use Rattle.metric_make.specs.RoadMetric.{road_of};
 ghost use Rattle.reply_texts.specs.Replies.{trip_reply};
 ghost use Rattle.reply_texts.specs.RouteLegs.{ArePermitted, AreSmall, legs_told};
 ghost use Rattle.reply_texts.specs.Waypoints.{trip_waypoints_of};
-ghost use Rattle.step_texts.specs.Steps.{driving_side};
 
 use crate::route_texts::push_routes;
 use crate::trip_waypoints::push_trip_waypoints_member;
@@ -53,7 +52,7 @@ pub fn trip_text(
     requires stops_placed { (k : ℕ) (place : Place) → slice_get tour.now.stops.now k ≡ Some place → IsPlaceOn network.now place }
     requires permitted { ArePermitted (road_of network.now base.now) tour.now.stops.now routes.now }
     requires small { AreSmall routes.now }
-    ensures { IfOk result (λ text. string_bytes text ≡ compact_text (trip_reply number request.now.skip_waypoints telling.now (driving_side network.now.profile) (legs_told (road_of network.now base.now) tour.now.stops.now routes.now) (trip_waypoints_of network.now.segments request.now.points tour.now.places.now tour.now.order.now))) }
+    ensures { IfOk result (λ text. string_bytes text ≡ compact_text (trip_reply number request.now.skip_waypoints telling.now network.now.profile (legs_told (road_of network.now base.now) tour.now.stops.now routes.now) (trip_waypoints_of network.now.segments request.now.points tour.now.places.now tour.now.order.now))) }
 {
     let skip = request.skip_waypoints;
     let mut json = Json::new(alloc);

@@ -6,11 +6,11 @@ use Rattle.std.specs.Option.{option_to_list}
 use Rattle.std.proofs.lemmas.Option.{same_Some}
 use Rattle.std.proofs.lemmas.List.Elements.{Contains-push, Contains-push_cases, Contains-append_left, Contains-append_right, Contains-append_cases}
 use Rattle.road_base.specs.declared.segments.Place.{Place}
-use Rattle.search_graph.specs.declared.costs.DurLen.{DurLen}
+use Rattle.search_graph.specs.declared.costs.WeightDurLen.{WeightDurLen}
 use Rattle.search_graph.specs.declared.ends.Start.{Start}
 use Rattle.search_graph.specs.declared.ends.Target.{Target}
 use Rattle.search_graph.specs.Digraph.{Weighting, IsOpen}
-use Rattle.search_graph.specs.Durations.{durlen_ops, durlen_laws}
+use Rattle.search_graph.specs.RoadCosts.{road_cost_ops, road_cost_laws}
 use Rattle.road_places.specs.Places.{IsDirection, before, parts_along}
 use Rattle.road_places.specs.Permitted.{IsStartAlong, IsTargetAlong}
 use Rattle.road_places.specs.Ends.{AreAll}
@@ -59,39 +59,39 @@ module _ {E : Type 0} (On : ℕ → E → Type 0) (only : (v : ℕ) (x y : E) �
     are-all list e = subst (AreAll (λ x. (v : ℕ) × IsDirection s v × On v x)) (sym e) (record { each = each-listed; every = every-listed })
 
 -- an open vertex has one cost
-one-cost : (w : Weighting DurLen) (v : ℕ) (c d : DurLen) → IsOpen w v c → IsOpen w v d → c ≡ d
+one-cost : (w : Weighting WeightDurLen) (v : ℕ) (c d : WeightDurLen) → IsOpen w v c → IsOpen w v d → c ≡ d
 one-cost w v c d h k = same_Some c d (same_Some (Some c) (Some d) (sym h ∙ k))
 
 -- a sum of one part has one rest
-one-rest : (c part x y : DurLen) → c ≡ durlen_ops.plus part x → c ≡ durlen_ops.plus part y → x ≡ y
-one-rest c part x y e f = durlen_laws.cancels x y part tt tt tt (durlen_laws.comm x part tt tt ∙ sym e ∙ f ∙ durlen_laws.comm part y tt tt)
+one-rest : (c part x y : WeightDurLen) → c ≡ road_cost_ops.plus part x → c ≡ road_cost_ops.plus part y → x ≡ y
+one-rest c part x y e f = road_cost_laws.cancels x y part tt tt tt (road_cost_laws.comm x part tt tt ∙ sym e ∙ f ∙ road_cost_laws.comm part y tt tt)
 
-same-start : (s t : Start DurLen) → s.vertex ≡ t.vertex → s.cost ≡ t.cost → s ≡ t
-same-start s t e f = ap₂ {C = Start DurLen} (λ v k. record { vertex = v; cost = k }) e f
+same-start : (s t : Start WeightDurLen) → s.vertex ≡ t.vertex → s.cost ≡ t.cost → s ≡ t
+same-start s t e f = ap₂ {C = Start WeightDurLen} (λ v k. record { vertex = v; cost = k }) e f
 
-same-target : (s t : Target DurLen) → s.vertex ≡ t.vertex → s.cost ≡ t.cost → s ≡ t
-same-target s t e f = ap₂ {C = Target DurLen} (λ v k. record { vertex = v; cost = k }) e f
+same-target : (s t : Target WeightDurLen) → s.vertex ≡ t.vertex → s.cost ≡ t.cost → s ≡ t
+same-target s t e f = ap₂ {C = Target WeightDurLen} (λ v k. record { vertex = v; cost = k }) e f
 
-module _ (w : Weighting DurLen) (p : Place) where
-  pub one-start : (v : ℕ) (s t : Start DurLen) → IsStartAlong w p v s → IsStartAlong w p v t → s ≡ t
+module _ (w : Weighting WeightDurLen) (p : Place) where
+  pub one-start : (v : ℕ) (s t : Start WeightDurLen) → IsStartAlong w p v s → IsStartAlong w p v t → s ≡ t
   one-start v s t h k =
       let same = one-cost w v k.cost h.cost k.is_open h.is_open in
       same-start s t (h.is_vertex ∙ sym k.is_vertex)
-      (one-rest h.cost (before h.cost (parts_along p v)) s.cost t.cost h.is_cost (subst (λ c. c ≡ durlen_ops.plus (before c (parts_along p v)) t.cost) same k.is_cost))
+      (one-rest h.cost (before h.cost (parts_along p v)) s.cost t.cost h.is_cost (subst (λ c. c ≡ road_cost_ops.plus (before c (parts_along p v)) t.cost) same k.is_cost))
 
-  pub one-target : (v : ℕ) (s t : Target DurLen) → IsTargetAlong w p v s → IsTargetAlong w p v t → s ≡ t
+  pub one-target : (v : ℕ) (s t : Target WeightDurLen) → IsTargetAlong w p v s → IsTargetAlong w p v t → s ≡ t
   one-target v s t h k =
       let same = one-cost w v k.cost h.cost k.is_open h.is_open in
       same-target s t (h.is_vertex ∙ sym k.is_vertex) (h.is_cost ∙ sym (subst (λ c. t.cost ≡ before c (parts_along p v)) same k.is_cost))
 
-  closed : (v : ℕ) (c : DurLen) → slice_get w.vertex v ≡ Some None → ¬ IsOpen w v c
-  closed v c shut h = let e : ◌≡◌ {A = Option (Option DurLen)} (Some None) (Some (Some c)) = sym shut ∙ h in cc
+  closed : (v : ℕ) (c : WeightDurLen) → slice_get w.vertex v ≡ Some None → ¬ IsOpen w v c
+  closed v c shut h = let e : ◌≡◌ {A = Option (Option WeightDurLen)} (Some None) (Some (Some c)) = sym shut ∙ h in cc
 
   -- at a closed vertex there is no start, at an open one there is one
-  pub start-or_none : (v : ℕ) (o : Option (Start DurLen)) → MatchOption o (slice_get w.vertex v ≡ Some None) (IsStartAlong w p v) → MatchOption o ((s : Start DurLen) → ¬ IsStartAlong w p v s) (IsStartAlong w p v)
+  pub start-or_none : (v : ℕ) (o : Option (Start WeightDurLen)) → MatchOption o (slice_get w.vertex v ≡ Some None) (IsStartAlong w p v) → MatchOption o ((s : Start WeightDurLen) → ¬ IsStartAlong w p v s) (IsStartAlong w p v)
   start-or_none v None h = λ s k. closed v k.cost h k.is_open
   start-or_none v (Some s) h = h
 
-  pub target-or_none : (v : ℕ) (o : Option (Target DurLen)) → MatchOption o (slice_get w.vertex v ≡ Some None) (IsTargetAlong w p v) → MatchOption o ((t : Target DurLen) → ¬ IsTargetAlong w p v t) (IsTargetAlong w p v)
+  pub target-or_none : (v : ℕ) (o : Option (Target WeightDurLen)) → MatchOption o (slice_get w.vertex v ≡ Some None) (IsTargetAlong w p v) → MatchOption o ((t : Target WeightDurLen) → ¬ IsTargetAlong w p v t) (IsTargetAlong w p v)
   target-or_none v None h = λ t k. closed v k.cost h k.is_open
   target-or_none v (Some t) h = h

@@ -1,7 +1,7 @@
 -- How a place on a road segment lies on the segment's two directions (this project's rule).
 use Rattle.std.specs.Prelude.{◌≡◌, ℕ, ◌+◌, ◌-◌, ◌*◌, ◌/◌, ◌%◌, ◌==◌, ◌⊎◌, if◌then◌else◌, ◌<◌, ◌≤◌, length}
 use Rattle.road_base.specs.declared.segments.Place.{Place}
-use Rattle.search_graph.specs.declared.costs.DurLen.{DurLen}
+use Rattle.search_graph.specs.declared.costs.WeightDurLen.{WeightDurLen}
 use Rattle.edge_graph.specs.NetworkView.{NetworkView}
 
 -- the place lies on a segment of the network
@@ -18,5 +18,5 @@ abbrev pub parts_along : Place → ℕ → ℕ
 parts_along p v = if v % 2 == 0 then p.at else 1024 - p.at
 
 -- what the first n 1024ths of a vertex cost, rounded down in each part
-abbrev pub before : DurLen → ℕ → DurLen
-before c n = record { duration = c.duration * n / 1024; length = c.length * n / 1024 }
+abbrev pub before : WeightDurLen → ℕ → WeightDurLen
+before c n = record { weight = c.weight * n / 1024; duration = c.duration * n / 1024; length = c.length * n / 1024 }

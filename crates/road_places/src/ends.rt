@@ -9,12 +9,12 @@ ghost use Rattle.road_places.specs.Permitted.{IsStart, IsStartAlong, IsTarget, I
 use crate::places::{before, parts_along};
 use metric_make::BaseMetric;
 use road_base::Place;
-use search_graph::{Cost, DurLen, Start, Target};
+use search_graph::{Cost, Start, Target, WeightDurLen};
 use std::alloc::{AllocError, Global};
 
 /// The start of the walks from a place along a vertex, or None where that is closed: what is left of the
 /// vertex behind the place is paid.
-pub fn start_at(base: &BaseMetric, place: Place, vertex: u32) -> Option<Start<DurLen>>
+pub fn start_at(base: &BaseMetric, place: Place, vertex: u32) -> Option<Start<WeightDurLen>>
     requires in_range { vertex < length base.now.weights.vertex }
     requires within { place.at ≤ 1024 }
     ensures { MatchOption result (slice_get base.now.weights.vertex vertex ≡ Some None) (IsStartAlong base.now.weights place vertex) }
@@ -27,7 +27,7 @@ pub fn start_at(base: &BaseMetric, place: Place, vertex: u32) -> Option<Start<Du
 
 /// The target of the walks to a place along a vertex, or None where that is closed: what lies of the vertex
 /// before the place is paid.
-pub fn target_at(base: &BaseMetric, place: Place, vertex: u32) -> Option<Target<DurLen>>
+pub fn target_at(base: &BaseMetric, place: Place, vertex: u32) -> Option<Target<WeightDurLen>>
     requires in_range { vertex < length base.now.weights.vertex }
     requires within { place.at ≤ 1024 }
     ensures { MatchOption result (slice_get base.now.weights.vertex vertex ≡ Some None) (IsTargetAlong base.now.weights place vertex) }
@@ -43,7 +43,7 @@ pub fn starts(
     alloc: Global,
     base: &BaseMetric,
     place: Place,
-) -> Result<Vec<Start<DurLen>>, AllocError>
+) -> Result<Vec<Start<WeightDurLen>>, AllocError>
     requires few { place.segment < 2 ^ 30 }
     requires in_range { 2 * place.segment + 1 < length base.now.weights.vertex }
     requires within { place.at ≤ 1024 }
@@ -60,7 +60,7 @@ pub fn targets(
     alloc: Global,
     base: &BaseMetric,
     place: Place,
-) -> Result<Vec<Target<DurLen>>, AllocError>
+) -> Result<Vec<Target<WeightDurLen>>, AllocError>
     requires few { place.segment < 2 ^ 30 }
     requires in_range { 2 * place.segment + 1 < length base.now.weights.vertex }
     requires within { place.at ≤ 1024 }

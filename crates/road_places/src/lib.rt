@@ -1,5 +1,6 @@
 //! Places on road segments, and the walks between two of them that are permitted, with what they cost.
-//! Lengths are decimetres, durations deciseconds; a place is so many 1024ths along a segment.
+//! Weights are tenths of what is printed, durations deciseconds, lengths decimetres; a place is so many 1024ths along a
+//! segment.
 //!
 //! `specs/` is to be read in this order: `RoadMetric` (a network with its costs), `Places` (how a place lies on the
 //! two directions of its segment, and what a part of a vertex costs), `Permitted` (walks from place to place), `Paid`

@@ -2,7 +2,7 @@
 
 ghost use Rattle.std.specs.Prelude.{◌≡◌};
 
-use search_graph::DurLen;
+use search_graph::WeightDurLen;
 use std::marker::Model;
 
 /// The vertices of a walk, in their order: each is a segment in one direction. Contracts see the list.
@@ -45,6 +45,6 @@ impl Walk {
 /// A walk from a place to another, and what it costs.
 #[derive(Drop)]
 pub struct Route {
-    pub cost: DurLen,
+    pub cost: WeightDurLen,
     pub walk: Walk,
 }

@@ -10,8 +10,8 @@ use Rattle.list_lemmas.proofs.Fronts.{all_zip-length}
 use Rattle.list_lemmas.proofs.Gets.{All_get}
 use Rattle.road_base.specs.declared.segments.Place.{Place}
 use Rattle.road_segments.specs.Limits.{most_segments}
-use Rattle.search_graph.specs.declared.costs.DurLen.{DurLen}
-use Rattle.search_graph.specs.Durations.{durlen_laws, durlen_ops}
+use Rattle.search_graph.specs.declared.costs.WeightDurLen.{WeightDurLen}
+use Rattle.search_graph.specs.RoadCosts.{road_cost_laws, road_cost_ops}
 use Rattle.edge_graph.specs.NetworkView.{NetworkView}
 use Rattle.trip_query.specs.Trips.{lists_of}
 use Rattle.metric_make.specs.RoadMetric.{RoadMetric}
@@ -32,17 +32,17 @@ vectors-length {A} vectors lists same =
     omega (arith, size, e)
 
 -- each row of a table has a cost for each destination
-pub row-widths : (road : RoadMetric) (sources destinations : List Place) (rows : List (List (Option DurLen))) → AreRowsOf road sources destinations rows → All (λ (row : List (Option DurLen)). length row ≡ length destinations) rows
-row-widths road [] destinations [] h = All-nil (λ (row : List (Option DurLen)). length row ≡ length destinations)
+pub row-widths : (road : RoadMetric) (sources destinations : List Place) (rows : List (List (Option WeightDurLen))) → AreRowsOf road sources destinations rows → All (λ (row : List (Option WeightDurLen)). length row ≡ length destinations) rows
+row-widths road [] destinations [] h = All-nil (λ (row : List (Option WeightDurLen)). length row ≡ length destinations)
 row-widths road [] destinations (row ∷ rows) h = absurd h
 row-widths road (p ∷ sources) destinations [] h = absurd h
 row-widths road (p ∷ sources) destinations (row ∷ rows) h =
-    All-cons (λ (r : List (Option DurLen)). length r ≡ length destinations) row rows (all_zip-length (IsCellOf road p) destinations row h.0) (row-widths road sources destinations rows h.1)
+    All-cons (λ (r : List (Option WeightDurLen)). length r ≡ length destinations) row rows (all_zip-length (IsCellOf road p) destinations row h.0) (row-widths road sources destinations rows h.1)
 
 -- no cost of a table over a network of so many segments at most is too much
-pub few-units : (network : NetworkView) (rows : List (List (Option DurLen))) → length network.segments ≤ most_segments → AreWithin (most_units network) rows → AreWithin (2 ^ 27) rows
+pub few-units : (network : NetworkView) (rows : List (List (Option WeightDurLen))) → length network.segments ≤ most_segments → AreWithin (most_units network) rows → AreWithin (2 ^ 27) rows
 unfolding most_segments
 few-units network rows few within =
-    All-weaker (All (λ (value : Option DurLen). ForSome value (λ d. durlen_ops.units d (most_units network)))) (All (λ (value : Option DurLen). ForSome value (λ d. durlen_ops.units d (2 ^ 27))))
-    (λ row h. All-weaker (λ (value : Option DurLen). ForSome value (λ d. durlen_ops.units d (most_units network))) (λ (value : Option DurLen). ForSome value (λ d. durlen_ops.units d (2 ^ 27)))
-    (λ value k d is. durlen_laws.units_more d (most_units network) (2 ^ 27) (k d is) (omega (arith, few))) row h) rows within
+    All-weaker (All (λ (value : Option WeightDurLen). ForSome value (λ d. road_cost_ops.units d (most_units network)))) (All (λ (value : Option WeightDurLen). ForSome value (λ d. road_cost_ops.units d (2 ^ 27))))
+    (λ row h. All-weaker (λ (value : Option WeightDurLen). ForSome value (λ d. road_cost_ops.units d (most_units network))) (λ (value : Option WeightDurLen). ForSome value (λ d. road_cost_ops.units d (2 ^ 27)))
+    (λ value k d is. road_cost_laws.units_more d (most_units network) (2 ^ 27) (k d is) (omega (arith, few))) row h) rows within

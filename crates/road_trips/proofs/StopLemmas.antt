@@ -8,8 +8,8 @@ use Rattle.list_lemmas.proofs.Fronts.{all_zip-length}
 use Rattle.list_lemmas.proofs.Gets.{get_some}
 use Rattle.road_base.specs.declared.segments.Place.{Place}
 use Rattle.search_graph.specs.Costs.{CostOps}
-use Rattle.search_graph.specs.Durations.{durlen_ops}
-use Rattle.search_graph.specs.declared.costs.DurLen.{DurLen}
+use Rattle.search_graph.specs.RoadCosts.{road_cost_ops}
+use Rattle.search_graph.specs.declared.costs.WeightDurLen.{WeightDurLen}
 use Rattle.trip_query.specs.Trips.{both, leg, stops, sum_along}
 use Rattle.trip_query.specs.declared.rules.Rule.{Rule}
 use Rattle.trip_query.specs.declared.trips.Trip.{Trip}
@@ -95,18 +95,18 @@ legs-each : (P : Place × Place → Type 0) (p q : Place) (rest : List Place) �
 legs-each P p q rest first behind zero ends at = subst P (same_Some (p, q) ends at) first
 legs-each P p q rest first behind (suc k) ends at = behind k ends at
 
-module _ (road : RoadMetric) (places : List Place) (rows : List (List (Option DurLen))) (costs : AreRowsOf road places places rows) where
+module _ (road : RoadMetric) (places : List Place) (rows : List (List (Option WeightDurLen))) (costs : AreRowsOf road places places rows) where
   -- a leg that has a cost has a walk
-  leg-walk : (i j : ℕ) (p q : Place) (d : DurLen) → slice_get places i ≡ Some p → slice_get places j ≡ Some q → leg rows i j ≡ Some d → HasWalk road (p, q)
+  leg-walk : (i j : ℕ) (p q : Place) (d : WeightDurLen) → slice_get places i ≡ Some p → slice_get places j ≡ Some q → leg rows i j ≡ Some d → HasWalk road (p, q)
   leg-walk i j p q d from to cost =
       let row = beside (IsRowOf road places) places rows i p costs from in
       let cell = beside (IsCellOf road p) places row.0 j q row.2 to in
       let here : slice_get row.0 j ≡ Some cell.0 = cell.1 in
-      let value : leg rows i j ≡ cell.0 = ap (λ (r : List (Option DurLen)). get_or r j None) (get_or_from_slice_get rows i row.0 [] row.1) ∙ get_or_from_slice_get row.0 j cell.0 None here in
+      let value : leg rows i j ≡ cell.0 = ap (λ (r : List (Option WeightDurLen)). get_or r j None) (get_or_from_slice_get rows i row.0 [] row.1) ∙ get_or_from_slice_get row.0 j cell.0 None here in
       let is : IsCellOf road p q (Some d) = subst (IsCellOf road p q) (sym value ∙ cost) cell.2 in
       (is.0.0, d, is.0.1)
 
-  legs-walk : (numbers : List ℕ) (c : DurLen) → AreBelow (length places) numbers → sum_along durlen_ops rows numbers ≡ Some c
+  legs-walk : (numbers : List ℕ) (c : WeightDurLen) → AreBelow (length places) numbers → sum_along road_cost_ops rows numbers ≡ Some c
       → (k : ℕ) (ends : Place × Place) → slice_get (legs_of (places_at places numbers)) k ≡ Some ends → HasWalk road ends
   legs-walk [] c below sum k ends at = cc
   legs-walk (i ∷ []) c below sum k ends at =
@@ -118,19 +118,19 @@ module _ (road : RoadMetric) (places : List Place) (rows : List (List (Option Du
       let q = get_some places j (below-first (length places) j more rest) in
       let cons : places_at places (j ∷ more) ≡ q.0 ∷ places_at places more = places-cons places j more q.0 q.1 in
       let all : places_at places (i ∷ j ∷ more) ≡ p.0 ∷ q.0 ∷ places_at places more = places-cons places i (j ∷ more) p.0 p.1 ∙ ap (λ (xs : List Place). p.0 ∷ xs) cons in
-      let two = both-some durlen_ops (leg rows i j) (sum_along durlen_ops rows (j ∷ more)) c sum in
+      let two = both-some road_cost_ops (leg rows i j) (sum_along road_cost_ops rows (j ∷ more)) c sum in
       legs-each (HasWalk road) p.0 q.0 (places_at places more) (leg-walk i j p.0 q.0 two.0.0 p.1 q.1 two.0.1)
       (λ n there is. legs-walk (j ∷ more) two.1.0 rest two.1.1 n there (subst (λ (xs : List Place). slice_get (legs_of xs) n ≡ Some there) (sym cons) is))
       k ends (subst (λ (xs : List Place). slice_get (legs_of xs) k ≡ Some ends) all at)
 
   -- so none of the legs of a trip that has a cost is the first without a walk
-  pub none-broken : (numbers : List ℕ) (c : DurLen) (found : List Place) → AreBelow (length places) numbers → sum_along durlen_ops rows numbers ≡ Some c → found ≡ places_at places numbers → (n : ℕ) → ¬ IsBrokenLeg road found n
+  pub none-broken : (numbers : List ℕ) (c : WeightDurLen) (found : List Place) → AreBelow (length places) numbers → sum_along road_cost_ops rows numbers ≡ Some c → found ≡ places_at places numbers → (n : ℕ) → ¬ IsBrokenLeg road found n
   none-broken numbers c found below sum is n broken =
       let walk = legs-walk numbers c below sum n broken.it (subst (λ (xs : List Place). slice_get (legs_of xs) n ≡ Some broken.it) is broken.is_there) in
       broken.fails walk.0 walk.1 walk.2
 
 -- the order of the best trip has places alone
-pub order-below : (road : RoadMetric) (places : List Place) (rule : Rule) (trip : Trip DurLen) → IsBestThrough road places rule (Some trip) → AreBelow (length places) trip.order
+pub order-below : (road : RoadMetric) (places : List Place) (rule : Rule) (trip : Trip WeightDurLen) → IsBestThrough road places rule (Some trip) → AreBelow (length places) trip.order
 order-below road places rule trip best k h =
     let rows = best.0 in
     let as_many = all_zip-length (IsRowOf road places) places rows best.1 in
@@ -148,6 +148,6 @@ stops-count places found round order below all is =
     (omega (arith, size, found-size, all, low), omega (arith, size, found-size, all, high))
 
 -- and none of its legs is the first without a walk
-pub trip-whole : (road : RoadMetric) (places found : List Place) (rule : Rule) (trip : Trip DurLen) → IsBestThrough road places rule (Some trip) → found ≡ stops_at places rule.roundtrip trip.order → (n : ℕ) → ¬ IsBrokenLeg road found n
+pub trip-whole : (road : RoadMetric) (places found : List Place) (rule : Rule) (trip : Trip WeightDurLen) → IsBestThrough road places rule (Some trip) → found ≡ stops_at places rule.roundtrip trip.order → (n : ℕ) → ¬ IsBrokenLeg road found n
 trip-whole road places found rule trip best is =
     none-broken road places best.0 best.1 (stops rule.roundtrip trip.order) trip.cost found (stops-below (length places) rule.roundtrip trip.order (order-below road places rule trip best)) best.2.costs is

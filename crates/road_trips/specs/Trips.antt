@@ -3,8 +3,8 @@
 use Rattle.std.specs.Prelude.{◌≡◌, ℕ, ◌+◌, ◌≤◌, Bool, List, Option, Some, None, MatchOption, length}
 use Rattle.std.specs.List.{filter_map, slice_get}
 use Rattle.road_base.specs.declared.segments.Place.{Place}
-use Rattle.search_graph.specs.declared.costs.DurLen.{DurLen}
-use Rattle.search_graph.specs.Durations.{durlen_ops}
+use Rattle.search_graph.specs.declared.costs.WeightDurLen.{WeightDurLen}
+use Rattle.search_graph.specs.RoadCosts.{road_cost_ops}
 use Rattle.trip_query.specs.Trips.{IsBestTrip, stops}
 use Rattle.trip_query.specs.declared.rules.Rule.{Rule}
 use Rattle.trip_query.specs.declared.trips.Trip.{Trip}
@@ -26,8 +26,8 @@ stops_at places round order = places_at places (stops round order)
 
 -- the best of the trips through the places that the rule admits, by what least permitted walks from each place to
 -- each cost; none exactly where each of these trips has a leg that lacks a permitted walk
-abbrev pub IsBestThrough : RoadMetric → List Place → Rule → Option (Trip DurLen) → Type 0
-IsBestThrough road places rule answer = (rows : List (List (Option DurLen))) × AreRowsOf road places places rows × IsBestTrip durlen_ops rows rule answer
+abbrev pub IsBestThrough : RoadMetric → List Place → Rule → Option (Trip WeightDurLen) → Type 0
+IsBestThrough road places rule answer = (rows : List (List (Option WeightDurLen))) × AreRowsOf road places places rows × IsBestTrip road_cost_ops rows rule answer
 
 -- this is the best of them, with the places at which it stops and a permitted walk along each leg, of which none could
 -- cost less

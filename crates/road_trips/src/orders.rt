@@ -2,7 +2,7 @@
 
 ghost use Rattle.std.specs.Prelude.{◌≡◌, ℕ, ◌^◌, ◌≤◌, All, Some, IfOk, IfSome, length};
 ghost use Rattle.std.specs.List.{slice_get};
-ghost use Rattle.search_graph.specs.Durations.{durlen_ops};
+ghost use Rattle.search_graph.specs.RoadCosts.{road_cost_ops};
 ghost use Rattle.trip_query.specs.Trips.{IsBestTrip, lists_of};
 ghost use Rattle.road_places.specs.Places.{IsPlaceOn};
 ghost use Rattle.road_walks.specs.Tables.{AreWithin};
@@ -11,13 +11,13 @@ ghost use Rattle.road_trips.specs.Trips.{IsBestThrough};
 use customized::Under;
 use road_base::Place;
 use road_walks::{Rows, cost_rows};
-use search_graph::DurLen;
+use search_graph::WeightDurLen;
 use std::alloc::{AllocError, Global};
 use std::thread::Threads;
 use trip_query::{Rule, Trip, best};
 
 // The rows of a table, as vectors.
-fn vectors_of(alloc: Global, rows: &Rows) -> Result<Vec<Vec<Option<DurLen>>>, AllocError>
+fn vectors_of(alloc: Global, rows: &Rows) -> Result<Vec<Vec<Option<WeightDurLen>>>, AllocError>
     ensures { IfOk result (λ vectors. lists_of vectors.items ≡ rows.now) }
 {
     let mut vectors = Vec::with_capacity(alloc, rows.len())?;
@@ -29,12 +29,12 @@ fn vectors_of(alloc: Global, rows: &Rows) -> Result<Vec<Vec<Option<DurLen>>>, Al
 }
 
 // The best trip by the rows of a table.
-fn best_by(alloc: Global, rows: &Rows, rule: Rule) -> Result<Option<Trip<DurLen>>, AllocError>
+fn best_by(alloc: Global, rows: &Rows, rule: Rule) -> Result<Option<Trip<WeightDurLen>>, AllocError>
     requires some { 2 ≤ length rows.now }
     requires few { length rows.now ≤ 9 }
     requires square { All (λ row. length row ≡ length rows.now) rows.now }
     requires units { AreWithin (2 ^ 27) rows.now }
-    ensures best { IfOk result (IsBestTrip durlen_ops rows.now rule) }
+    ensures best { IfOk result (IsBestTrip road_cost_ops rows.now rule) }
     ensures size { IfOk result (λ answer. IfSome answer (λ trip. length trip.order ≡ length rows.now)) }
 {
     let vectors = vectors_of(alloc, rows)?;
@@ -48,7 +48,7 @@ pub(crate) fn best_order(
     under: &Under<'_>,
     places: &[Place],
     rule: Rule,
-) -> Result<Option<Trip<DurLen>>, AllocError>
+) -> Result<Option<Trip<WeightDurLen>>, AllocError>
     requires some { 2 ≤ length places.now }
     requires few { length places.now ≤ 9 }
     requires placed { (k : ℕ) (place : _) → slice_get places.now k ≡ Some place → IsPlaceOn under.now.road.network place }

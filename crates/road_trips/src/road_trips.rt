@@ -13,7 +13,7 @@ use customized::Under;
 use road_base::Place;
 use road_places::Route;
 use road_walks::{LegFault, least_routes};
-use search_graph::DurLen;
+use search_graph::WeightDurLen;
 use std::alloc::{AllocError, Global};
 use std::thread::Threads;
 use trip_query::{Rule, Trip};
@@ -22,7 +22,7 @@ use trip_query::{Rule, Trip};
 pub struct RoadTrip {
     /// the numbers of the places, from 0, in the order in which the trip comes to them, and what all its legs cost
     /// together
-    pub best: Trip<DurLen>,
+    pub best: Trip<WeightDurLen>,
     /// where it stops: at the places in this order, and on a round trip at the first of them again
     pub stops: Vec<Place>,
     /// a least route from each stop to the next
@@ -77,7 +77,7 @@ fn trip_along(
     under: &Under<'_>,
     places: &[Place],
     rule: Rule,
-    best: Trip<DurLen>,
+    best: Trip<WeightDurLen>,
 ) -> Result<RoadTrip, AllocError>
     requires some { 2 ≤ length places.now }
     requires few { length places.now ≤ 9 }

@@ -6,11 +6,11 @@ use Rattle.std.proofs.lemmas.Option.{same_Some, slice_get-get_or}
 use Rattle.list_lemmas.proofs.Fronts.{all_zip-each, all_zip-first}
 use Rattle.list_lemmas.proofs.Gets.{get_Contains}
 use Rattle.road_base.specs.declared.segments.Place.{Place}
-use Rattle.search_graph.specs.declared.costs.DurLen.{DurLen}
+use Rattle.search_graph.specs.declared.costs.WeightDurLen.{WeightDurLen}
 use Rattle.search_graph.specs.declared.ends.Start.{Start}
 use Rattle.search_graph.specs.declared.ends.Target.{Target}
 use Rattle.search_graph.specs.Digraph.{Weighting}
-use Rattle.search_graph.specs.Durations.{durlen_ops, durlen_laws}
+use Rattle.search_graph.specs.RoadCosts.{road_cost_ops, road_cost_laws}
 use Rattle.search_graph.specs.WeightLaws.{least_walk_units}
 use Rattle.search_graph.specs.Weighted.{AreSmall}
 use Rattle.table_query.specs.LeastCosts.{IsLeastAmong, IsLesserOf}
@@ -48,96 +48,96 @@ all-from_get : {A : Type 0} (Q : A → Type 0) (xs : List A) → ((k : ℕ) (a :
 all-from_get Q xs h = λ k a lt. h k (get_or xs k a) (slice_get-get_or xs k a lt)
 
 -- each of the starts is one of the vertices, and costs at most one unit
-pub starts-fit : (n : ℕ) (w : Weighting DurLen) (sources : List Place) (lists : List (List (Start DurLen))) → AllZip (AreStartsFrom n w) sources lists
-    → (list : List (Start DurLen)) (s : Start DurLen) → Contains lists list → Contains list s → (s.vertex < n) × durlen_ops.units s.cost 1
+pub starts-fit : (n : ℕ) (w : Weighting WeightDurLen) (sources : List Place) (lists : List (List (Start WeightDurLen))) → AllZip (AreStartsFrom n w) sources lists
+    → (list : List (Start WeightDurLen)) (s : Start WeightDurLen) → Contains lists list → Contains list s → (s.vertex < n) × road_cost_ops.units s.cost 1
 starts-fit n w sources lists h list s in_lists in_list =
     let at = get_Contains lists list in_lists in
     let source = all_zip-first (AreStartsFrom n w) sources lists at.0 list h at.1 in
     source.1.fit s in_list
 
 -- and so the targets
-pub targets-fit : (n : ℕ) (w : Weighting DurLen) (destinations : List Place) (lists : List (List (Target DurLen))) → AllZip (AreTargetsTo n w) destinations lists
-    → (list : List (Target DurLen)) (t : Target DurLen) → Contains lists list → Contains list t → (t.vertex < n) × durlen_ops.units t.cost 1
+pub targets-fit : (n : ℕ) (w : Weighting WeightDurLen) (destinations : List Place) (lists : List (List (Target WeightDurLen))) → AllZip (AreTargetsTo n w) destinations lists
+    → (list : List (Target WeightDurLen)) (t : Target WeightDurLen) → Contains lists list → Contains list t → (t.vertex < n) × road_cost_ops.units t.cost 1
 targets-fit n w destinations lists h list t in_lists in_list =
     let at = get_Contains lists list in_lists in
     let destination = all_zip-first (AreTargetsTo n w) destinations lists at.0 list h at.1 in
     destination.1.fit t in_list
 
 -- the least cost between starts and targets over a network's graph is no more than the graph's vertices allow
-cell-within : (road : RoadMetric) (starts : List (Start DurLen)) (targets : List (Target DurLen)) → AreSmall durlen_ops (graph_of road.network) road.weights
-    → ((s : Start DurLen) → Contains starts s → durlen_ops.units s.cost 1) → ((t : Target DurLen) → Contains targets t → durlen_ops.units t.cost 1)
-    → (value : Option DurLen) → IsCell durlen_ops (graph_of road.network) road.weights starts targets value → IsWithin road value
+cell-within : (road : RoadMetric) (starts : List (Start WeightDurLen)) (targets : List (Target WeightDurLen)) → AreSmall road_cost_ops (graph_of road.network) road.weights
+    → ((s : Start WeightDurLen) → Contains starts s → road_cost_ops.units s.cost 1) → ((t : Target WeightDurLen) → Contains targets t → road_cost_ops.units t.cost 1)
+    → (value : Option WeightDurLen) → IsCell road_cost_ops (graph_of road.network) road.weights starts targets value → IsWithin road value
 cell-within road starts targets small start_units target_units None h = λ d e. cc
 cell-within road starts targets small start_units target_units (Some c) h = λ d e.
-    let t : Target DurLen = h.0.0 in
+    let t : Target WeightDurLen = h.0.0 in
     let among = h.0.1 in
-    subst (λ (x : DurLen). durlen_ops.units x (most_units road.network)) (same_Some c d e)
-    (least_walk_units durlen_laws (graph_of road.network) road.weights small starts t start_units (target_units t among) h.0.2.0 c
+    subst (λ (x : WeightDurLen). road_cost_ops.units x (most_units road.network)) (same_Some c d e)
+    (least_walk_units road_cost_laws (graph_of road.network) road.weights small starts t start_units (target_units t among) h.0.2.0 c
     (record { leads = h.0.2.1; least = λ other x r. h.1 x (t, among, (other, r)) }))
 
-module _ (road : RoadMetric) (n : ℕ) (small : AreSmall durlen_ops (graph_of road.network) road.weights) where
+module _ (road : RoadMetric) (n : ℕ) (small : AreSmall road_cost_ops (graph_of road.network) road.weights) where
   -- a cell between all starts and all targets of two places is the least by turns
-  cell-by_turns : (p q : Place) (starts : List (Start DurLen)) (targets : List (Target DurLen)) (value : Option DurLen) → AreStartsFrom n road.weights p starts → AreTargetsTo n road.weights q targets
-      → IsCell durlen_ops (graph_of road.network) road.weights starts targets value → IsCellByTurns road p q value
+  cell-by_turns : (p q : Place) (starts : List (Start WeightDurLen)) (targets : List (Target WeightDurLen)) (value : Option WeightDurLen) → AreStartsFrom n road.weights p starts → AreTargetsTo n road.weights q targets
+      → IsCell road_cost_ops (graph_of road.network) road.weights starts targets value → IsCellByTurns road p q value
   cell-by_turns p q starts targets value s t h = (
-    least-same durlen_ops (CostsBetween durlen_ops (turn_graph road.network) road.weights starts targets) (CanCostByTurns road p q)
+    least-same road_cost_ops (CostsBetween road_cost_ops (turn_graph road.network) road.weights starts targets) (CanCostByTurns road p q)
         (λ d k. (k.2.0, by_turns-from road p q starts targets s.all t.all k.0 k.1 k.2.0 d k.2.1))
         (λ d k. (k.1.last, t.all.every k.1.last k.1.ends, (k.0, by_turns-to road p q starts targets s.all t.all k.0 d k.1)))
         value (stands_for_cells road.network road.weights starts targets value h),
     cell-within road starts targets small (λ x k. (s.fit x k).1) (λ x k. (t.fit x k).1) value h,
   )
 
-  row-by_turns : (p : Place) (destinations : List Place) (starts : List (Start DurLen)) (targets : List (List (Target DurLen))) (row : List (Option DurLen)) → AreStartsFrom n road.weights p starts → AllZip (AreTargetsTo n road.weights) destinations targets
-      → IsRow durlen_ops (graph_of road.network) road.weights targets starts row → IsRowByTurns road destinations p row
+  row-by_turns : (p : Place) (destinations : List Place) (starts : List (Start WeightDurLen)) (targets : List (List (Target WeightDurLen))) (row : List (Option WeightDurLen)) → AreStartsFrom n road.weights p starts → AllZip (AreTargetsTo n road.weights) destinations targets
+      → IsRow road_cost_ops (graph_of road.network) road.weights targets starts row → IsRowByTurns road destinations p row
   row-by_turns p destinations starts targets row s t h =
-      all_zip-through (AreTargetsTo n road.weights) (IsCell durlen_ops (graph_of road.network) road.weights starts) (IsCellByTurns road p)
+      all_zip-through (AreTargetsTo n road.weights) (IsCell road_cost_ops (graph_of road.network) road.weights starts) (IsCellByTurns road p)
       (λ q list value k cell. cell-by_turns p q starts list value s k cell) destinations targets row t h
 
-  pub table-by_turns : (sources destinations : List Place) (starts : List (List (Start DurLen))) (targets : List (List (Target DurLen))) (rows : List (List (Option DurLen))) → AllZip (AreStartsFrom n road.weights) sources starts → AllZip (AreTargetsTo n road.weights) destinations targets
-      → IsTable durlen_ops (graph_of road.network) road.weights starts targets rows → AllZip (IsRowByTurns road destinations) sources rows
+  pub table-by_turns : (sources destinations : List Place) (starts : List (List (Start WeightDurLen))) (targets : List (List (Target WeightDurLen))) (rows : List (List (Option WeightDurLen))) → AllZip (AreStartsFrom n road.weights) sources starts → AllZip (AreTargetsTo n road.weights) destinations targets
+      → IsTable road_cost_ops (graph_of road.network) road.weights starts targets rows → AllZip (IsRowByTurns road destinations) sources rows
   table-by_turns sources destinations starts targets rows s t h =
-      all_zip-through (AreStartsFrom n road.weights) (IsRow durlen_ops (graph_of road.network) road.weights targets) (IsRowByTurns road destinations)
+      all_zip-through (AreStartsFrom n road.weights) (IsRow road_cost_ops (graph_of road.network) road.weights targets) (IsRowByTurns road destinations)
       (λ p list row k cells. row-by_turns p destinations list targets row k t cells) sources starts rows s h
 
 -- what the least walk of one vertex costs is the least that such a walk does
-pub along-cost : (w : Weighting DurLen) (p q : Place) (route : Option Route) → IsLeastOf (IsAlongOne w p q) route → IsLeastAmong durlen_ops (CanCostAlong w p q) (option_map (λ (r : Route). r.cost) route)
+pub along-cost : (w : Weighting WeightDurLen) (p q : Place) (route : Option Route) → IsLeastOf (IsAlongOne w p q) route → IsLeastAmong road_cost_ops (CanCostAlong w p q) (option_map (λ (r : Route). r.cost) route)
 along-cost w p q None h = λ d k. h k.0 d k.1
 along-cost w p q (Some route) h = ((route.walk, h.0), λ d k. h.1 k.0 d k.1)
 
 -- what the least walk of one vertex costs is one unit at most
-pub along-within : (road : RoadMetric) (route : Option Route) → IfSome route (λ r. durlen_ops.units r.cost 1) → IsWithin road (option_map (λ (r : Route). r.cost) route)
+pub along-within : (road : RoadMetric) (route : Option Route) → IfSome route (λ r. road_cost_ops.units r.cost 1) → IsWithin road (option_map (λ (r : Route). r.cost) route)
 along-within road None h = λ d e. cc
 along-within road (Some route) h = λ d e.
-    subst (λ (x : DurLen). durlen_ops.units x (most_units road.network)) (same_Some route.cost d e) (durlen_laws.units_more route.cost 1 (most_units road.network) h (omega arith))
+    subst (λ (x : WeightDurLen). road_cost_ops.units x (most_units road.network)) (same_Some route.cost d e) (road_cost_laws.units_more route.cost 1 (most_units road.network) h (omega arith))
 
 -- of two costs within so many units the lesser is
-lesser-within : (road : RoadMetric) (a b value : Option DurLen) → IsLesserOf durlen_ops a b value → IsWithin road a → IsWithin road b → IsWithin road value
+lesser-within : (road : RoadMetric) (a b value : Option WeightDurLen) → IsLesserOf road_cost_ops a b value → IsWithin road a → IsWithin road b → IsWithin road value
 lesser-within road None b value e h k = subst (IsWithin road) (sym e) k
 lesser-within road (Some a) None value e h k = subst (IsWithin road) (sym e) h
 lesser-within road (Some a) (Some b) value e h k = elim e [ inl first ↦ subst (IsWithin road) (sym first.0) h | inr second ↦ subst (IsWithin road) (sym second.0) k ]
 
 -- the lesser of what the least walk of one vertex costs and of what that of more vertices does
-pub cell-of : (road : RoadMetric) (p q : Place) (along by_turns value : Option DurLen) → IsLesserOf durlen_ops along by_turns value → IsLeastAmong durlen_ops (CanCostAlong road.weights p q) along → IsWithin road along
+pub cell-of : (road : RoadMetric) (p q : Place) (along by_turns value : Option WeightDurLen) → IsLesserOf road_cost_ops along by_turns value → IsLeastAmong road_cost_ops (CanCostAlong road.weights p q) along → IsWithin road along
     → IsCellByTurns road p q by_turns → IsCellWithin road p q value
 cell-of road p q along by_turns value e h within k = (
-  least-same durlen_ops (EitherOf (CanCostAlong road.weights p q) (CanCostByTurns road p q)) (CanCost road p q)
+  least-same road_cost_ops (EitherOf (CanCostAlong road.weights p q) (CanCostByTurns road p q)) (CanCost road p q)
       (λ d c. elim c [ inl a ↦ (a.0, inl a.1) | inr b ↦ (b.0, inr b.1) ])
       (λ d c. elim c.1 [ inl a ↦ inl (c.0, a) | inr b ↦ inr (c.0, b) ])
-      value (least-either durlen_laws (CanCostAlong road.weights p q) (CanCostByTurns road p q) along by_turns value e h k.0),
+      value (least-either road_cost_laws (CanCostAlong road.weights p q) (CanCostByTurns road p q) along by_turns value e h k.0),
   lesser-within road along by_turns value e within k.1,
 )
 
 module _ (road : RoadMetric) (destinations : List Place) where
-  row-least : (p : Place) (row : List (Option DurLen)) → IsRowWithin road destinations p row → IsRowOf road destinations p row
+  row-least : (p : Place) (row : List (Option WeightDurLen)) → IsRowWithin road destinations p row → IsRowOf road destinations p row
   row-least p row h = all_zip-each (IsCellWithin road p) (IsCellOf road p) (λ q value cell. cell.0) destinations row h
 
-  row-within : (p : Place) (row : List (Option DurLen)) → IsRowWithin road destinations p row → All (IsWithin road) row
+  row-within : (p : Place) (row : List (Option WeightDurLen)) → IsRowWithin road destinations p row → All (IsWithin road) row
   row-within p row h = all-from_get (IsWithin road) row (λ k value at. let cell = all_zip-first (IsCellWithin road p) destinations row k value h at in cell.1.1)
 
   -- the cells of a table are the least
-  pub rows-least : (sources : List Place) (rows : List (List (Option DurLen))) → AllZip (IsRowWithin road destinations) sources rows → AreRowsOf road sources destinations rows
+  pub rows-least : (sources : List Place) (rows : List (List (Option WeightDurLen))) → AllZip (IsRowWithin road destinations) sources rows → AreRowsOf road sources destinations rows
   rows-least sources rows h = all_zip-each (IsRowWithin road destinations) (IsRowOf road destinations) row-least sources rows h
 
   -- and each grows with the number of vertices at most
-  pub rows-within : (sources : List Place) (rows : List (List (Option DurLen))) → AllZip (IsRowWithin road destinations) sources rows → AreWithin (most_units road.network) rows
+  pub rows-within : (sources : List Place) (rows : List (List (Option WeightDurLen))) → AllZip (IsRowWithin road destinations) sources rows → AreWithin (most_units road.network) rows
   rows-within sources rows h = all-from_get (All (IsWithin road)) rows (λ k row at. let source = all_zip-first (IsRowWithin road destinations) sources rows k row h at in row-within source.0 row source.1)

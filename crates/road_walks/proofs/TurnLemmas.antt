@@ -3,10 +3,10 @@ use Rattle.std.proofs.Common.{◌≡◌, ℕ, ◌<◌, inl, inr, List, [], ◌�
 use Rattle.std.specs.List.{Contains}
 use Rattle.std.proofs.lemmas.List.Elements.{Contains-push, Contains-push_cases}
 use Rattle.road_base.specs.declared.segments.Place.{Place}
-use Rattle.search_graph.specs.declared.costs.DurLen.{DurLen}
+use Rattle.search_graph.specs.declared.costs.WeightDurLen.{WeightDurLen}
 use Rattle.search_graph.specs.declared.ends.Start.{Start}
 use Rattle.search_graph.specs.declared.ends.Target.{Target}
-use Rattle.search_graph.specs.Durations.{durlen_ops, durlen_laws}
+use Rattle.search_graph.specs.RoadCosts.{road_cost_ops, road_cost_laws}
 use Rattle.search_graph.specs.WeightLaws.{least_walk_units}
 use Rattle.search_graph.specs.Weighted.{AreSmall}
 use Rattle.std.specs.Prelude.{IfSome, option_map}
@@ -25,12 +25,12 @@ use Rattle.road_walks.specs.Choosing.{IsLeastOf, route_of}
 use Rattle.road_walks.specs.Least.{most_units}
 
 -- a list of one has that one alone
-only : (x y : Start DurLen) → Contains (x ∷ []) y → x ≡ y
+only : (x y : Start WeightDurLen) → Contains (x ∷ []) y → x ≡ y
 only x y h = elim (Contains-push_cases [] x y h) [ inl n ↦ absurd (omega (arith, n.1)) | inr e ↦ e ]
 
-module _ (road : RoadMetric) (p q : Place) (starts : List (Start DurLen)) (targets : List (Target DurLen)) (are_starts : AreAll (IsStart road.weights p) starts) (are_targets : AreAll (IsTarget road.weights q) targets) where
+module _ (road : RoadMetric) (p q : Place) (starts : List (Start WeightDurLen)) (targets : List (Target WeightDurLen)) (are_starts : AreAll (IsStart road.weights p) starts) (are_targets : AreAll (IsTarget road.weights q) targets) where
   -- a walk from one of the starts to one of the targets goes by turns
-  pub by_turns-from : (t : Target DurLen) → Contains targets t → (walk : List ℕ) (d : DurLen) → IsBetween durlen_ops (turn_graph road.network) road.weights starts t walk d → IsByTurns road p q walk d
+  pub by_turns-from : (t : Target WeightDurLen) → Contains targets t → (walk : List ℕ) (d : WeightDurLen) → IsBetween road_cost_ops (turn_graph road.network) road.weights starts t walk d → IsByTurns road p q walk d
   by_turns-from t h walk d b = record {
     first = b.start;
     last = t;
@@ -52,13 +52,13 @@ module _ (road : RoadMetric) (p q : Place) (starts : List (Start DurLen)) (targe
     };
   }
 
-  pub by_turns-to : (walk : List ℕ) (d : DurLen) → (b : IsByTurns road p q walk d) → IsBetween durlen_ops (turn_graph road.network) road.weights starts b.last walk d
+  pub by_turns-to : (walk : List ℕ) (d : WeightDurLen) → (b : IsByTurns road p q walk d) → IsBetween road_cost_ops (turn_graph road.network) road.weights starts b.last walk d
   by_turns-to walk d b =
       let r = b.runs in
       let first = only b.first r.start r.among in
       record {
         start = r.start;
-        among = are_starts.every r.start (subst (λ (x : Start DurLen). IsStart road.weights p x) first b.begins);
+        among = are_starts.every r.start (subst (λ (x : Start WeightDurLen). IsStart road.weights p x) first b.begins);
         start_open = r.start_open;
         middle = r.middle;
         last = r.last;
@@ -72,17 +72,17 @@ module _ (road : RoadMetric) (p q : Place) (starts : List (Start DurLen)) (targe
       }
 
   -- the cheapest walk to the targets is the least walk by turns
-  pub cheapest-least : (found : Option (Found DurLen)) → IsCheapest durlen_ops (turn_graph road.network) road.weights starts targets found → IsLeastOf (IsByTurns road p q) (option_map route_of found)
+  pub cheapest-least : (found : Option (Found WeightDurLen)) → IsCheapest road_cost_ops (turn_graph road.network) road.weights starts targets found → IsLeastOf (IsByTurns road p q) (option_map route_of found)
   cheapest-least None h = λ walk d b. h b.last (are_targets.every b.last b.ends) walk d (by_turns-to walk d b)
   cheapest-least (Some f) h = (by_turns-from h.0 h.1 f.walk f.cost h.2.leads, λ walk d b. h.3 b.last walk d (are_targets.every b.last b.ends) (by_turns-to walk d b))
 
 -- what a search over a network's graph finds costs no more than the graph's vertices allow
-pub cheapest-bound : (road : RoadMetric) (starts : List (Start DurLen)) (targets : List (Target DurLen)) → AreSmall durlen_ops (graph_of road.network) road.weights
-    → ((s : Start DurLen) → Contains starts s → durlen_ops.units s.cost 1) → ((t : Target DurLen) → Contains targets t → durlen_ops.units t.cost 1)
-    → (found : Option (Found DurLen)) → IsCheapest durlen_ops (graph_of road.network) road.weights starts targets found → IfSome (option_map route_of found) (λ route. durlen_ops.units route.cost (most_units road.network))
+pub cheapest-bound : (road : RoadMetric) (starts : List (Start WeightDurLen)) (targets : List (Target WeightDurLen)) → AreSmall road_cost_ops (graph_of road.network) road.weights
+    → ((s : Start WeightDurLen) → Contains starts s → road_cost_ops.units s.cost 1) → ((t : Target WeightDurLen) → Contains targets t → road_cost_ops.units t.cost 1)
+    → (found : Option (Found WeightDurLen)) → IsCheapest road_cost_ops (graph_of road.network) road.weights starts targets found → IfSome (option_map route_of found) (λ route. road_cost_ops.units route.cost (most_units road.network))
 cheapest-bound road starts targets small start_units target_units None h = tt
 cheapest-bound road starts targets small start_units target_units (Some f) h =
-    least_walk_units durlen_laws (graph_of road.network) road.weights small starts h.0 start_units (target_units h.0 h.1) f.walk f.cost h.2
+    least_walk_units road_cost_laws (graph_of road.network) road.weights small starts h.0 start_units (target_units h.0 h.1) f.walk f.cost h.2
 
 module _ (road : RoadMetric) (p : Place) (on : IsPlaceOn road.network p) (unit : AreWithinUnit road.weights) where
   direction-within : (v : ℕ) → IsDirection p.segment v → v < (graph_of road.network).vertices
@@ -92,9 +92,9 @@ module _ (road : RoadMetric) (p : Place) (on : IsPlaceOn road.network p) (unit :
       elim d [ inl e ↦ omega (arith, e, lt, all) | inr e ↦ omega (arith, e, lt, all) ]
 
   -- a start is a vertex, and costs at most one unit
-  pub start-fits : (s : Start DurLen) → IsStart road.weights p s → (s.vertex < (graph_of road.network).vertices) × durlen_ops.units s.cost 1
+  pub start-fits : (s : Start WeightDurLen) → IsStart road.weights p s → (s.vertex < (graph_of road.network).vertices) × road_cost_ops.units s.cost 1
   start-fits s h = (subst (λ v. v < (graph_of road.network).vertices) (sym h.2.is_vertex) (direction-within h.0 h.1), start_unit road.weights p s unit h)
 
   -- and so a target
-  pub target-fits : (t : Target DurLen) → IsTarget road.weights p t → (t.vertex < (graph_of road.network).vertices) × durlen_ops.units t.cost 1
+  pub target-fits : (t : Target WeightDurLen) → IsTarget road.weights p t → (t.vertex < (graph_of road.network).vertices) × road_cost_ops.units t.cost 1
   target-fits t h = (subst (λ v. v < (graph_of road.network).vertices) (sym h.2.is_vertex) (direction-within h.0 h.1), target_unit road.weights p t on.within unit h)

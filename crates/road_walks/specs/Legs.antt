@@ -2,9 +2,9 @@
 use Rattle.std.specs.Prelude.{ℕ, List, All, drop}
 use Rattle.std.specs.List.{AllZip, zip}
 use Rattle.road_base.specs.declared.segments.Place.{Place}
-use Rattle.search_graph.specs.declared.costs.DurLen.{DurLen}
+use Rattle.search_graph.specs.declared.costs.WeightDurLen.{WeightDurLen}
 use Rattle.search_graph.specs.Costs.{NoDearer}
-use Rattle.search_graph.specs.Durations.{durlen_ops}
+use Rattle.search_graph.specs.RoadCosts.{road_cost_ops}
 use Rattle.road_places.specs.Permitted.{IsPermitted}
 use Rattle.metric_make.specs.RoadMetric.{RoadMetric}
 use Rattle.road_places.specs.declared.walks.Route.{Route}
@@ -27,7 +27,7 @@ IsLeastAlong road leg route = IsLeastRoute road leg.0 leg.1 route.walk route.cos
 
 -- no permitted walk along the leg costs less than the route
 abbrev pub CostsLeast : RoadMetric → Place × Place → Route → Type 0
-CostsLeast road leg route = (other : List ℕ) (e : DurLen) → IsPermitted road leg.0 leg.1 other e → NoDearer durlen_ops route.cost e
+CostsLeast road leg route = (other : List ℕ) (e : WeightDurLen) → IsPermitted road leg.0 leg.1 other e → NoDearer road_cost_ops route.cost e
 
 -- a route along each leg, in their order
 abbrev pub AreAlong : RoadMetric → List Place → List Route → Type 0
@@ -39,7 +39,7 @@ AreLeastRoutes road places routes = AllZip (CostsLeast road) (legs_of places) ro
 
 -- some permitted walk leads along the leg
 abbrev pub HasWalk : RoadMetric → Place × Place → Type 0
-HasWalk road leg = (walk : List ℕ) × (cost : DurLen) × IsPermitted road leg.0 leg.1 walk cost
+HasWalk road leg = (walk : List ℕ) × (cost : WeightDurLen) × IsPermitted road leg.0 leg.1 walk cost
 
 -- none does
 abbrev pub HasNoWalk : RoadMetric → Place × Place → Type 0
@@ -47,7 +47,7 @@ HasNoWalk road leg = HasNoRoute road leg.0 leg.1
 
 -- each of them costs so many units at most
 abbrev pub AreWithinUnits : ℕ → List Route → Type 0
-AreWithinUnits n routes = All (λ route. durlen_ops.units route.cost n) routes
+AreWithinUnits n routes = All (λ route. road_cost_ops.units route.cost n) routes
 
 -- the leg of this number is the first without a walk
 abbrev pub IsBrokenLeg : RoadMetric → List Place → ℕ → Type 0

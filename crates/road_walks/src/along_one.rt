@@ -1,7 +1,7 @@
 //! Walks of one vertex, which lead from a place to one farther on along the same segment.
 
 ghost use Rattle.std.specs.Prelude.{◌≡◌, ◌+◌, ◌*◌, ◌^◌, ◌<◌, ◌≤◌, IfOk, IfSome, length};
-ghost use Rattle.search_graph.specs.Durations.{durlen_ops};
+ghost use Rattle.search_graph.specs.RoadCosts.{road_cost_ops};
 ghost use Rattle.road_places.specs.Permitted.{IsAlong, IsAlongOne};
 ghost use Rattle.road_places.specs.Places.{IsDirection, before};
 ghost use Rattle.road_walks.specs.Choosing.{IsLeastOf};
@@ -10,7 +10,7 @@ use crate::cheapest::cheaper;
 use metric_make::BaseMetric;
 use road_base::Place;
 use road_places::{Route, Walk, before, parts_along};
-use search_graph::{Cost, DurLen};
+use search_graph::{Cost, WeightDurLen};
 use std::alloc::{AllocError, Global};
 
 /// The least walk of one vertex from a place to another, or None where there is none.
@@ -25,7 +25,7 @@ pub(crate) fn along_one(
     requires from { from.at ≤ 1024 }
     requires to { to.at ≤ 1024 }
     ensures least { IfOk result (IsLeastOf (IsAlongOne base.now.weights from to)) }
-    ensures unit { IfOk result (λ found. IfSome found (λ route. durlen_ops.units route.cost 1)) }
+    ensures unit { IfOk result (λ found. IfSome found (λ route. road_cost_ops.units route.cost 1)) }
 {
     if from.segment != to.segment {
         return Ok(None);
@@ -49,7 +49,7 @@ fn along(
     requires from { from.at ≤ 1024 }
     requires to { to.at ≤ 1024 }
     ensures least { IfOk result (IsLeastOf (IsAlong base.now.weights from to vertex)) }
-    ensures unit { IfOk result (λ found. IfSome found (λ route. durlen_ops.units route.cost 1)) }
+    ensures unit { IfOk result (λ found. IfSome found (λ route. road_cost_ops.units route.cost 1)) }
 {
     let first = parts_along(from, vertex);
     let last = parts_along(to, vertex);
@@ -65,12 +65,12 @@ fn along(
 }
 
 // What a vertex costs from the first to the last of these 1024ths.
-fn between(cost: DurLen, first: u32, last: u32) -> DurLen
-    requires small { durlen_ops.units cost 1 }
+fn between(cost: WeightDurLen, first: u32, last: u32) -> WeightDurLen
+    requires small { road_cost_ops.units cost 1 }
     requires order { first ≤ last }
     requires within { last ≤ 1024 }
-    ensures value { before cost last ≡ durlen_ops.plus (before cost first) result }
-    ensures unit { durlen_ops.units result 1 }
+    ensures value { before cost last ≡ road_cost_ops.plus (before cost first) result }
+    ensures unit { road_cost_ops.units result 1 }
 {
     before(cost, last).minus(before(cost, first))
 }

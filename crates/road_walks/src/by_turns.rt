@@ -3,7 +3,7 @@
 ghost use Rattle.std.specs.Prelude.{◌<◌, IfOk, IfSome};
 ghost use Rattle.std.specs.List.{Contains};
 ghost use Rattle.path_unpack.specs.Cheapest.{IsCheapest};
-ghost use Rattle.search_graph.specs.Durations.{durlen_ops};
+ghost use Rattle.search_graph.specs.RoadCosts.{road_cost_ops};
 ghost use Rattle.edge_graph.specs.NetworkView.{graph_of};
 ghost use Rattle.road_places.specs.Ends.{AreAll};
 ghost use Rattle.road_places.specs.Permitted.{IsByTurns, IsStart, IsTarget};
@@ -17,7 +17,7 @@ use path_unpack::cheapest_from;
 use plain_search::{Found, SearchFault};
 use road_base::Place;
 use road_places::{Route, starts, targets};
-use search_graph::{DurLen, Start, Target};
+use search_graph::{Start, Target, WeightDurLen};
 use std::alloc::{AllocError, Global};
 use step_search::Search;
 
@@ -26,10 +26,10 @@ pub(crate) fn starts_from(
     alloc: Global,
     under: &Under<'_>,
     from: Place,
-) -> Result<Vec<Start<DurLen>>, AllocError>
+) -> Result<Vec<Start<WeightDurLen>>, AllocError>
     requires { IsPlaceOn under.now.road.network from }
     ensures all { IfOk result (λ starts. AreAll (IsStart under.now.road.weights from) starts.items) }
-    ensures fit { IfOk result (λ starts. (s : _) → Contains starts.items s → (s.vertex < under.now.frame.graph.vertices) × durlen_ops.units s.cost 1) }
+    ensures fit { IfOk result (λ starts. (s : _) → Contains starts.items s → (s.vertex < under.now.frame.graph.vertices) × road_cost_ops.units s.cost 1) }
 {
     let _graph = under.frame();
     let base = under.base();
@@ -43,10 +43,10 @@ pub(crate) fn targets_to(
     alloc: Global,
     under: &Under<'_>,
     to: Place,
-) -> Result<Vec<Target<DurLen>>, AllocError>
+) -> Result<Vec<Target<WeightDurLen>>, AllocError>
     requires { IsPlaceOn under.now.road.network to }
     ensures all { IfOk result (λ targets. AreAll (IsTarget under.now.road.weights to) targets.items) }
-    ensures fit { IfOk result (λ targets. (t : _) → Contains targets.items t → (t.vertex < under.now.frame.graph.vertices) × durlen_ops.units t.cost 1) }
+    ensures fit { IfOk result (λ targets. (t : _) → Contains targets.items t → (t.vertex < under.now.frame.graph.vertices) × road_cost_ops.units t.cost 1) }
 {
     let _graph = under.frame();
     let base = under.base();
@@ -59,12 +59,12 @@ pub(crate) fn targets_to(
 fn over_graph(
     alloc: Global,
     under: &Under<'_>,
-    starts: &[Start<DurLen>],
-    targets: &[Target<DurLen>],
-) -> Result<Option<Found<DurLen>>, AllocError>
-    requires starts { (s : _) → Contains starts.now s → (s.vertex < under.now.frame.graph.vertices) × durlen_ops.units s.cost 1 }
-    requires targets { (t : _) → Contains targets.now t → (t.vertex < under.now.frame.graph.vertices) × durlen_ops.units t.cost 1 }
-    ensures { IfOk result (IsCheapest durlen_ops (graph_of under.now.road.network) under.now.road.weights starts.now targets.now) }
+    starts: &[Start<WeightDurLen>],
+    targets: &[Target<WeightDurLen>],
+) -> Result<Option<Found<WeightDurLen>>, AllocError>
+    requires starts { (s : _) → Contains starts.now s → (s.vertex < under.now.frame.graph.vertices) × road_cost_ops.units s.cost 1 }
+    requires targets { (t : _) → Contains targets.now t → (t.vertex < under.now.frame.graph.vertices) × road_cost_ops.units t.cost 1 }
+    ensures { IfOk result (IsCheapest road_cost_ops (graph_of under.now.road.network) under.now.road.weights starts.now targets.now) }
 {
     let frame = under.frame();
     let base = under.base();
@@ -94,7 +94,7 @@ pub(crate) fn by_turns(
     requires from { IsPlaceOn under.now.road.network from }
     requires to { IsPlaceOn under.now.road.network to }
     ensures least { IfOk result (IsLeastOf (IsByTurns under.now.road from to)) }
-    ensures bound { IfOk result (λ found. IfSome found (λ route. durlen_ops.units route.cost (most_units under.now.road.network))) }
+    ensures bound { IfOk result (λ found. IfSome found (λ route. road_cost_ops.units route.cost (most_units under.now.road.network))) }
 {
     let starts = starts_from(alloc, under, from)?;
     let targets = targets_to(alloc, under, to)?;

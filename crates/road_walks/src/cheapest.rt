@@ -5,7 +5,7 @@ ghost use Rattle.road_walks.specs.Choosing.{IsCheaperOf, route_of};
 
 use plain_search::Found;
 use road_places::{Route, Walk};
-use search_graph::DurLen;
+use search_graph::WeightDurLen;
 
 /// Of two routes the one that costs less, the first where neither does.
 pub(crate) fn cheaper(a: Option<Route>, b: Option<Route>) -> Option<Route>
@@ -25,7 +25,7 @@ pub(crate) fn cheaper(a: Option<Route>, b: Option<Route>) -> Option<Route>
 }
 
 // The route of a walk that a search found.
-pub(crate) fn route_of(found: Option<Found<DurLen>>) -> Option<Route>
+pub(crate) fn route_of(found: Option<Found<WeightDurLen>>) -> Option<Route>
     ensures { result ≡ option_map route_of found }
 {
     let found = found?;

@@ -3,7 +3,7 @@
 ghost use Rattle.std.specs.Prelude.{IfOk, IfSome};
 ghost use Rattle.road_places.specs.Places.{IsPlaceOn};
 ghost use Rattle.road_walks.specs.Least.{IsRouteAnswer, most_units};
-ghost use Rattle.search_graph.specs.Durations.{durlen_ops};
+ghost use Rattle.search_graph.specs.RoadCosts.{road_cost_ops};
 
 use crate::along_one::along_one;
 use crate::by_turns::by_turns;
@@ -24,7 +24,7 @@ pub fn least_route(
     requires from { IsPlaceOn under.now.road.network from }
     requires to { IsPlaceOn under.now.road.network to }
     ensures least { IfOk result (IsRouteAnswer under.now.road from to) }
-    ensures bound { IfOk result (λ found. IfSome found (λ route. durlen_ops.units route.cost (most_units under.now.road.network))) }
+    ensures bound { IfOk result (λ found. IfSome found (λ route. road_cost_ops.units route.cost (most_units under.now.road.network))) }
 {
     let along = along_one(alloc, under.base(), from, to)?;
     let by_turns = by_turns(alloc, under, from, to)?;

@@ -3,14 +3,14 @@
 ghost use Rattle.std.specs.Prelude.{◌≡◌, ◌<◌, Some, length};
 ghost use Rattle.std.specs.List.{slice_get};
 
-use search_graph::DurLen;
+use search_graph::WeightDurLen;
 use std::marker::Model;
 use table_query::Row;
 
 /// A table of costs: a row for each source, and in it a cost for each destination, or None. Contracts see the
 /// list of the rows, each as the list of its values.
 pub struct Rows {
-    rows: Vec<Row<DurLen>>,
+    rows: Vec<Row<WeightDurLen>>,
 }
 
 impl Drop for Rows {
@@ -21,16 +21,16 @@ impl Drop for Rows {
 
 impl Model for Rows {
     ghost use Rattle.std.specs.Prelude.{List, Option};
-    ghost use Rattle.search_graph.specs.declared.costs.DurLen.{DurLen};
+    ghost use Rattle.search_graph.specs.declared.costs.WeightDurLen.{WeightDurLen};
 
-    ghost Value = { List (List (Option DurLen)) };
+    ghost Value = { List (List (Option WeightDurLen)) };
 
     ghost view = { λ r. r.rows.items };
 }
 
 impl Rows {
     /// The table of these rows.
-    pub fn of(rows: Vec<Row<DurLen>>) -> Rows
+    pub fn of(rows: Vec<Row<WeightDurLen>>) -> Rows
         ensures { result ≡ rows.items }
     {
         Rows { rows }
@@ -44,7 +44,7 @@ impl Rows {
     }
 
     /// The row of a source, by its number: what the least walks to the destinations cost, in their order.
-    pub fn row(&self, source: usize) -> &[Option<DurLen>]
+    pub fn row(&self, source: usize) -> &[Option<WeightDurLen>]
         requires { source < length self.now }
         ensures { slice_get self.now source ≡ Some result.now }
     {
@@ -52,7 +52,7 @@ impl Rows {
     }
 
     /// The rows, in the order of the sources.
-    pub fn as_slice(&self) -> &[Row<DurLen>]
+    pub fn as_slice(&self) -> &[Row<WeightDurLen>]
         ensures { result.now ≡ self.now }
     {
         self.rows.as_slice()

@@ -8,7 +8,7 @@ ghost use Rattle.road_walks.specs.TableParts.{AreStartsFrom, AreTargetsTo};
 use crate::by_turns::{starts_from, targets_to};
 use customized::Under;
 use road_base::Place;
-use search_graph::DurLen;
+use search_graph::WeightDurLen;
 use std::alloc::{AllocError, Global};
 use table_query::{Starts, Targets};
 
@@ -17,7 +17,7 @@ pub(crate) fn starts_of(
     alloc: Global,
     under: &Under<'_>,
     sources: &[Place],
-) -> Result<Vec<Starts<DurLen>>, AllocError>
+) -> Result<Vec<Starts<WeightDurLen>>, AllocError>
     requires { (k : ℕ) (place : _) → slice_get sources.now k ≡ Some place → IsPlaceOn under.now.road.network place }
     ensures { IfOk result (λ lists. AllZip (AreStartsFrom under.now.frame.graph.vertices under.now.road.weights) sources.now lists.items) }
 {
@@ -34,7 +34,7 @@ pub(crate) fn targets_of(
     alloc: Global,
     under: &Under<'_>,
     destinations: &[Place],
-) -> Result<Vec<Targets<DurLen>>, AllocError>
+) -> Result<Vec<Targets<WeightDurLen>>, AllocError>
     requires { (k : ℕ) (place : _) → slice_get destinations.now k ≡ Some place → IsPlaceOn under.now.road.network place }
     ensures { IfOk result (λ lists. AllZip (AreTargetsTo under.now.frame.graph.vertices under.now.road.weights) destinations.now lists.items) }
 {

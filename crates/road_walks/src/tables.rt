@@ -2,7 +2,7 @@
 
 ghost use Rattle.std.specs.Prelude.{◌≡◌, ℕ, ◌<◌, Some, IfOk, option_map};
 ghost use Rattle.std.specs.List.{AllZip, Contains, slice_get};
-ghost use Rattle.search_graph.specs.Durations.{durlen_ops};
+ghost use Rattle.search_graph.specs.RoadCosts.{road_cost_ops};
 ghost use Rattle.table_query.specs.Tables.{IsTable};
 ghost use Rattle.edge_graph.specs.NetworkView.{graph_of};
 ghost use Rattle.road_places.specs.Places.{IsPlaceOn};
@@ -17,7 +17,7 @@ use customized::Under;
 use plain_search::SearchFault;
 use road_base::Place;
 use road_places::Route;
-use search_graph::DurLen;
+use search_graph::WeightDurLen;
 use std::alloc::{AllocError, Global};
 use std::thread::Threads;
 use table_query::{Row, Starts, Targets, lesser, table};
@@ -27,12 +27,12 @@ fn over_graph(
     rt: &(impl Threads + Sync),
     alloc: Global,
     under: &Under<'_>,
-    sources: &[Starts<DurLen>],
-    targets: &[Targets<DurLen>],
-) -> Result<Vec<Row<DurLen>>, AllocError>
-    requires sources { (list : _) (s : _) → Contains sources.now list → Contains list s → (s.vertex < under.now.frame.graph.vertices) × durlen_ops.units s.cost 1 }
-    requires targets { (list : _) (t : _) → Contains targets.now list → Contains list t → (t.vertex < under.now.frame.graph.vertices) × durlen_ops.units t.cost 1 }
-    ensures { IfOk result (λ rows. IsTable durlen_ops (graph_of under.now.road.network) under.now.road.weights sources.now targets.now rows.items) }
+    sources: &[Starts<WeightDurLen>],
+    targets: &[Targets<WeightDurLen>],
+) -> Result<Vec<Row<WeightDurLen>>, AllocError>
+    requires sources { (list : _) (s : _) → Contains sources.now list → Contains list s → (s.vertex < under.now.frame.graph.vertices) × road_cost_ops.units s.cost 1 }
+    requires targets { (list : _) (t : _) → Contains targets.now list → Contains list t → (t.vertex < under.now.frame.graph.vertices) × road_cost_ops.units t.cost 1 }
+    ensures { IfOk result (λ rows. IsTable road_cost_ops (graph_of under.now.road.network) under.now.road.weights sources.now targets.now rows.items) }
 {
     let frame = under.frame();
     let base = under.base();
@@ -50,7 +50,7 @@ fn rows_by_turns(
     under: &Under<'_>,
     sources: &[Place],
     destinations: &[Place],
-) -> Result<Vec<Row<DurLen>>, AllocError>
+) -> Result<Vec<Row<WeightDurLen>>, AllocError>
     requires sources { (k : ℕ) (place : _) → slice_get sources.now k ≡ Some place → IsPlaceOn under.now.road.network place }
     requires destinations { (k : ℕ) (place : _) → slice_get destinations.now k ≡ Some place → IsPlaceOn under.now.road.network place }
     ensures { IfOk result (λ rows. AllZip (IsRowByTurns under.now.road destinations.now) sources.now rows.items) }
@@ -63,7 +63,7 @@ fn rows_by_turns(
 }
 
 // What a route costs, where there is one.
-fn cost_of(route: Option<Route>) -> Option<DurLen>
+fn cost_of(route: Option<Route>) -> Option<WeightDurLen>
     ensures { result ≡ option_map (λ r. r.cost) route }
 {
     let route = route?;
@@ -76,8 +76,8 @@ fn cell_of(
     under: &Under<'_>,
     from: Place,
     to: Place,
-    by_turns: Option<DurLen>,
-) -> Result<Option<DurLen>, AllocError>
+    by_turns: Option<WeightDurLen>,
+) -> Result<Option<WeightDurLen>, AllocError>
     requires from { IsPlaceOn under.now.road.network from }
     requires to { IsPlaceOn under.now.road.network to }
     requires by_turns { IsCellByTurns under.now.road from to by_turns }
@@ -94,8 +94,8 @@ fn row_of(
     under: &Under<'_>,
     from: Place,
     destinations: &[Place],
-    by_turns: &[Option<DurLen>],
-) -> Result<Row<DurLen>, AllocError>
+    by_turns: &[Option<WeightDurLen>],
+) -> Result<Row<WeightDurLen>, AllocError>
     requires from { IsPlaceOn under.now.road.network from }
     requires destinations { (k : ℕ) (place : _) → slice_get destinations.now k ≡ Some place → IsPlaceOn under.now.road.network place }
     requires by_turns { IsRowByTurns under.now.road destinations.now from by_turns.now }

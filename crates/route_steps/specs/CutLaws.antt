@@ -8,8 +8,8 @@ use Rattle.std.proofs.lemmas.List.Elements.{All-cons, All-head, All-nil, All-tai
 use Rattle.std.proofs.lemmas.List.Folds.{drop_split}
 use Rattle.std.proofs.lemmas.Slice.{between_is}
 use Rattle.road_base.specs.declared.coordinates.Point.{Point}
-use Rattle.search_graph.specs.declared.costs.DurLen.{DurLen}
-use Rattle.search_graph.specs.Durations.{durlen_laws, durlen_ops}
+use Rattle.search_graph.specs.declared.costs.WeightDurLen.{WeightDurLen}
+use Rattle.search_graph.specs.RoadCosts.{parts-same, road_cost_laws, road_cost_ops}
 use Rattle.road_places.specs.Paid.{total_of}
 use Rattle.road_places.specs.PaidLaws.{total_of-append}
 use Rattle.route_steps.specs.Steps.{AreAhead, LeadsAhead, cost_between, joined, pieces, points_between}
@@ -25,29 +25,32 @@ range-cut xs i j n h k =
 range-rest : {X : Type 0} (xs : List X) (i j : ℕ) → drop 1 (slice_range xs i j) ≡ slice_range xs (i + 1) j
 range-rest xs i j = ap (drop 1) (between_is xs i j) ∙ drop-drop 1 i (take j xs) ∙ sym (between_is xs (i + 1) j)
 
-swapped : (a b c d : DurLen) → durlen_ops.plus (durlen_ops.plus a b) (durlen_ops.plus c d) ≡ durlen_ops.plus (durlen_ops.plus a c) (durlen_ops.plus b d)
-swapped a b c d = ap₂ {C = DurLen} (λ d l. record { duration = d; length = l }) (omega arith) (omega arith)
+four-swapped : (a b c d : ℕ) → (a + b) + (c + d) ≡ (a + c) + (b + d)
+four-swapped a b c d = omega arith
 
-total-cut : (xs : List DurLen) (i j n : ℕ) → i ≤ j → j ≤ n → total_of (slice_range xs i n) ≡ durlen_ops.plus (total_of (slice_range xs i j)) (total_of (slice_range xs j n))
+swapped : (a b c d : WeightDurLen) → road_cost_ops.plus (road_cost_ops.plus a b) (road_cost_ops.plus c d) ≡ road_cost_ops.plus (road_cost_ops.plus a c) (road_cost_ops.plus b d)
+swapped a b c d = parts-same (four-swapped a.weight b.weight c.weight d.weight) (four-swapped a.duration b.duration c.duration d.duration) (four-swapped a.length b.length c.length d.length)
+
+total-cut : (xs : List WeightDurLen) (i j n : ℕ) → i ≤ j → j ≤ n → total_of (slice_range xs i n) ≡ road_cost_ops.plus (total_of (slice_range xs i j)) (total_of (slice_range xs j n))
 total-cut xs i j n h k = ap total_of (range-cut xs i j n h k) ∙ total_of-append (slice_range xs i j) (slice_range xs j n)
 
-module _ (paid turns : List DurLen) where
-  abbrev pub cost_of : Begin × ℕ → DurLen
+module _ (paid turns : List WeightDurLen) where
+  abbrev pub cost_of : Begin × ℕ → WeightDurLen
   cost_of piece = cost_between paid turns piece.0.place piece.1
 
   -- what is paid between two places is paid up to a place between them and from there on
-  pub cost-cut : (i j n : ℕ) → i ≤ j → j ≤ n → durlen_ops.plus (cost_between paid turns i j) (cost_between paid turns j n) ≡ cost_between paid turns i n
+  pub cost-cut : (i j n : ℕ) → i ≤ j → j ≤ n → road_cost_ops.plus (cost_between paid turns i j) (cost_between paid turns j n) ≡ cost_between paid turns i n
   cost-cut i j n h k =
       swapped (total_of (slice_range paid i j)) (total_of (slice_range turns (i - 1) (j - 1))) (total_of (slice_range paid j n)) (total_of (slice_range turns (j - 1) (n - 1)))
-      ∙ sym (ap₂ durlen_ops.plus (total-cut paid i j n h k) (total-cut turns (i - 1) (j - 1) (n - 1) (omega arith) (omega arith)))
+      ∙ sym (ap₂ road_cost_ops.plus (total-cut paid i j n h k) (total-cut turns (i - 1) (j - 1) (n - 1) (omega arith) (omega arith)))
 
   -- however a walk is cut, its pieces cost what is paid from the first cut on
   pub pieces-cost : (b : Begin) (cuts : List Begin) (n : ℕ) → AreAhead n (pieces (b ∷ cuts) n) → total_of (map cost_of (pieces (b ∷ cuts) n)) ≡ cost_between paid turns b.place n
-  pieces-cost b [] n ahead = durlen_laws.neutral (cost_between paid turns b.place n) tt
+  pieces-cost b [] n ahead = road_cost_laws.neutral (cost_between paid turns b.place n) tt
   pieces-cost b (c ∷ cuts) n ahead =
       let first = All-head (LeadsAhead n) (b, c.place) (pieces (c ∷ cuts) n) ahead in
       let rest = All-tail (LeadsAhead n) (b, c.place) (pieces (c ∷ cuts) n) ahead in
-      ap (durlen_ops.plus (cost_of (b, c.place))) (pieces-cost c cuts n rest) ∙ cost-cut b.place c.place n (omega (arith, first.0)) first.1
+      ap (road_cost_ops.plus (cost_of (b, c.place))) (pieces-cost c cuts n rest) ∙ cost-cut b.place c.place n (omega (arith, first.0)) first.1
 
 module _ (points : List Point) where
   abbrev pub points_of : Begin × ℕ → List Point

@@ -8,7 +8,7 @@ use Rattle.road_base.specs.declared.segments.Place.{Place}
 use Rattle.road_base.specs.Points.{point_at}
 use Rattle.geo_integer.specs.Position.{Position, position_of}
 use Rattle.geo_integer.specs.Project.{position_at}
-use Rattle.search_graph.specs.declared.costs.DurLen.{DurLen}
+use Rattle.search_graph.specs.declared.costs.WeightDurLen.{WeightDurLen}
 use Rattle.search_graph.specs.Digraph.{Weighting}
 use Rattle.edge_graph.specs.NetworkView.{NetworkView}
 use Rattle.road_segments.specs.Segment.{Segment}
@@ -17,7 +17,7 @@ use Rattle.road_places.specs.Permitted.{IsPermitted}
 
 -- the walk is permitted from p to q, under some costs of the network
 abbrev pub IsWalkOn : NetworkView → Place → Place → List ℕ → Type 0
-IsWalkOn network p q walk = (weights : Weighting DurLen) × (d : DurLen) × IsPermitted (record { network = network; weights = weights }) p q walk d
+IsWalkOn network p q walk = (weights : Weighting WeightDurLen) × (d : WeightDurLen) × IsPermitted (record { network = network; weights = weights }) p q walk d
 
 -- the point at a position, if that is on the Earth
 abbrev pub point_of : Position → Option Point

@@ -9,10 +9,10 @@ use Rattle.list_lemmas.proofs.Fronts.{map-map}
 use Rattle.road_base.specs.declared.coordinates.Point.{Point}
 use Rattle.road_base.specs.declared.directions.Modifier.{Modifier}
 use Rattle.road_base.specs.declared.segments.Place.{Place}
-use Rattle.search_graph.specs.declared.costs.DurLen.{DurLen}
+use Rattle.search_graph.specs.declared.costs.WeightDurLen.{WeightDurLen}
 use Rattle.search_graph.specs.Digraph.{Weighting}
 use Rattle.search_graph.specs.Faults.{AllInRange}
-use Rattle.search_graph.specs.Durations.{durlen_laws, durlen_ops}
+use Rattle.search_graph.specs.RoadCosts.{road_cost_laws, road_cost_ops}
 use Rattle.edge_graph.specs.NetworkView.{NetworkView}
 use Rattle.edge_graph.specs.Turn.{IsSimple}
 use Rattle.road_places.specs.Paid.{paid_along, paid_to, steps_of, total_of}
@@ -32,19 +32,19 @@ use Rattle.route_steps.specs.LineLaws.{length-points_along}
 use Rattle.route_steps.specs.TurnLaws.{length-steps_of, turns_paid-along}
 use Rattle.route_steps.specs.WalkLaws.{some-vertex, vertices_of-walk}
 
-length-paid_to : (w : Weighting DurLen) (q : Place) (v : ℕ) (more : List ℕ) → length (paid_to w q v more) ≡ length more + 1
+length-paid_to : (w : Weighting WeightDurLen) (q : Place) (v : ℕ) (more : List ℕ) → length (paid_to w q v more) ≡ length more + 1
 length-paid_to w q v [] = refl
 length-paid_to w q v (u ∷ more) = omega (arith, length-paid_to w q u more)
 
 -- an entry for each vertex
-pub length-paid_along : (w : Weighting DurLen) (p q : Place) (walk : List ℕ) → length (paid_along w p q walk) ≡ length walk
+pub length-paid_along : (w : Weighting WeightDurLen) (p q : Place) (walk : List ℕ) → length (paid_along w p q walk) ≡ length walk
 length-paid_along w p q [] = refl
 length-paid_along w p q (v ∷ []) = refl
 length-paid_along w p q (v ∷ u ∷ more) = omega (arith, length-paid_to w q u more)
 
 -- one for each turn
 pub length-turns_paid : (road : RoadMetric) (walk : List ℕ) → 0 < length walk → length (turns_paid road walk) + 1 ≡ length walk
-length-turns_paid road walk h = omega (arith, length-map {A = ℕ × ℕ} {B = DurLen} (steps_of walk) (turn_paid road), length-steps_of walk h)
+length-turns_paid road walk h = omega (arith, length-map {A = ℕ × ℕ} {B = WeightDurLen} (steps_of walk) (turn_paid road), length-steps_of walk h)
 
 begin-there : (k : ℕ) (o : Option (ManeuverKind × Modifier)) (c : Begin) → option_map {U = Begin} (λ m. record { place = k; kind = m.0; modifier = Some m.1 }) o ≡ Some c → c.place ≡ k
 begin-there k None c e = cc
@@ -59,13 +59,13 @@ begins-ahead network walk some =
 front-of : {X : Type 0} (xs : List X) (x : X) → take (length (xs ++ x ∷ []) - 1) (xs ++ x ∷ []) ≡ xs
 front-of xs x = take_at xs (x ∷ []) (length (xs ++ x ∷ []) - 1) (omega (arith, length_push xs x))
 
-total-with-nothing : (xs : List DurLen) → total_of (xs ++ durlen_ops.zero ∷ []) ≡ total_of xs
+total-with-nothing : (xs : List WeightDurLen) → total_of (xs ++ road_cost_ops.zero ∷ []) ≡ total_of xs
 total-with-nothing xs =
-    total_of-append xs (durlen_ops.zero ∷ []) ∙ ap (durlen_ops.plus (total_of xs)) (durlen_laws.neutral durlen_ops.zero tt) ∙ durlen_laws.neutral (total_of xs) tt
+    total_of-append xs (road_cost_ops.zero ∷ []) ∙ ap (road_cost_ops.plus (total_of xs)) (road_cost_laws.neutral road_cost_ops.zero tt) ∙ road_cost_laws.neutral (total_of xs) tt
 
-module _ (network : NetworkView) (walk : List ℕ) (points : List Point) (paid turns : List DurLen) (cuts : List (Begin × ℕ)) (end : Step) where
+module _ (network : NetworkView) (walk : List ℕ) (points : List Point) (paid turns : List WeightDurLen) (cuts : List (Begin × ℕ)) (end : Step) where
   -- what steps cost, the arrival with them
-  steps-cost : end.cost ≡ durlen_ops.zero → total_of (map (λ (step : Step). step.cost) (map (step_between network walk points paid turns) cuts ++ end ∷ [])) ≡ total_of (map (cost_of paid turns) cuts)
+  steps-cost : end.cost ≡ road_cost_ops.zero → total_of (map (λ (step : Step). step.cost) (map (step_between network walk points paid turns) cuts ++ end ∷ [])) ≡ total_of (map (cost_of paid turns) cuts)
   unfolding step_between
   steps-cost none =
       ap total_of (map-append (λ (step : Step). step.cost) (map (step_between network walk points paid turns) cuts) (end ∷ [])
@@ -80,12 +80,12 @@ module _ (network : NetworkView) (walk : List ℕ) (points : List Point) (paid t
       ∙ map-map (λ (step : Step). step.points) (step_between network walk points paid turns) cuts
 
 -- what is paid along a whole walk
-cost-whole : (paid turns : List DurLen) (n : ℕ) → length paid ≡ n → length turns + 1 ≡ n → cost_between paid turns 0 n ≡ durlen_ops.plus (total_of paid) (total_of turns)
+cost-whole : (paid turns : List WeightDurLen) (n : ℕ) → length paid ≡ n → length turns + 1 ≡ n → cost_between paid turns 0 n ≡ road_cost_ops.plus (total_of paid) (total_of turns)
 cost-whole paid turns n h k =
-    ap₂ durlen_ops.plus (ap total_of (between_from_start paid n ∙ take_all n paid (omega arith))) (ap total_of (between_from_start turns (n - 1) ∙ take_all (n - 1) turns (omega arith)))
+    ap₂ road_cost_ops.plus (ap total_of (between_from_start paid n ∙ take_all n paid (omega arith))) (ap total_of (between_from_start turns (n - 1) ∙ take_all (n - 1) turns (omega arith)))
 
 -- a permitted walk's line has a point more than it has vertices
-pub length-line : (road : RoadMetric) (p q : Place) (walk : List ℕ) (d : DurLen) → IsPlaceOn road.network p → IsPlaceOn road.network q → AllInRange (2 * length road.network.segments) road.network.turns
+pub length-line : (road : RoadMetric) (p q : Place) (walk : List ℕ) (d : WeightDurLen) → IsPlaceOn road.network p → IsPlaceOn road.network q → AllInRange (2 * length road.network.segments) road.network.turns
     → IsPermitted road p q walk d → length (points_along road.network.segments p q walk) ≡ length walk + 1
 length-line road p q walk d from to range permitted =
     let all = vertices_of-walk road p q from to walk d range permitted in
@@ -105,10 +105,10 @@ module _ (road : RoadMetric) (p q : Place) (walk : List ℕ) where
       (arrival_at road.network (slice_index walk (length walk - 1)) (point_in points (length walk))) refl
       ∙ pieces-cost paid turns departure _ (length walk) (begins-ahead road.network walk some)
       ∙ cost-whole paid turns (length walk) (length-paid_along road.weights p q walk) (length-turns_paid road walk some)
-      ∙ sym (sum.is_sum ∙ ap (λ (l : List DurLen). durlen_ops.plus (total_of paid) (total_of l)) (turns_paid-along road simple walk sum.turns sum.are_turns))
+      ∙ sym (sum.is_sum ∙ ap (λ (l : List WeightDurLen). road_cost_ops.plus (total_of paid) (total_of l)) (turns_paid-along road simple walk sum.turns sum.are_turns))
 
   -- and their lines, joined, are its line
-  pub steps_along-line : (d : DurLen) → IsPlaceOn road.network p → IsPlaceOn road.network q → AllInRange (2 * length road.network.segments) road.network.turns → IsPermitted road p q walk d
+  pub steps_along-line : (d : WeightDurLen) → IsPlaceOn road.network p → IsPlaceOn road.network q → AllInRange (2 * length road.network.segments) road.network.turns → IsPermitted road p q walk d
       → IsLineCut road p q walk (steps_along road p q walk)
   unfolding steps_along
   steps_along-line d from to range permitted =

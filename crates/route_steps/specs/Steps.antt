@@ -5,8 +5,8 @@ use Rattle.std.specs.Prelude.{ℕ, ◌+◌, ◌-◌, ◌==◌, ◌<◌, ◌≤�
 use Rattle.std.specs.List.{filter_map, flat_map, range_with_len, zip}
 use Rattle.road_base.specs.declared.coordinates.Point.{Point}
 use Rattle.road_base.specs.declared.segments.Place.{Place}
-use Rattle.search_graph.specs.declared.costs.DurLen.{DurLen}
-use Rattle.search_graph.specs.Durations.{durlen_ops}
+use Rattle.search_graph.specs.declared.costs.WeightDurLen.{WeightDurLen}
+use Rattle.search_graph.specs.RoadCosts.{road_cost_ops}
 use Rattle.edge_graph.specs.NetworkView.{NetworkView}
 use Rattle.road_places.specs.Paid.{paid_along, total_of}
 use Rattle.metric_make.specs.RoadMetric.{RoadMetric}
@@ -43,8 +43,8 @@ AreAhead n pieces = All (LeadsAhead n) pieces
 
 -- what is paid from place i to place j: at the vertices between them, and at the turns (that at place k is number
 -- k - 1) from place i on that lie before place j
-abbrev pub cost_between : List DurLen → List DurLen → ℕ → ℕ → DurLen
-cost_between paid turns i j = durlen_ops.plus (total_of (slice_range paid i j)) (total_of (slice_range turns (i - 1) (j - 1)))
+abbrev pub cost_between : List WeightDurLen → List WeightDurLen → ℕ → ℕ → WeightDurLen
+cost_between paid turns i j = road_cost_ops.plus (total_of (slice_range paid i j)) (total_of (slice_range turns (i - 1) (j - 1)))
 
 -- the points from place i to place j, both with their own
 abbrev pub points_between : List Point → ℕ → ℕ → List Point
@@ -66,7 +66,7 @@ begin_told network walk points begin = record {
 
 -- the step from a begin to the place where it ends, of a walk with these points, paying this at its vertices and
 -- this at its turns
-unfoldable pub step_between : NetworkView → List ℕ → List Point → List DurLen → List DurLen → Begin × ℕ → Step
+unfoldable pub step_between : NetworkView → List ℕ → List Point → List WeightDurLen → List WeightDurLen → Begin × ℕ → Step
 step_between network walk points paid turns piece = record {
   cost = cost_between paid turns piece.0.place piece.1;
   points = points_between points piece.0.place piece.1;
@@ -78,7 +78,7 @@ step_between network walk points paid turns piece = record {
 -- the arrival at the end of the last vertex's part: nothing more is paid, and it leads nowhere
 abbrev pub arrival_at : NetworkView → ℕ → Point → Step
 arrival_at network last point = record {
-  cost = durlen_ops.zero;
+  cost = road_cost_ops.zero;
   points = point ∷ point ∷ [];
   name = name_on network last;
   maneuver = record { location = point; before = bearing_on network last; after = 0; kind = Arrive; modifier = None };

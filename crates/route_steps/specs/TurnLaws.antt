@@ -5,21 +5,21 @@ use Rattle.std.specs.List.{AllZip, find, slice_get, zip}
 use Rattle.std.specs.Option.{option_map_or}
 use Rattle.std.proofs.lemmas.Bool.Decides.{nat_tests}
 use Rattle.std.proofs.lemmas.Option.{same_Some}
-use Rattle.search_graph.specs.declared.costs.DurLen.{DurLen}
-use Rattle.search_graph.specs.Durations.{durlen_ops}
+use Rattle.search_graph.specs.declared.costs.WeightDurLen.{WeightDurLen}
+use Rattle.search_graph.specs.RoadCosts.{road_cost_ops}
 use Rattle.edge_graph.specs.Turn.{IsSimple}
 use Rattle.road_places.specs.Paid.{AreTurnsAlong, IsTurnCosting, steps_of}
 use Rattle.metric_make.specs.RoadMetric.{RoadMetric}
 use Rattle.route_steps.specs.Turnings.{turn_paid, turns_paid}
 
 -- whether a turn that costs something is the one from d onto e
-abbrev is_from : ℕ → ℕ → (ℕ × ℕ) × DurLen → Bool
+abbrev is_from : ℕ → ℕ → (ℕ × ℕ) × WeightDurLen → Bool
 is_from d e x = x.0.0 == d && x.0.1 == e
 
-is_from-itself : (d e : ℕ) (a : DurLen) → is_from d e ((d, e), a) ≡ true
+is_from-itself : (d e : ℕ) (a : WeightDurLen) → is_from d e ((d, e), a) ≡ true
 is_from-itself d e a = grind (arith, nat_tests)
 
-is_from-pair : (d e : ℕ) (t : ℕ × ℕ) (a : DurLen) → is_from d e (t, a) ≡ true → t ≡ (d, e)
+is_from-pair : (d e : ℕ) (t : ℕ × ℕ) (a : WeightDurLen) → is_from d e (t, a) ≡ true → t ≡ (d, e)
 is_from-pair d e t a h =
     let first : t.0 ≡ d = grind (arith, nat_tests) in
     let second : t.1 ≡ e = grind (arith, nat_tests) in
@@ -29,20 +29,20 @@ simple-rest : (t : ℕ × ℕ) (turns : List (ℕ × ℕ)) → IsSimple (t ∷ t
 simple-rest t turns h = record { same = λ i j d e at at2. let more : suc i ≡ suc j = h.same (suc i) (suc j) d e at at2 in omega arith }
 
 -- a turn is found beside its cost
-skipped : (d e : ℕ) (x : (ℕ × ℕ) × DurLen) (rest : List ((ℕ × ℕ) × DurLen)) (y : (ℕ × ℕ) × DurLen) (b : Bool) → is_from d e x ≡ b → (b ≡ true → x ≡ y) → find (is_from d e) rest ≡ Some y
+skipped : (d e : ℕ) (x : (ℕ × ℕ) × WeightDurLen) (rest : List ((ℕ × ℕ) × WeightDurLen)) (y : (ℕ × ℕ) × WeightDurLen) (b : Bool) → is_from d e x ≡ b → (b ≡ true → x ≡ y) → find (is_from d e) rest ≡ Some y
     → cond b (Some x) (find (is_from d e) rest) ≡ Some y
 skipped d e x rest y true is same later = ap Some (same refl)
 skipped d e x rest y false is same later = later
 
-found : (turns : List (ℕ × ℕ)) (costs : List DurLen) (i d e : ℕ) (a : DurLen) → IsSimple turns → slice_get turns i ≡ Some (d, e) → slice_get costs i ≡ Some a
+found : (turns : List (ℕ × ℕ)) (costs : List WeightDurLen) (i d e : ℕ) (a : WeightDurLen) → IsSimple turns → slice_get turns i ≡ Some (d, e) → slice_get costs i ≡ Some a
     → find (is_from d e) (zip turns costs) ≡ Some ((d, e), a)
 found [] costs i d e a simple at cost = cc
 found (t ∷ turns) [] i d e a simple at cost = cc
 found (t ∷ turns) (c ∷ costs) zero d e a simple at cost =
     let first : t ≡ (d, e) = same_Some t (d, e) at in
     let second : c ≡ a = same_Some c a cost in
-    subst (λ (x : (ℕ × ℕ) × DurLen). cond (is_from d e x) (Some x) (find (is_from d e) (zip turns costs)) ≡ Some ((d, e), a))
-    (sym (ap₂ {C = (ℕ × ℕ) × DurLen} (λ x y. (x, y)) first second))
+    subst (λ (x : (ℕ × ℕ) × WeightDurLen). cond (is_from d e x) (Some x) (find (is_from d e) (zip turns costs)) ≡ Some ((d, e), a))
+    (sym (ap₂ {C = (ℕ × ℕ) × WeightDurLen} (λ x y. (x, y)) first second))
     (ap (λ b. cond b (Some ((d, e), a)) (find (is_from d e) (zip turns costs))) (is_from-itself d e a))
 found (t ∷ turns) (c ∷ costs) (suc i) d e a simple at cost =
     skipped d e (t, c) (zip turns costs) ((d, e), a) (is_from d e (t, c)) refl
@@ -51,18 +51,18 @@ found (t ∷ turns) (c ∷ costs) (suc i) d e a simple at cost =
 
 module _ (road : RoadMetric) (simple : IsSimple road.network.turns) where
   -- what the turn between two vertices costs
-  pub turn_paid-costing : (turn : ℕ × ℕ) (cost : DurLen) → IsTurnCosting road turn cost → turn_paid road turn ≡ cost
+  pub turn_paid-costing : (turn : ℕ × ℕ) (cost : WeightDurLen) → IsTurnCosting road turn cost → turn_paid road turn ≡ cost
   turn_paid-costing turn cost h =
-      ap (λ (o : Option ((ℕ × ℕ) × DurLen)). option_map_or (λ x. x.1) o durlen_ops.zero) (found road.network.turns road.weights.arc h.0 turn.0 turn.1 cost simple h.1 h.2)
+      ap (λ (o : Option ((ℕ × ℕ) × WeightDurLen)). option_map_or (λ x. x.1) o road_cost_ops.zero) (found road.network.turns road.weights.arc h.0 turn.0 turn.1 cost simple h.1 h.2)
 
-  costs-same : (turns : List (ℕ × ℕ)) (costs : List DurLen) → AllZip (IsTurnCosting road) turns costs → costs ≡ map (turn_paid road) turns
+  costs-same : (turns : List (ℕ × ℕ)) (costs : List WeightDurLen) → AllZip (IsTurnCosting road) turns costs → costs ≡ map (turn_paid road) turns
   costs-same [] [] h = refl
   costs-same [] (c ∷ costs) h = absurd h
   costs-same (t ∷ turns) [] h = absurd h
   costs-same (t ∷ turns) (c ∷ costs) h = ap₂ (λ x l. x ∷ l) (sym (turn_paid-costing t c h.0)) (costs-same turns costs h.1)
 
   -- what a walk pays at its turns is one list
-  pub turns_paid-along : (walk : List ℕ) (costs : List DurLen) → AreTurnsAlong road walk costs → costs ≡ turns_paid road walk
+  pub turns_paid-along : (walk : List ℕ) (costs : List WeightDurLen) → AreTurnsAlong road walk costs → costs ≡ turns_paid road walk
   turns_paid-along walk costs h = costs-same (steps_of walk) costs h
 
 count-behind : (v : ℕ) (walk : List ℕ) → length (zip (v ∷ walk) walk) ≡ length walk

@@ -5,8 +5,8 @@ use Rattle.std.specs.Option.{option_map_or}
 use Rattle.std.specs.Str.{bytes_eq}
 use Rattle.road_base.specs.declared.directions.Modifier.{Modifier}
 use Rattle.geo_integer.specs.Bearing.{modifier_of}
-use Rattle.search_graph.specs.declared.costs.DurLen.{DurLen}
-use Rattle.search_graph.specs.Durations.{durlen_ops}
+use Rattle.search_graph.specs.declared.costs.WeightDurLen.{WeightDurLen}
+use Rattle.search_graph.specs.RoadCosts.{road_cost_ops}
 use Rattle.edge_graph.specs.NetworkView.{NetworkView, vertices_of}
 use Rattle.edge_graph.specs.Turn.{exits}
 use Rattle.road_segments.specs.Vertex.{opposite}
@@ -36,10 +36,10 @@ maneuver_at network walk k = turn_told network (slice_index walk (k - 1)) (slice
 
 -- what the turn from the first vertex onto the second costs; nothing where there is none, which no permitted walk
 -- meets
-abbrev pub turn_paid : RoadMetric → ℕ × ℕ → DurLen
+abbrev pub turn_paid : RoadMetric → ℕ × ℕ → WeightDurLen
 turn_paid road turn =
-    option_map_or (λ x. x.1) (find (λ x. x.0.0 == turn.0 && x.0.1 == turn.1) (zip road.network.turns road.weights.arc)) durlen_ops.zero
+    option_map_or (λ x. x.1) (find (λ x. x.0.0 == turn.0 && x.0.1 == turn.1) (zip road.network.turns road.weights.arc)) road_cost_ops.zero
 
 -- what a walk pays at its turns, one from each vertex to the next: turn k is at place k + 1
-abbrev pub turns_paid : RoadMetric → List ℕ → List DurLen
+abbrev pub turns_paid : RoadMetric → List ℕ → List WeightDurLen
 turns_paid road walk = map (turn_paid road) (steps_of walk)

@@ -4,10 +4,10 @@ use Rattle.std.proofs.lemmas.List.Elements.{All-append, All-cons, All-nil}
 use Rattle.std.proofs.lemmas.Option.{slice_get_within}
 use Rattle.list_lemmas.proofs.Singles.{only_one}
 use Rattle.road_base.specs.declared.segments.Place.{Place}
-use Rattle.search_graph.specs.declared.costs.DurLen.{DurLen}
+use Rattle.search_graph.specs.declared.costs.WeightDurLen.{WeightDurLen}
 use Rattle.search_graph.specs.declared.ends.Start.{Start}
 use Rattle.search_graph.specs.Digraph.{IsOpen}
-use Rattle.search_graph.specs.Durations.{durlen_ops}
+use Rattle.search_graph.specs.RoadCosts.{road_cost_ops}
 use Rattle.search_graph.specs.Faults.{AllInRange}
 use Rattle.search_graph.specs.Walks.{Walk}
 use Rattle.edge_graph.specs.NetworkView.{turn_graph}
@@ -25,12 +25,12 @@ module _ (road : RoadMetric) where
   abbrev pub IsVertex : ℕ → Type 0
   IsVertex v = (v < 2 * length road.network.segments) × (v < length road.weights.vertex)
 
-  open-vertex : (v : ℕ) (x : DurLen) → v < 2 * length road.network.segments → IsOpen road.weights v x → IsVertex v
+  open-vertex : (v : ℕ) (x : WeightDurLen) → v < 2 * length road.network.segments → IsOpen road.weights v x → IsVertex v
   open-vertex v x lt h = (lt, slice_get_within road.weights.vertex v (Some x) h)
 
   -- the vertices that arcs lead to
-  walked : AllInRange (2 * length road.network.segments) road.network.turns → (u z : ℕ) (c d : DurLen) (vs : List ℕ)
-      → Walk durlen_ops (turn_graph road.network) road.weights u c vs z d → All IsVertex vs
+  walked : AllInRange (2 * length road.network.segments) road.network.turns → (u z : ℕ) (c d : WeightDurLen) (vs : List ℕ)
+      → Walk road_cost_ops (turn_graph road.network) road.weights u c vs z d → All IsVertex vs
   walked range u z c d [] h = All-nil IsVertex
   walked range u z c d (v ∷ vs) h =
       let move = h.1.1 in
@@ -38,11 +38,11 @@ module _ (road : RoadMetric) where
       All-cons IsVertex v vs (open-vertex v move.1 ends.1 move.3) (walked range v z h.0 d vs h.2)
 
   -- a permitted walk has a vertex at least
-  pub some-vertex : (p q : Place) (walk : List ℕ) (d : DurLen) → IsPermitted road p q walk d → 0 < length walk
+  pub some-vertex : (p q : Place) (walk : List ℕ) (d : WeightDurLen) → IsPermitted road p q walk d → 0 < length walk
   some-vertex p q walk d (inl alone) = omega (arith, ap length alone.1.is_walk)
   some-vertex p q walk d (inr h) = omega (arith, ap length h.runs.is_walk)
 
-  module _ (p q : Place) (from : IsPlaceOn road.network p) (to : IsPlaceOn road.network q) (walk : List ℕ) (d : DurLen) where
+  module _ (p q : Place) (from : IsPlaceOn road.network p) (to : IsPlaceOn road.network q) (walk : List ℕ) (d : WeightDurLen) where
     -- each vertex of a permitted walk is a vertex
     pub vertices_of-walk : AllInRange (2 * length road.network.segments) road.network.turns → IsPermitted road p q walk d → All IsVertex walk
     vertices_of-walk range (inl alone) =
@@ -55,7 +55,7 @@ module _ (road : RoadMetric) where
         let runs = h.runs in
         let same : runs.start ≡ h.first = only_one h.first runs.start runs.among in
         let first_below : h.first.vertex < 2 * n = subst (λ (x : ℕ). x < 2 * n) (sym h.begins.2.is_vertex) (direction-below p.segment n h.begins.0 from.on_segment h.begins.1) in
-        let start_below : runs.start.vertex < 2 * n = subst (λ (x : Start DurLen). x.vertex < 2 * n) (sym same) first_below in
+        let start_below : runs.start.vertex < 2 * n = subst (λ (x : Start WeightDurLen). x.vertex < 2 * n) (sym same) first_below in
         let last_below : h.last.vertex < 2 * n = subst (λ (x : ℕ). x < 2 * n) (sym h.ends.2.is_vertex) (direction-below q.segment n h.ends.0 to.on_segment h.ends.1) in
         let start : IsVertex runs.start.vertex = open-vertex runs.start.vertex runs.start_open.0 start_below runs.start_open.1 in
         let last : IsVertex h.last.vertex = open-vertex h.last.vertex runs.target_open.0 last_below runs.target_open.1 in

@@ -1,7 +1,7 @@
 //! What tells of a walk vertex by vertex.
 
 ghost use Rattle.std.specs.Prelude.{◌≡◌, ◌*◌, ◌<◌, All, IfOk, length};
-ghost use Rattle.search_graph.specs.declared.costs.DurLen.{DurLen};
+ghost use Rattle.search_graph.specs.declared.costs.WeightDurLen.{WeightDurLen};
 ghost use Rattle.road_places.specs.Paid.{AddUpTo, paid_along};
 ghost use Rattle.road_places.specs.Permitted.{IsPermitted};
 ghost use Rattle.road_places.specs.Places.{IsPlaceOn};
@@ -41,12 +41,12 @@ pub fn annotate(
     from: Place,
     to: Place,
 ) -> Result<Annotation, AllocError>
-    requires walk { (d : DurLen) × IsPermitted (road_of network.now base.now) from to walk.now d }
+    requires walk { (d : WeightDurLen) × IsPermitted (road_of network.now base.now) from to walk.now d }
     requires from { IsPlaceOn network.now from }
     requires to { IsPlaceOn network.now to }
     ensures paid { IfOk result (λ a. a.paid ≡ paid_along base.now.weights from to walk.now) }
     ensures nodes { IfOk result (λ a. a.nodes ≡ nodes_along network.now.segments walk.now) }
-    ensures sums { IfOk result (λ a. (d : DurLen) → IsPermitted (road_of network.now base.now) from to walk.now d → AddUpTo (road_of network.now base.now) walk.now a.paid d) }
+    ensures sums { IfOk result (λ a. (d : WeightDurLen) → IsPermitted (road_of network.now base.now) from to walk.now d → AddUpTo (road_of network.now base.now) walk.now a.paid d) }
 {
     // tells a proof that all turns are in range
     let _turns = network.graph();

@@ -1,6 +1,6 @@
 //! What a walk on roads between two places is told by: its points, what it pays at each of its vertices, with
-//! the nodes that it passes, and its steps, which tell a driver where to turn. Durations are deciseconds, lengths
-//! decimetres, coordinates microdegrees, bearings whole degrees.
+//! the nodes that it passes, and its steps, which tell a driver where to turn. Weights are tenths of what a reply prints,
+//! durations deciseconds, lengths decimetres, coordinates microdegrees, bearings whole degrees.
 //!
 //! [`leg_points`] gives the points of a walk, [`annotate`] what it pays and where it passes, [`speed`] how fast
 //! a part of it is, [`steps`] its steps. `specs/` is to be read in this order: `Points` (where a walk leads),

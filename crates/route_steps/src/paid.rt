@@ -1,20 +1,20 @@
 //! What a walk pays at each of its vertices.
 
 ghost use Rattle.std.specs.Prelude.{◌≡◌, ℕ, ◌<◌, ◌≤◌, [], ◌∷◌, ◌++◌, All, IfOk, OnOk, length, map};
-ghost use Rattle.search_graph.specs.Durations.{durlen_ops};
+ghost use Rattle.search_graph.specs.RoadCosts.{road_cost_ops};
 ghost use Rattle.road_places.specs.Paid.{cost_on, paid_along, paid_before, paid_behind, paid_between};
 ghost use Rattle.road_places.specs.Places.{parts_along};
 
 use metric_make::BaseMetric;
 use road_base::Place;
 use road_places::{before, parts_along};
-use search_graph::{Cost, DurLen};
+use search_graph::{Cost, WeightDurLen};
 use std::alloc::{AllocError, Global};
 use std::marker::Model;
 
 /// Costs in their order, which contracts see as a list.
 pub struct Costs {
-    costs: Vec<DurLen>,
+    costs: Vec<WeightDurLen>,
 }
 
 impl Drop for Costs {
@@ -25,23 +25,23 @@ impl Drop for Costs {
 
 impl Model for Costs {
     ghost use Rattle.std.specs.Prelude.{List};
-    ghost use Rattle.search_graph.specs.declared.costs.DurLen.{DurLen};
+    ghost use Rattle.search_graph.specs.declared.costs.WeightDurLen.{WeightDurLen};
 
-    ghost Value = { List DurLen };
+    ghost Value = { List WeightDurLen };
 
     ghost view = { λ c. c.costs.items };
 }
 
 impl Costs {
     /// The list of a `Vec`.
-    pub fn of(costs: Vec<DurLen>) -> Costs
+    pub fn of(costs: Vec<WeightDurLen>) -> Costs
         ensures { result ≡ costs.items }
     {
         Costs { costs }
     }
 
     /// The costs, in their order.
-    pub fn as_slice(&self) -> &[DurLen]
+    pub fn as_slice(&self) -> &[WeightDurLen]
         ensures { result.now ≡ self.now }
     {
         self.costs.as_slice()
@@ -49,19 +49,19 @@ impl Costs {
 }
 
 // What a vertex costs, or nothing where it is closed.
-fn cost_on(base: &BaseMetric, v: u32) -> DurLen
+fn cost_on(base: &BaseMetric, v: u32) -> WeightDurLen
     requires { v < length base.now.weights.vertex }
     ensures value { result ≡ cost_on base.now.weights v }
-    ensures unit { durlen_ops.units result 1 }
+    ensures unit { road_cost_ops.units result 1 }
 {
     match base.vertex(v) {
         Some(cost) => cost,
-        None => DurLen::ZERO,
+        None => WeightDurLen::ZERO,
     }
 }
 
 // What lies of a vertex before a place along it.
-fn paid_before(base: &BaseMetric, place: Place, v: u32) -> DurLen
+fn paid_before(base: &BaseMetric, place: Place, v: u32) -> WeightDurLen
     requires in_range { v < length base.now.weights.vertex }
     requires within { place.at ≤ 1024 }
     ensures { result ≡ paid_before base.now.weights place v }
@@ -70,7 +70,7 @@ fn paid_before(base: &BaseMetric, place: Place, v: u32) -> DurLen
 }
 
 // What is left of a vertex behind a place along it.
-fn paid_behind(base: &BaseMetric, place: Place, v: u32) -> DurLen
+fn paid_behind(base: &BaseMetric, place: Place, v: u32) -> WeightDurLen
     requires in_range { v < length base.now.weights.vertex }
     requires within { place.at ≤ 1024 }
     ensures { result ≡ paid_behind base.now.weights place v }
@@ -79,7 +79,7 @@ fn paid_behind(base: &BaseMetric, place: Place, v: u32) -> DurLen
 }
 
 // What lies of a vertex between two places along it.
-fn paid_between(base: &BaseMetric, from: Place, to: Place, v: u32) -> DurLen
+fn paid_between(base: &BaseMetric, from: Place, to: Place, v: u32) -> WeightDurLen
     requires in_range { v < length base.now.weights.vertex }
     requires from { from.at ≤ 1024 }
     requires to { to.at ≤ 1024 }
@@ -90,7 +90,11 @@ fn paid_between(base: &BaseMetric, from: Place, to: Place, v: u32) -> DurLen
 }
 
 // Adds what these vertices cost.
-fn push_whole(paid: &mut Vec<DurLen>, base: &BaseMetric, vertices: &[u32]) -> Result<(), AllocError>
+fn push_whole(
+    paid: &mut Vec<WeightDurLen>,
+    base: &BaseMetric,
+    vertices: &[u32],
+) -> Result<(), AllocError>
     requires { All (λ v. v < length base.now.weights.vertex) vertices.now }
     ensures { OnOk result (paid.new.items ≡ paid.old.items ++ map (cost_on base.now.weights) vertices.now) }
 {

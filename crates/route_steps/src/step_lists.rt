@@ -5,14 +5,14 @@ ghost use Rattle.std.specs.Prelude.{◌≡◌};
 use crate::intersection_lists::Intersections;
 use crate::maneuvers::Maneuver;
 use road_base::{Points, Text};
-use search_graph::DurLen;
+use search_graph::WeightDurLen;
 use std::marker::Model;
 
 /// A part of a walk, from where the driver is told what to do to where that comes next: what it costs, the points
 /// along it, the name of the road (empty where it has none), what is told at its begin, and the intersections on it:
 /// that at its begin and those at the nodes before its end; the arrival has one of its own.
 pub struct Step {
-    pub cost: DurLen,
+    pub cost: WeightDurLen,
     pub points: Points,
     pub name: Text,
     pub maneuver: Maneuver,

@@ -1,7 +1,7 @@
 //! What a walk meets at its turns.
 
 ghost use Rattle.std.specs.Prelude.{◌≡◌, ◌*◌, ◌<◌, List, All, IfOk, length};
-ghost use Rattle.search_graph.specs.declared.costs.DurLen.{DurLen};
+ghost use Rattle.search_graph.specs.declared.costs.WeightDurLen.{WeightDurLen};
 ghost use Rattle.road_segments.specs.Vertex.{opposite};
 ghost use Rattle.road_places.specs.Paid.{AreTurnsAlong, IsTurnCosting};
 ghost use Rattle.metric_make.specs.RoadMetric.{road_of};
@@ -12,7 +12,7 @@ use edge_graph::Network;
 use geo_integer::{bearing, modifier};
 use metric_make::BaseMetric;
 use road_base::Modifier;
-use search_graph::{Cost, DurLen};
+use search_graph::{Cost, WeightDurLen};
 use std::alloc::{AllocError, Global};
 
 /// The bearing of a vertex from where it begins to where it ends, in whole degrees, below 360.
@@ -49,14 +49,14 @@ pub(crate) fn turn_told(network: &Network, d: u32, e: u32) -> Option<(ManeuverKi
 }
 
 // What the turn from one vertex onto another costs.
-fn turn_cost(base: &BaseMetric, network: &Network, d: u32, e: u32) -> DurLen
+fn turn_cost(base: &BaseMetric, network: &Network, d: u32, e: u32) -> WeightDurLen
     requires before { d < 2 * length network.now.segments }
-    requires turn { (cost : DurLen) × IsTurnCosting (road_of network.now base.now) (d, e) cost }
+    requires turn { (cost : WeightDurLen) × IsTurnCosting (road_of network.now base.now) (d, e) cost }
     ensures { result ≡ turn_paid (road_of network.now base.now) (d, e) }
 {
     match network.turn(d, e) {
         Some(turn) => base.turn(turn),
-        None => DurLen::ZERO,
+        None => WeightDurLen::ZERO,
     }
 }
 
@@ -66,10 +66,10 @@ pub(crate) fn turns_paid(
     base: &BaseMetric,
     network: &Network,
     walk: &[u32],
-) -> Result<Vec<DurLen>, AllocError>
+) -> Result<Vec<WeightDurLen>, AllocError>
     requires some { 0 < length walk.now }
     requires in_range { All (λ v. v < 2 * length network.now.segments) walk.now }
-    requires turns { (costs : List DurLen) × AreTurnsAlong (road_of network.now base.now) walk.now costs }
+    requires turns { (costs : List WeightDurLen) × AreTurnsAlong (road_of network.now base.now) walk.now costs }
     ensures { IfOk result (λ turns. turns.items ≡ turns_paid (road_of network.now base.now) walk.now) }
 {
     let mut turns = Vec::with_capacity(alloc, walk.len() - 1)?;

@@ -2,8 +2,8 @@
 
 ghost use Rattle.std.specs.Prelude.{◌≡◌, ◌+◌, ◌*◌, ◌^◌, ◌<◌, ◌≤◌, ◌++◌, All, IfOk, OnOk, Some, length, map, slice_range};
 ghost use Rattle.std.specs.List.{slice_get};
-ghost use Rattle.search_graph.specs.Durations.{durlen_ops};
-ghost use Rattle.search_graph.specs.declared.costs.DurLen.{DurLen};
+ghost use Rattle.search_graph.specs.RoadCosts.{road_cost_ops};
+ghost use Rattle.search_graph.specs.declared.costs.WeightDurLen.{WeightDurLen};
 ghost use Rattle.road_places.specs.Paid.{paid_along, total_of};
 ghost use Rattle.road_places.specs.Permitted.{IsPermitted};
 ghost use Rattle.road_places.specs.Places.{IsPlaceOn};
@@ -25,7 +25,7 @@ use crate::walk_points::leg_points;
 use edge_graph::Network;
 use metric_make::BaseMetric;
 use road_base::{Place, Point, Points, Text};
-use search_graph::{Cost, DurLen};
+use search_graph::{Cost, WeightDurLen};
 use std::alloc::{AllocError, Global};
 
 // The points of a walk, and what it pays at its vertices and at its turns.
@@ -46,11 +46,11 @@ impl Drop for Course {
 }
 
 // All these costs together.
-fn total(costs: &[DurLen]) -> DurLen
-    requires { durlen_ops.units (total_of costs.now) (2 ^ 30) }
+fn total(costs: &[WeightDurLen]) -> WeightDurLen
+    requires { road_cost_ops.units (total_of costs.now) (2 ^ 30) }
     ensures { result ≡ total_of costs.now }
 {
-    let mut sum = DurLen::ZERO;
+    let mut sum = WeightDurLen::ZERO;
     for cost in costs {
         sum = sum.plus(*cost);
     }
@@ -58,18 +58,18 @@ fn total(costs: &[DurLen]) -> DurLen
 }
 
 // The costs of a part of a list together.
-fn total_between(costs: &[DurLen], begin: usize, end: usize) -> DurLen
-    requires small { durlen_ops.units (total_of costs.now) (2 ^ 30) }
+fn total_between(costs: &[WeightDurLen], begin: usize, end: usize) -> WeightDurLen
+    requires small { road_cost_ops.units (total_of costs.now) (2 ^ 30) }
     requires ahead { begin ≤ end }
     requires within { end ≤ length costs.now }
     ensures value { result ≡ total_of (slice_range costs.now begin end) }
-    ensures bound { durlen_ops.units result (2 ^ 30) }
+    ensures bound { road_cost_ops.units result (2 ^ 30) }
 {
     total(&costs[begin..end])
 }
 
 // What is paid from one place of a walk to another.
-fn cost_between(course: &Course, begin: usize, end: usize) -> DurLen
+fn cost_between(course: &Course, begin: usize, end: usize) -> WeightDurLen
     requires course { IsCourse (length course.now.paid) course.now.points course.now.paid course.now.turns }
     requires ahead { begin < end }
     requires within { end ≤ length course.now.paid }
@@ -139,7 +139,7 @@ fn arrival_at(alloc: Global, network: &Network, last: u32, point: Point) -> Resu
     let mut intersections = Vec::with_capacity(alloc, 1)?;
     intersections.push(arrival_on(alloc, network, point, last)?)?;
     Ok(Step {
-        cost: DurLen::ZERO,
+        cost: WeightDurLen::ZERO,
         points: Points::of(points),
         name,
         maneuver: Maneuver {
@@ -162,7 +162,7 @@ fn course_of(
     from: Place,
     to: Place,
 ) -> Result<Course, AllocError>
-    requires walk { (d : DurLen) × IsPermitted (road_of network.now base.now) from to walk.now d × durlen_ops.units d (2 ^ 30) }
+    requires walk { (d : WeightDurLen) × IsPermitted (road_of network.now base.now) from to walk.now d × road_cost_ops.units d (2 ^ 30) }
     requires from { IsPlaceOn network.now from }
     requires to { IsPlaceOn network.now to }
     ensures points { IfOk result (λ course. course.points ≡ points_along network.now.segments from to walk.now) }
@@ -218,9 +218,9 @@ fn push_steps(
 /// The steps of a permitted walk, of at most 2^30 units, from one place to another. The first one begins with the
 /// departure, a further one at each turn of which the driver is told, and the last is the arrival, which costs
 /// nothing and has the walk's last point twice. A turn's cost belongs to the step that begins at it, or else to the
-/// one in which it lies. Together the steps cost what the walk costs, and the lines of those before the arrival are
-/// the walk's line, cut. Each has the intersections from its begin on that lie before its end, and the arrival one. It
-/// answers an error only where memory runs out.
+/// one in which it lies. Together the steps cost what the walk costs, in each part, and the lines of those before the
+/// arrival are the walk's line, cut. Each has the intersections from its begin on that lie before its end, and the
+/// arrival one. It answers an error only where memory runs out.
 pub fn steps(
     alloc: Global,
     base: &BaseMetric,
@@ -229,7 +229,7 @@ pub fn steps(
     from: Place,
     to: Place,
 ) -> Result<Steps, AllocError>
-    requires walk { (d : DurLen) × IsPermitted (road_of network.now base.now) from to walk.now d × durlen_ops.units d (2 ^ 30) }
+    requires walk { (d : WeightDurLen) × IsPermitted (road_of network.now base.now) from to walk.now d × road_cost_ops.units d (2 ^ 30) }
     requires from { IsPlaceOn network.now from }
     requires to { IsPlaceOn network.now to }
     ensures steps { IfOk result (λ steps. steps ≡ steps_along (road_of network.now base.now) from to walk.now) }

@@ -8,7 +8,7 @@ use Rattle.std.proofs.lemmas.Option.{same_Some, slice_get-map, slice_get_within}
 use Rattle.geo_integer.specs.Plane.{distance_of, plane_between}
 use Rattle.geo_integer.specs.Position.{Position, position_of}
 use Rattle.geo_integer.specs.Project.{place_of, position_at, scalar_product}
-use Rattle.search_graph.specs.declared.costs.DurLen.{DurLen}
+use Rattle.search_graph.specs.declared.costs.WeightDurLen.{WeightDurLen}
 use Rattle.search_graph.specs.Digraph.{Weighting}
 use Rattle.road_segments.specs.Segment.{Segment}
 use Rattle.snap_index.specs.Candidates.{AreSlots, Ascend, IsCandidate, IsSlot, PrecedesSlot, Stands, is_near, line_remoteness, places_found}
@@ -97,7 +97,7 @@ unfolding decimetres_between
 decimetres-are from spot = refl
 
 -- a candidate by its segment
-pub record IsOnSegment (segments : List Segment) (w : Weighting DurLen) (heading : Option Heading) (from : Position) (c : Candidate) : Type 0 where
+pub record IsOnSegment (segments : List Segment) (w : Weighting WeightDurLen) (heading : Option Heading) (from : Position) (c : Candidate) : Type 0 where
   pub segment : Segment
   pub is_segment : slice_get segments c.place.segment ≡ Some segment
   pub is_open : HasDirection w heading c.place.segment (position_of segment.from) (position_of segment.to)
@@ -125,7 +125,7 @@ line-segment : (o : Option Segment) (line : SegmentEnds) → option_map ends_of 
 line-segment None line q = absurd cc
 line-segment (Some x) line q = (x, refl, same_Some (ends_of x) line q)
 
-module _ (segments : List Segment) (w : Weighting DurLen) (heading : Option Heading) (from : Position) where
+module _ (segments : List Segment) (w : Weighting WeightDurLen) (heading : Option Heading) (from : Position) where
   pub on-segment : (c : Candidate) → IsCandidate (all_ends segments) w heading from c → IsOnSegment segments w heading from c
   on-segment c h =
       let there = line-segment (slice_get segments c.place.segment) h.line (sym (slice_get-map ends_of segments c.place.segment) ∙ h.is_line) in
@@ -155,7 +155,7 @@ reach-shrinks : (radius : Option ℕ) (near far : ℕ) → near ≤ far → IsIn
 reach-shrinks None near far le g = tt
 reach-shrinks (Some r) near far le g = omega (arith, le, g)
 
-module _ (segments : List Segment) (w : Weighting DurLen) (filter : Filter) (from : Position) where
+module _ (segments : List Segment) (w : Weighting WeightDurLen) (filter : Filter) (from : Position) where
   -- what is no more remote than a kept segment is in reach
   reach-before : (c : Candidate) (other : Segment) → IsOnSegment segments w filter.heading from c → c.remoteness ≤ remoteness_of from other
       → IsInReach filter.radius (decimetres_between from (nearest_spot other from)) → IsInReach filter.radius (decimetres_between from (position_of c.spot))

@@ -12,7 +12,7 @@ use Rattle.geo_integer.specs.Plane.{plane_between}
 use Rattle.geo_integer.specs.Position.{Position, position_of}
 use Rattle.geo_integer.specs.Project.{IsBetween, coordinate_at, part_of, place_of, position_at, scalar_product, share_of}
 use Rattle.list_lemmas.proofs.Between.{between-add, between-part}
-use Rattle.search_graph.specs.declared.costs.DurLen.{DurLen}
+use Rattle.search_graph.specs.declared.costs.WeightDurLen.{WeightDurLen}
 use Rattle.search_graph.specs.Digraph.{Weighting}
 use Rattle.snap_index.specs.Candidates.{Ascend, IsCandidate, IsOnLine, IsOpenLine, LastIs, Stands, StandsOn, line_remoteness}
 use Rattle.snap_index.specs.Index.{AreJudged, HasLine, IsFarther, IsJudged, IsLeastCosine, IsOrder, IsPassed, IsWithin}
@@ -77,7 +77,7 @@ passed-judged from cosine reach far slots line s passed least h =
       | inr near ↦ h (line_remoteness from line) s (passed.2 (line_spot from line) (spot-within passed.0 from line passed.1) (least (line_spot from line) near))
     ]
 
-module _ (lines : List SegmentEnds) (w : Weighting DurLen) (heading : Option Heading) (from : Position) where
+module _ (lines : List SegmentEnds) (w : Weighting WeightDurLen) (heading : Option Heading) (from : Position) where
   -- a segment that was judged stays so
   judged-stays : (reach : Option ℕ) (old new : List (Option Candidate)) (s : ℕ) → StandsOn old new → IsJudged lines w heading from reach old s → IsJudged lines w heading from reach new s
   judged-stays reach old new s stay h = λ line is drivable. elim (h line is drivable) [ inl out ↦ inl out | inr stands ↦ inr (stay (line_remoteness from line) s stands) ]

@@ -10,7 +10,7 @@ use Rattle.std.proofs.lemmas.List.{append_assoc, drop-set-lt, take-set, drop-set
 use Rattle.list_lemmas.proofs.Fronts.{take-get}
 use Rattle.list_lemmas.proofs.Gets.{get_some}
 use Rattle.geo_integer.specs.Position.{Position}
-use Rattle.search_graph.specs.declared.costs.DurLen.{DurLen}
+use Rattle.search_graph.specs.declared.costs.WeightDurLen.{WeightDurLen}
 use Rattle.search_graph.specs.Digraph.{Weighting}
 use Rattle.snap_index.specs.Candidates.{AreSlots, Ascend, IsCandidate, IsEmptySlot, IsSlot, LastIs, Precedes, PrecedesSlot, Stands, is_before, is_same, with_candidate}
 use Rattle.snap_index.specs.Firsts.{ComesBefore}
@@ -236,7 +236,7 @@ put-stay remote s c (Some d ∷ rest) h = elim (which c d) as (λ _. Stands remo
 ]
 
 -- the slots after a candidate was put there are slots
-pub put-slots : (lines : List SegmentEnds) (w : Weighting DurLen) (heading : Option Heading) (from : Position) (c : Candidate) (slots : List (Option Candidate))
+pub put-slots : (lines : List SegmentEnds) (w : Weighting WeightDurLen) (heading : Option Heading) (from : Position) (c : Candidate) (slots : List (Option Candidate))
     → AreSlots lines w heading from slots → IsCandidate lines w heading from c → AreSlots lines w heading from (with_candidate c slots)
 put-slots lines w heading from c slots h k = record { each = put-all (IsSlot lines w heading from) c slots k h.each; order = put-ascends c slots h.order }
 
@@ -272,10 +272,10 @@ pub behind-last : (remote s : ℕ) (last : Option ℕ) (slots : List (Option Can
 behind-last remote s None slots h l far = absurd far
 behind-last remote s (Some n) slots h l far = behind-stands remote s n slots h l far
 
-slot-empty : (lines : List SegmentEnds) (w : Weighting DurLen) (heading : Option Heading) (from : Position) (slot : Option Candidate) → IsEmptySlot slot → IsSlot lines w heading from slot
+slot-empty : (lines : List SegmentEnds) (w : Weighting WeightDurLen) (heading : Option Heading) (from : Position) (slot : Option Candidate) → IsEmptySlot slot → IsSlot lines w heading from slot
 slot-empty lines w heading from None e = tt
 slot-empty lines w heading from (Some c) e = cc
 
 -- empty slots are slots
-pub empty-slots : (lines : List SegmentEnds) (w : Weighting DurLen) (heading : Option Heading) (from : Position) (slots : List (Option Candidate)) → AllByRecursion IsEmptySlot slots → AreSlots lines w heading from slots
+pub empty-slots : (lines : List SegmentEnds) (w : Weighting WeightDurLen) (heading : Option Heading) (from : Position) (slots : List (Option Candidate)) → AllByRecursion IsEmptySlot slots → AreSlots lines w heading from slots
 empty-slots lines w heading from slots all = record { each = all-each IsEmptySlot (IsSlot lines w heading from) (slot-empty lines w heading from) slots all; order = empty-ascends slots all }

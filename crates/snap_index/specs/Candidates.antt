@@ -4,7 +4,7 @@ use Rattle.std.specs.Prelude.{◌≡◌, ℕ, ◌-◌, ◌&&◌, ◌||◌, ◌==
 use Rattle.std.specs.List.{AllByRecursion, slice_get}
 use Rattle.geo_integer.specs.Position.{Position, position_of}
 use Rattle.geo_integer.specs.Project.{place_of, position_at}
-use Rattle.search_graph.specs.declared.costs.DurLen.{DurLen}
+use Rattle.search_graph.specs.declared.costs.WeightDurLen.{WeightDurLen}
 use Rattle.search_graph.specs.Digraph.{Weighting}
 use Rattle.snap_index.specs.Firsts.{ComesBefore}
 use Rattle.snap_index.specs.Kept.{HasDirection, decimetres_between}
@@ -26,11 +26,11 @@ pub record IsOnLine (line : SegmentEnds) (from : Position) (s : ℕ) (c : Candid
   pub remote : c.remoteness ≡ line_remoteness from line
 
 -- a line has an open direction of the heading
-abbrev pub IsOpenLine : Weighting DurLen → Option Heading → ℕ → SegmentEnds → Type 0
+abbrev pub IsOpenLine : Weighting WeightDurLen → Option Heading → ℕ → SegmentEnds → Type 0
 IsOpenLine w heading s line = HasDirection w heading s (position_of line.from) (position_of line.to)
 
 -- the candidate is the nearest place on one of the lines, which has an open direction of the heading
-pub record IsCandidate (lines : List SegmentEnds) (w : Weighting DurLen) (heading : Option Heading) (from : Position) (c : Candidate) : Type 0 where
+pub record IsCandidate (lines : List SegmentEnds) (w : Weighting WeightDurLen) (heading : Option Heading) (from : Position) (c : Candidate) : Type 0 where
   pub line : SegmentEnds
   pub is_line : slice_get lines c.place.segment ≡ Some line
   pub is_open : IsOpenLine w heading c.place.segment line
@@ -47,7 +47,7 @@ PrecedesSlot c (Some d) = Precedes c d
 abbrev pub IsEmptySlot : Option Candidate → Type 0
 IsEmptySlot slot = slot ≡ None
 
-abbrev pub IsSlot : List SegmentEnds → Weighting DurLen → Option Heading → Position → Option Candidate → Type 0
+abbrev pub IsSlot : List SegmentEnds → Weighting WeightDurLen → Option Heading → Position → Option Candidate → Type 0
 IsSlot lines w heading from None = Unit {0}
 IsSlot lines w heading from (Some c) = IsCandidate lines w heading from c
 
@@ -57,7 +57,7 @@ Ascend [] = Unit {0}
 Ascend (None ∷ rest) = AllByRecursion IsEmptySlot rest
 Ascend (Some c ∷ rest) = AllByRecursion (PrecedesSlot c) rest × Ascend rest
 
-pub record AreSlots (lines : List SegmentEnds) (w : Weighting DurLen) (heading : Option Heading) (from : Position) (slots : List (Option Candidate)) : Type 0 where
+pub record AreSlots (lines : List SegmentEnds) (w : Weighting WeightDurLen) (heading : Option Heading) (from : Position) (slots : List (Option Candidate)) : Type 0 where
   pub each : AllByRecursion (IsSlot lines w heading from) slots
   pub order : Ascend slots
 

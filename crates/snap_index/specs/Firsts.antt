@@ -3,7 +3,7 @@
 use Rattle.std.specs.Prelude.{◌≡◌, ℕ, ◌<◌, ◌≤◌, ◌⊎◌, List, [], ◌∷◌, Some, length}
 use Rattle.std.specs.List.{AllByRecursion, slice_get}
 use Rattle.geo_integer.specs.Position.{Position, position_of}
-use Rattle.search_graph.specs.declared.costs.DurLen.{DurLen}
+use Rattle.search_graph.specs.declared.costs.WeightDurLen.{WeightDurLen}
 use Rattle.search_graph.specs.Digraph.{Weighting}
 use Rattle.road_segments.specs.Segment.{Segment}
 use Rattle.snap_index.specs.Kept.{IsKept, decimetres_between}
@@ -16,7 +16,7 @@ abbrev pub ComesBefore : ℕ → ℕ → ℕ → ℕ → Type 0
 ComesBefore remote i other j = (remote < other) ⊎ ((remote ≡ other) × (i < j))
 
 -- the place is the nearest one on a segment that is kept, with the point where it lies and its distance
-pub record IsFound (segments : List Segment) (w : Weighting DurLen) (filter : Filter) (from : Position) (found : Snapped) : Type 0 where
+pub record IsFound (segments : List Segment) (w : Weighting WeightDurLen) (filter : Filter) (from : Position) (found : Snapped) : Type 0 where
   pub segment : Segment
   pub is_segment : slice_get segments found.place.segment ≡ Some segment
   pub is_kept : IsKept w filter from found.place.segment segment
@@ -41,7 +41,7 @@ IsAmong s (first ∷ rest) = (first.place.segment ≡ s) ⊎ IsAmong s rest
 
 -- the places are the first ones: nearest places on kept segments, in their order, no more than `number`. A kept
 -- segment that none of them lies on comes behind each of them, and then they are `number`
-pub record AreFirsts (segments : List Segment) (w : Weighting DurLen) (filter : Filter) (from : Position) (number : ℕ) (found : List Snapped) : Type 0 where
+pub record AreFirsts (segments : List Segment) (w : Weighting WeightDurLen) (filter : Filter) (from : Position) (number : ℕ) (found : List Snapped) : Type 0 where
   pub each : AllByRecursion (IsFound segments w filter from) found
   pub order : AreInOrder from found
   pub at_most : length found ≤ number

@@ -3,7 +3,7 @@ use Rattle.std.specs.Prelude.{◌≡◌, ℕ, ◌/◌, ◌^◌, ◌<◌, ◌≤�
 use Rattle.std.specs.List.{slice_get}
 use Rattle.geo_integer.specs.Plane.{cosine_between}
 use Rattle.geo_integer.specs.Position.{Position, position_of}
-use Rattle.search_graph.specs.declared.costs.DurLen.{DurLen}
+use Rattle.search_graph.specs.declared.costs.WeightDurLen.{WeightDurLen}
 use Rattle.search_graph.specs.Digraph.{Weighting}
 use Rattle.snap_index.specs.Candidates.{IsOpenLine, Stands, line_remoteness}
 use Rattle.snap_index.specs.Kept.{IsInReach}
@@ -65,10 +65,10 @@ abbrev pub IsPassed : Position → ℕ → Option ℕ → SegmentEnds → Type 0
 IsPassed from cosine far line = (extent : Extent) × HasLine extent line × IsBeyond from cosine far extent
 
 -- segment s isn't open, or lies out of reach, or stands in the slots
-abbrev pub IsJudged : List SegmentEnds → Weighting DurLen → Option Heading → Position → Option ℕ → List (Option Candidate) → ℕ → Type 0
+abbrev pub IsJudged : List SegmentEnds → Weighting WeightDurLen → Option Heading → Position → Option ℕ → List (Option Candidate) → ℕ → Type 0
 IsJudged lines w heading from reach slots s = (line : SegmentEnds) → slice_get lines s ≡ Some line → IsOpenLine w heading s line
     → IsFarther reach (line_remoteness from line) ⊎ Stands (line_remoteness from line) s slots
 
 -- each segment is judged that an order names from one number on and below another
-abbrev pub AreJudged : List SegmentEnds → Weighting DurLen → Option Heading → Position → Option ℕ → List ℕ → ℕ → ℕ → List (Option Candidate) → Type 0
+abbrev pub AreJudged : List SegmentEnds → Weighting WeightDurLen → Option Heading → Position → Option ℕ → List ℕ → ℕ → ℕ → List (Option Candidate) → Type 0
 AreJudged lines w heading from reach order low high slots = (i s : ℕ) → low ≤ i → i < high → slice_get order i ≡ Some s → IsJudged lines w heading from reach slots s

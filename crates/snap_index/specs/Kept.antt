@@ -4,7 +4,7 @@ use Rattle.std.specs.Prelude.{◌≡◌, ℕ, ◌+◌, ◌*◌, ◌%◌, ◌≤�
 use Rattle.geo_integer.specs.Bearing.{bearing_of}
 use Rattle.geo_integer.specs.Plane.{distance_of}
 use Rattle.geo_integer.specs.Position.{Position, position_of}
-use Rattle.search_graph.specs.declared.costs.DurLen.{DurLen}
+use Rattle.search_graph.specs.declared.costs.WeightDurLen.{WeightDurLen}
 use Rattle.search_graph.specs.Digraph.{Weighting, IsOpen}
 use Rattle.road_segments.specs.Segment.{Segment}
 use Rattle.snap_index.specs.Nearest.{nearest_spot}
@@ -29,11 +29,11 @@ IsHeaded None bearing = Unit {0}
 IsHeaded (Some heading) bearing = DifferAtMost heading.range heading.value bearing
 
 -- vertex v, from `tail` to `head`, may be driven along and has the heading
-abbrev pub IsOpenAlong : Weighting DurLen → Option Heading → ℕ → Position → Position → Type 0
-IsOpenAlong w heading v tail head = ((x : DurLen) × IsOpen w v x) × IsHeaded heading (bearing_along tail head)
+abbrev pub IsOpenAlong : Weighting WeightDurLen → Option Heading → ℕ → Position → Position → Type 0
+IsOpenAlong w heading v tail head = ((x : WeightDurLen) × IsOpen w v x) × IsHeaded heading (bearing_along tail head)
 
 -- some direction of segment s, from `a` to `b`, may be and has: vertex 2s is that of its way, 2s + 1 the other
-abbrev pub HasDirection : Weighting DurLen → Option Heading → ℕ → Position → Position → Type 0
+abbrev pub HasDirection : Weighting WeightDurLen → Option Heading → ℕ → Position → Position → Type 0
 HasDirection w heading s a b = IsOpenAlong w heading (2 * s) a b ⊎ IsOpenAlong w heading (2 * s + 1) b a
 
 -- what lies so many decimetres away is near enough
@@ -42,6 +42,6 @@ IsInReach None far = Unit {0}
 IsInReach (Some radius) far = far ≤ radius
 
 -- segment s is one that a position may be snapped to
-abbrev pub IsKept : Weighting DurLen → Filter → Position → ℕ → Segment → Type 0
+abbrev pub IsKept : Weighting WeightDurLen → Filter → Position → ℕ → Segment → Type 0
 IsKept w filter from s segment =
     HasDirection w filter.heading s (position_of segment.from) (position_of segment.to) × IsInReach filter.radius (decimetres_between from (nearest_spot segment from))

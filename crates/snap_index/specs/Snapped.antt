@@ -3,7 +3,7 @@ use Rattle.std.specs.Prelude.{◌≡◌, ℕ, ◌<◌, ◌≤◌, ◌⊎◌, Lis
 use Rattle.std.specs.List.{slice_get}
 use Rattle.road_base.specs.declared.segments.Place.{Place}
 use Rattle.geo_integer.specs.Position.{Position}
-use Rattle.search_graph.specs.declared.costs.DurLen.{DurLen}
+use Rattle.search_graph.specs.declared.costs.WeightDurLen.{WeightDurLen}
 use Rattle.search_graph.specs.Digraph.{Weighting}
 use Rattle.road_segments.specs.Segment.{Segment}
 use Rattle.snap_index.specs.Kept.{IsKept}
@@ -16,7 +16,7 @@ ComesFirst remote i other j = (remote < other) ⊎ ((remote ≡ other) × (i ≤
 
 -- the place is where a position is snapped to: the nearest one on the segment that comes first, of all that
 -- are kept
-pub record IsSnapped (segments : List Segment) (w : Weighting DurLen) (filter : Filter) (from : Position) (place : Place) : Type 0 where
+pub record IsSnapped (segments : List Segment) (w : Weighting WeightDurLen) (filter : Filter) (from : Position) (place : Place) : Type 0 where
   pub segment : Segment
   pub is_segment : slice_get segments place.segment ≡ Some segment
   pub is_kept : IsKept w filter from place.segment segment
@@ -24,5 +24,5 @@ pub record IsSnapped (segments : List Segment) (w : Weighting DurLen) (filter : 
   pub first : (s : ℕ) (other : Segment) → slice_get segments s ≡ Some other → IsKept w filter from s other → ComesFirst (remoteness_of from segment) place.segment (remoteness_of from other) s
 
 -- no segment is kept, so the position has no place
-abbrev pub HasNoPlace : List Segment → Weighting DurLen → Filter → Position → Type 0
+abbrev pub HasNoPlace : List Segment → Weighting WeightDurLen → Filter → Position → Type 0
 HasNoPlace segments w filter from = (s : ℕ) (other : Segment) → slice_get segments s ≡ Some other → ¬ IsKept w filter from s other

@@ -1,5 +1,5 @@
 -- The line of a route (OSRM's HTTP API, version 1; GeoJSON of RFC 7946).
-use Rattle.std.specs.Prelude.{ℕ, List, [], ◌∷◌, codes, map, Option, Some, None, option_map}
+use Rattle.std.specs.Prelude.{List, [], ◌∷◌, codes, map, Option, Some, None, option_map}
 use Rattle.road_base.specs.declared.coordinates.Point.{Point}
 use Rattle.polyline_text.specs.Encoding.{encoded}
 use Rattle.json_text.specs.Values.{JsonValue, text, location}

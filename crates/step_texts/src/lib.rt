@@ -5,7 +5,7 @@
 //! are parts of, costs and lines, is written by calls of its own: [`push_totals`], [`push_overview`]. To be read in
 //! this order: `specs/Totals`, `Lines`, `Intersections`, `Steps`.
 //!
-//! Coordinates are microdegrees, lengths decimetres, durations deciseconds.
+//! Coordinates are microdegrees, lengths decimetres, durations deciseconds, weights tenths of what is printed.
 #![tactic(auto)]
 
 mod driving_sides;
@@ -13,8 +13,10 @@ mod intersections;
 mod lines;
 mod steps;
 mod totals;
+mod weight_names;
 
 pub use driving_sides::DrivingSide;
 pub use lines::push_overview;
 pub use steps::push_steps;
 pub use totals::{Totals, leg_totals, push_totals};
+pub use weight_names::WeightName;

@@ -1,6 +1,6 @@
 -- What a drill asks of a generated town (this project's rule): its settings, the rows of its three metrics, and between
 -- which nodes it goes.
-use Rattle.std.specs.Prelude.{ℕ, ◌+◌, ◌-◌, ◌*◌, ◌/◌, ◌%◌, ◌==◌, pos, Bool, zero, suc, List, [], ◌∷◌, ◌++◌, codes, if◌then◌else◌}
+use Rattle.std.specs.Prelude.{ℕ, ◌+◌, ◌-◌, ◌*◌, ◌/◌, ◌%◌, ◌==◌, pos, Bool, zero, suc, List, [], ◌∷◌, ◌++◌, codes, None, if◌then◌else◌}
 use Rattle.std.specs.List.{flat_map, range_with_len}
 use Rattle.geo_integer.specs.Position.{Position}
 use Rattle.town_text.specs.Town.{all_of, node_id}
@@ -11,9 +11,9 @@ abbrev pub settings_text : List ℕ
 settings_text =
     codes "name = \"car\"\nvehicle = \"motorcar\"\nu_turn_penalty = 200\n\n[speeds]\nprimary = 60\nresidential = 30\n\n[turn_penalty]\nleft = 30\nright = 10\n"
 
--- under metric k the row's speed from a node to the next one to the east is ten times k km/h, told in thousandths
+-- under metric k the row's speed from a node to the next one to the east is ten times k km/h, told in thousandths; no row has a rate
 abbrev pub speed_row : (n k x y : ℕ) → SpeedRow
-speed_row n k x y = record { from = pos (node_id n x y); to = pos (node_id n (x + 1) y); speed = 10000 * k }
+speed_row n k x y = record { from = pos (node_id n x y); to = pos (node_id n (x + 1) y); speed = 10000 * k; rate = None }
 
 -- at one node of five, and each metric at others
 abbrev pub has_row : (k x y : ℕ) → Bool

@@ -4,7 +4,7 @@ use Rattle.geo_integer.specs.Position.{Position}
 use Rattle.road_base.specs.declared.segments.Place.{Place}
 use Rattle.metric_make.specs.RoadMetric.{RoadMetric}
 use Rattle.road_walks.specs.Least.{HasNoRoute, IsLeastRoute}
-use Rattle.search_graph.specs.declared.costs.DurLen.{DurLen}
+use Rattle.search_graph.specs.declared.costs.WeightDurLen.{WeightDurLen}
 use Rattle.snap_index.specs.Snapped.{HasNoPlace, IsSnapped}
 use Rattle.snap_index.specs.declared.filters.Filter.{Filter}
 use Rattle.town_drill.specs.declared.trips.Trip.{Trip}
@@ -29,7 +29,7 @@ pub record IsArrival (road : RoadMetric) (from to : Position) (deciseconds : ℕ
   pub starts : StandsAt road from start
   pub stops : StandsAt road to stop
   pub walk : List ℕ
-  pub cost : DurLen
+  pub cost : WeightDurLen
   pub least : IsLeastRoute road start stop walk cost
   pub duration : deciseconds ≡ cost.duration
 

@@ -45,6 +45,7 @@ fn speed_row(n: u32, metric: u32, column: u32, row: u32) -> SpeedRow
         from: node_id(n, column, row),
         to: node_id(n, column + 1, row),
         speed: 10_000 * metric,
+        rate: None,
     }
 }
 

@@ -3,7 +3,7 @@
 ghost use Rattle.std.specs.Prelude.{◌≡◌, ◌≤◌, ◌<◌};
 ghost use Rattle.edge_graph.specs.NetworkView.{graph_of};
 ghost use Rattle.road_places.specs.Places.{IsPlaceOn};
-ghost use Rattle.search_graph.specs.Durations.{durlen_ops};
+ghost use Rattle.search_graph.specs.RoadCosts.{road_cost_ops};
 ghost use Rattle.search_graph.specs.Weighted.{AreSmall};
 ghost use Rattle.snap_index.specs.Ends.{all_ends};
 
@@ -17,7 +17,7 @@ use customized::{Roads, SERVER_LIMITS, Under};
 use plain_search::{SearchFault, least_from};
 use road_base::{Place, Point};
 use road_places::{start_at, target_at};
-use search_graph::{DurLen, Graph, Start, Target, Weights};
+use search_graph::{Graph, Start, Target, WeightDurLen, Weights};
 use snap_index::Grid;
 use std::alloc::{AllocError, Global};
 use std::process::Abort;
@@ -26,7 +26,7 @@ use std::thread::Threads;
 /// The town's number.
 const TOWN: u32 = 20;
 
-/// The most that a start or a target may ask of either part.
+/// The most that a start or a target may ask of each part.
 const UNIT: u64 = 1 << 32;
 
 // What a least walk from a start to a target costs, or None where there is none.
@@ -34,13 +34,14 @@ fn least_cost(
     rt: &impl Abort,
     alloc: Global,
     graph: &Graph,
-    weights: &Weights<DurLen>,
-    start: Start<DurLen>,
-    target: Target<DurLen>,
-) -> Result<Option<DurLen>, AllocError>
-    requires { AreSmall durlen_ops graph.now weights.now }
+    weights: &Weights<WeightDurLen>,
+    start: Start<WeightDurLen>,
+    target: Target<WeightDurLen>,
+) -> Result<Option<WeightDurLen>, AllocError>
+    requires { AreSmall road_cost_ops graph.now weights.now }
 {
     assert!(rt; start.vertex < graph.vertices() && target.vertex < graph.vertices());
+    assert!(rt; start.cost.weight <= UNIT && target.cost.weight <= UNIT);
     assert!(rt; start.cost.duration <= UNIT && start.cost.length <= UNIT);
     assert!(rt; target.cost.duration <= UNIT && target.cost.length <= UNIT);
     let found = match least_from(alloc, graph, weights, &[start], &[target]) {
@@ -61,7 +62,7 @@ fn cost_between(
     under: &Under<'_>,
     from: (Place, u32),
     to: (Place, u32),
-) -> Result<Option<DurLen>, AllocError> {
+) -> Result<Option<WeightDurLen>, AllocError> {
     let graph = under.frame().graph();
     let base = under.base();
     assert!(rt; from.0.at <= 1024 && from.1 < graph.vertices());
@@ -77,7 +78,7 @@ fn cost_between(
 }
 
 // The lesser of two costs.
-fn lesser(a: Option<DurLen>, b: Option<DurLen>) -> Option<DurLen> {
+fn lesser(a: Option<WeightDurLen>, b: Option<WeightDurLen>) -> Option<WeightDurLen> {
     match (a, b) {
         (Some(first), Some(second)) => Some(if second < first { second } else { first }),
         (Some(only), None) | (None, Some(only)) => Some(only),
@@ -92,7 +93,7 @@ fn cost_of(
     under: &Under<'_>,
     from: Place,
     to: Place,
-) -> Result<Option<DurLen>, AllocError> {
+) -> Result<Option<WeightDurLen>, AllocError> {
     assert!(rt; from.segment != to.segment);
     assert!(rt; from.segment < 1 << 30 && to.segment < 1 << 30);
     let (ahead, back) = (2 * from.segment, 2 * from.segment + 1);

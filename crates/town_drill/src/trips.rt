@@ -16,7 +16,7 @@ use std::alloc::{AllocError, Global};
 /// What comes of a trip.
 #[derive(Clone, Copy, Debug, PartialEq, Eq, Drop)]
 pub enum Trip {
-    /// A least route takes so many deciseconds.
+    /// A route of least weight takes so many deciseconds.
     Arrives(u64),
     /// No permitted walk leads there.
     NoRoute,

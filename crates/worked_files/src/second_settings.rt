@@ -18,6 +18,7 @@ version = 1\nsurfaces = {}|UnknownKey surfaces$\
 version = 1\nclasses = {}|UnknownKey classes$\
 version = 1\nexcludable = []|UnknownKey excludable$\
 version = 3\nmaxspeed = 1|UnknownKey maxspeed$\
+version = 3\nweight_name = 1|BadValue version$\
 version = \"2\"\nmaxspeed = true|UnknownKey maxspeed$\
 version = 2.0\nmaxspeed = true|UnknownKey maxspeed$\
 surfaces = 1\nmaxspeed = 1\nexcludable = 1\nclasses = 1|UnknownKey classes$\
@@ -27,6 +28,8 @@ version = 2\nmaxspeed = 1\nturn_penalty = { up = 1 }|UnknownKey turn_penalty.up"
 
 // Lines of settings of version 2, each with what reading them tells.
 const SECOND_SETTINGS: &[u8] = b"maxspeed = true|Ok$\
+weight_name = \"distance\"|Ok$\
+maxspeed = 1\nweight_name = \"Duration\"|BadValue weight_name$\
 maxspeed = false|Ok$\
 maxspeed = 1|BadValue maxspeed$\
 maxspeed = \"true\"|BadValue maxspeed$\

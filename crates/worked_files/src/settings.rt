@@ -33,6 +33,9 @@ name = 5\nvehicle = \"a\"\n[speeds]\n|BadValue name$\
 name = \"\"\nvehicle = \"a\"\n[speeds]\n|BadValue name$\
 version = 3\nname = 5\nvehicle = \"a\"\n[speeds]\n|BadValue version$\
 name = \"a\"\nvehicle = \"a\"\nspeeds = 3\n|BadValue speeds$\
+name = \"a\"\nweight_name = 1\n|Missing vehicle$\
+name = \"a\"\nvehicle = \"\"\nweight_name = 1\n[speeds]\n|BadValue vehicle$\
+name = \"a\"\nvehicle = \"a\"\nweight_name = 1\nspeeds = 3\n|BadValue weight_name$\
 name = \"a\"\nvehicle = \"a\"\n[speeds]\nresidential = 0\n|BadValue speeds.residential$\
 name = \"a\"\nvehicle = \"a\"\naccess_keys = 1\n[speeds]\nprimary = true\n|BadValue speeds.primary$\
 name = \"a\"\nvehicle = \"a\"\n[speeds]\nresidential = 0\nprimary = 1001\n|BadValue speeds.primary$\
@@ -55,6 +58,15 @@ fn the_first_fault_of_settings_is_told(rt: HostRuntime) -> Result<(), AllocError
 
 // Lines of settings that may be left out, each with what reading them among the others tells.
 const OPTIONAL_SETTINGS: &[u8] = b"|Ok$\
+weight_name = \"duration\"|Ok$\
+weight_name = \"distance\"|Ok$\
+weight_name = \"Distance\"|BadValue weight_name$\
+weight_name = \"routability\"|BadValue weight_name$\
+weight_name = \"\"|BadValue weight_name$\
+weight_name = true|BadValue weight_name$\
+weight_name = [\"distance\"]|BadValue weight_name$\
+access_keys = 1\nweight_name = \"speed\"|BadValue weight_name$\
+weight_names = 1\nweight_name = 1|UnknownKey weight_names$\
 access_keys = [\"motorcar\"]\ndenied = []|Ok$\
 access_keys = \"access\"|BadValue access_keys$\
 denied = 1\naccess_keys = [1]|BadValue access_keys$\
@@ -125,6 +137,38 @@ fn assert_answers(rt: &impl Abort, profile: &Profile) {
 fn each_setting_has_its_answer(rt: HostRuntime) -> Result<(), AllocError> {
     let profile = car(&rt, rt.alloc())?;
     assert_answers(&rt, &profile);
+    Ok(())
+}
+
+// Lines of settings, each with whether a road weighs its length, by the profile and by its copy.
+const WEIGHT_NAMES: &[u8] = b"|false false$\
+weight_name = \"duration\"|false false$\
+weight_name = \"distance\"|true true$\
+version = 1\nweight_name = \"distance\"|true true$\
+version = 2\nweight_name = \"duration\"|false false$\
+version = 2\nweight_name = \"distance\"|true true";
+
+// What the profile of settings with these lines, and its copy, say of the weight of a road.
+fn weight_told(rt: &impl Abort, alloc: Global, lines: &[u8]) -> Result<String, AllocError> {
+    match Profile::read(alloc, &settings_with(alloc, lines)?) {
+        Ok(read) => {
+            let copy = read.try_clone(alloc)?;
+            format!(in alloc; "{} {}", read.by_distance(), copy.by_distance())
+        }
+        Err(_fault) => panic!(rt; "good settings"),
+    }
+}
+
+#[test]
+fn roads_weigh_their_length_only_where_settings_say_so(rt: HostRuntime) -> Result<(), AllocError> {
+    for number in 0..count(WEIGHT_NAMES) {
+        let (lines, want) = row(&rt, WEIGHT_NAMES, number);
+        assert_eq!(rt;
+            weight_told(&rt, rt.alloc(), lines)?.as_bytes(),
+            want,
+            "row {number}"
+        );
+    }
     Ok(())
 }
 

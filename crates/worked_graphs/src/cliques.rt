@@ -1,7 +1,7 @@
 //! What walks cost inside cells, for given weights and for changed ones.
 
 ghost use Rattle.std.specs.Prelude.{◌≡◌, length, IfOk};
-ghost use Rattle.search_graph.specs.Durations.{durlen_ops};
+ghost use Rattle.search_graph.specs.RoadCosts.{road_cost_ops};
 ghost use Rattle.search_graph.specs.Weighted.{AreSmall};
 ghost use Rattle.cell_frame.specs.Cliqued.{AreExact};
 
@@ -9,7 +9,7 @@ use crate::drawings::{Drawing, STREETS, frame, row_told, weights};
 use cell_customize::{customize, customize_in_threads};
 use cell_frame::{Cliques, Frame};
 use cell_recustomize::{Recustomized, changed, recustomize, recustomize_in_threads};
-use search_graph::{DurLen, Weights};
+use search_graph::{WeightDurLen, Weights};
 use std::alloc::{AllocError, Global};
 use std::process::Abort;
 use std::test::Fail;
@@ -20,11 +20,11 @@ fn walks_told(
     rt: &impl Abort,
     alloc: Global,
     frame: &Frame,
-    cliques: &Cliques<DurLen>,
+    cliques: &Cliques<WeightDurLen>,
     level: u32,
     entry: u32,
 ) -> Result<String, AllocError>
-    requires { (w : _) × AreExact durlen_ops frame.now w cliques.now (length frame.now.cells.levels) }
+    requires { (w : _) × AreExact road_cost_ops frame.now w cliques.now (length frame.now.cells.levels) }
 {
     assert!(rt; level >= 1 && level <= frame.levels() && entry < frame.graph().vertices());
     let cell = frame.cell(level, entry);
@@ -40,28 +40,32 @@ fn turns_back(
     rt: &impl Abort,
     alloc: Global,
     frame: &Frame,
-    cliques: &Cliques<DurLen>,
+    cliques: &Cliques<WeightDurLen>,
 ) -> Result<(), AllocError>
-    requires { (w : _) × AreExact durlen_ops frame.now w cliques.now (length frame.now.cells.levels) }
+    requires { (w : _) × AreExact road_cost_ops frame.now w cliques.now (length frame.now.cells.levels) }
 {
     assert_eq!(rt;
         walks_told(rt, alloc, frame, cliques, 1, 1)?.as_str(),
-        "0/0 "
+        "0/0/0 "
     );
     assert_eq!(rt;
         walks_told(rt, alloc, frame, cliques, 2, 1)?.as_str(),
-        "299/1111 "
+        "299/299/1111 "
     );
     assert_eq!(rt;
         walks_told(rt, alloc, frame, cliques, 2, 2)?.as_str(),
-        "299/1111 "
+        "299/299/1111 "
     );
     Ok(())
 }
 
 // The cliques of the two streets.
-fn of_streets(rt: &impl Abort, alloc: Global, frame: &Frame) -> Result<Cliques<DurLen>, AllocError>
-    ensures { IfOk result (λ cliques. (w : _) × AreExact durlen_ops frame.now w cliques (length frame.now.cells.levels)) }
+fn of_streets(
+    rt: &impl Abort,
+    alloc: Global,
+    frame: &Frame,
+) -> Result<Cliques<WeightDurLen>, AllocError>
+    ensures { IfOk result (λ cliques. (w : _) × AreExact road_cost_ops frame.now w cliques (length frame.now.cells.levels)) }
 {
     let weights = weights(rt, alloc, frame.graph(), &STREETS)?;
     customize(alloc, frame, &weights)
@@ -72,8 +76,8 @@ fn of_streets_in_threads(
     rt: &(impl Abort + Threads + Sync),
     alloc: Global,
     frame: &Frame,
-) -> Result<Cliques<DurLen>, AllocError>
-    ensures { IfOk result (λ cliques. (w : _) × AreExact durlen_ops frame.now w cliques (length frame.now.cells.levels)) }
+) -> Result<Cliques<WeightDurLen>, AllocError>
+    ensures { IfOk result (λ cliques. (w : _) × AreExact road_cost_ops frame.now w cliques (length frame.now.cells.levels)) }
 {
     let weights = weights(rt, alloc, frame.graph(), &STREETS)?;
     customize_in_threads(rt, alloc, frame, &weights)
@@ -114,12 +118,12 @@ fn a_way_into_a_street_turns_back_at_its_end(rt: HostRuntime) -> Result<(), Fail
 fn brought_up(
     alloc: Global,
     frame: &Frame,
-    old: &Weights<DurLen>,
-    new: &Weights<DurLen>,
-) -> Result<Recustomized<DurLen>, AllocError>
-    requires old { AreSmall durlen_ops frame.now.graph old.now }
-    requires new { AreSmall durlen_ops frame.now.graph new.now }
-    ensures { IfOk result (λ made. AreExact durlen_ops frame.now new.now made.cliques (length frame.now.cells.levels)) }
+    old: &Weights<WeightDurLen>,
+    new: &Weights<WeightDurLen>,
+) -> Result<Recustomized<WeightDurLen>, AllocError>
+    requires old { AreSmall road_cost_ops frame.now.graph old.now }
+    requires new { AreSmall road_cost_ops frame.now.graph new.now }
+    ensures { IfOk result (λ made. AreExact road_cost_ops frame.now new.now made.cliques (length frame.now.cells.levels)) }
 {
     let cliques = customize(alloc, frame, old)?;
     let places = changed(alloc, frame.graph(), old, new)?;
@@ -133,12 +137,12 @@ fn brought_up_in_threads(
     rt: &(impl Threads + Sync),
     alloc: Global,
     frame: &Frame,
-    old: &Weights<DurLen>,
-    new: &Weights<DurLen>,
-) -> Result<Recustomized<DurLen>, AllocError>
-    requires old { AreSmall durlen_ops frame.now.graph old.now }
-    requires new { AreSmall durlen_ops frame.now.graph new.now }
-    ensures { IfOk result (λ made. AreExact durlen_ops frame.now new.now made.cliques (length frame.now.cells.levels)) }
+    old: &Weights<WeightDurLen>,
+    new: &Weights<WeightDurLen>,
+) -> Result<Recustomized<WeightDurLen>, AllocError>
+    requires old { AreSmall road_cost_ops frame.now.graph old.now }
+    requires new { AreSmall road_cost_ops frame.now.graph new.now }
+    ensures { IfOk result (λ made. AreExact road_cost_ops frame.now new.now made.cliques (length frame.now.cells.levels)) }
 {
     let cliques = customize(alloc, frame, old)?;
     let places = changed(alloc, frame.graph(), old, new)?;
@@ -153,8 +157,8 @@ fn after(
     alloc: Global,
     frame: &Frame,
     drawing: &Drawing,
-) -> Result<Recustomized<DurLen>, AllocError>
-    ensures { IfOk result (λ made. (w : _) × AreExact durlen_ops frame.now w made.cliques (length frame.now.cells.levels)) }
+) -> Result<Recustomized<WeightDurLen>, AllocError>
+    ensures { IfOk result (λ made. (w : _) × AreExact road_cost_ops frame.now w made.cliques (length frame.now.cells.levels)) }
 {
     let graph = frame.graph();
     let before = weights(rt, alloc, graph, &STREETS)?;
@@ -168,8 +172,8 @@ fn after_in_threads(
     alloc: Global,
     frame: &Frame,
     drawing: &Drawing,
-) -> Result<Recustomized<DurLen>, AllocError>
-    ensures { IfOk result (λ made. (w : _) × AreExact durlen_ops frame.now w made.cliques (length frame.now.cells.levels)) }
+) -> Result<Recustomized<WeightDurLen>, AllocError>
+    ensures { IfOk result (λ made. (w : _) × AreExact road_cost_ops frame.now w made.cliques (length frame.now.cells.levels)) }
 {
     let graph = frame.graph();
     let before = weights(rt, alloc, graph, &STREETS)?;
@@ -194,9 +198,9 @@ fn streets_told(
     rt: &impl Abort,
     alloc: Global,
     frame: &Frame,
-    made: &Recustomized<DurLen>,
+    made: &Recustomized<WeightDurLen>,
 ) -> Result<String, AllocError>
-    requires { (w : _) × AreExact durlen_ops frame.now w made.now.cliques (length frame.now.cells.levels) }
+    requires { (w : _) × AreExact road_cost_ops frame.now w made.now.cliques (length frame.now.cells.levels) }
 {
     let mut text = format!(in alloc; "{}: ", made.searches)?;
     text.push_str(walks_told(rt, alloc, frame, &made.cliques, 1, 1)?.as_str())?;
@@ -209,10 +213,10 @@ fn assert_told(
     rt: &impl Abort,
     alloc: Global,
     frame: &Frame,
-    made: &Recustomized<DurLen>,
+    made: &Recustomized<WeightDurLen>,
     wanted: &str,
 ) -> Result<(), AllocError>
-    requires { (w : _) × AreExact durlen_ops frame.now w made.now.cliques (length frame.now.cells.levels) }
+    requires { (w : _) × AreExact road_cost_ops frame.now w made.now.cliques (length frame.now.cells.levels) }
 {
     let told = streets_told(rt, alloc, frame, made)?;
     assert_eq!(rt; told.as_str(), wanted);
@@ -245,19 +249,19 @@ fn assert_after_in_threads(
 fn a_slower_way_touches_its_street(rt: HostRuntime) -> Result<(), Fail> {
     let alloc = rt.alloc();
     let frame = frame(&rt, alloc, &STREETS, &[2, 4])?;
-    Ok(assert_after(&rt, alloc, &frame, &SLOWER, "1: 399/1111 299/1111 ")?)
+    Ok(assert_after(&rt, alloc, &frame, &SLOWER, "1: 399/399/1111 299/299/1111 ")?)
 }
 
 #[test]
 fn a_dearer_turn_between_streets_touches_neither(rt: HostRuntime) -> Result<(), Fail> {
     let alloc = rt.alloc();
     let frame = frame(&rt, alloc, &STREETS, &[2, 4])?;
-    Ok(assert_after(&rt, alloc, &frame, &DEARER, "0: 299/1111 299/1111 ")?)
+    Ok(assert_after(&rt, alloc, &frame, &DEARER, "0: 299/299/1111 299/299/1111 ")?)
 }
 
 #[test]
 fn threads_find_what_one_thread_finds(rt: HostRuntime) -> Result<(), Fail> {
     let alloc = rt.alloc();
     let frame = frame(&rt, alloc, &STREETS, &[2, 4])?;
-    Ok(assert_after_in_threads(&rt, alloc, &frame, &SLOWER, "1: 399/1111 299/1111 ")?)
+    Ok(assert_after_in_threads(&rt, alloc, &frame, &SLOWER, "1: 399/399/1111 299/299/1111 ")?)
 }

@@ -2,27 +2,30 @@
 
 ghost use Rattle.std.specs.Prelude.{◌≤◌, length};
 
-use crate::drawings::{cost_told, pair, row_told};
+use crate::drawings::{cost_told, parts_of, row_told};
 use cost_lists::CostList;
-use search_graph::DurLen;
+use search_graph::WeightDurLen;
 use std::alloc::{AllocError, Global};
 use std::process::Abort;
 
-/// The last that are short, the first that aren't, and none.
+/// The last that are short, the first that aren't, one of the weight of its length, one of its own, and none.
 const COSTS: &str =
-    "7/12 - 2147483647/4294967295 2147483648/0 0/4294967296 18446744073709551615/18446744073709551615 0/0";
+    "7/7/12 - 2147483647/2147483647/2147483647 2147483648/2147483648/0 0/0/2147483648 12/7/12 9/7/12 18446744073709551615/18446744073709551615/18446744073709551615 0/0/0";
 
 // The cost that a text tells, None for `-`.
-fn cost(rt: &impl Abort, text: &str) -> Option<DurLen> {
+fn cost(rt: &impl Abort, text: &str) -> Option<WeightDurLen> {
     if text == "-" {
         return None;
     }
-    let (duration, length) = pair(rt, text, '/');
-    Some(DurLen { duration, length })
+    Some(parts_of(rt, text))
 }
 
 // Puts costs at the end of a list.
-fn push_all(rt: &impl Abort, list: &mut CostList<DurLen>, costs: &str) -> Result<(), AllocError> {
+fn push_all(
+    rt: &impl Abort,
+    list: &mut CostList<WeightDurLen>,
+    costs: &str,
+) -> Result<(), AllocError> {
     for text in costs.split(' ') {
         list.push(cost(rt, text))?;
     }
@@ -30,7 +33,7 @@ fn push_all(rt: &impl Abort, list: &mut CostList<DurLen>, costs: &str) -> Result
 }
 
 // How many costs there are, and which, each with a blank behind it.
-fn list_told(alloc: Global, list: &CostList<DurLen>) -> Result<String, AllocError> {
+fn list_told(alloc: Global, list: &CostList<WeightDurLen>) -> Result<String, AllocError> {
     let mut text = format!(in alloc; "{}: ", list.len())?;
     for i in 0..list.len() {
         text.push_str(cost_told(alloc, list.get(i))?.as_str())?;
@@ -39,7 +42,11 @@ fn list_told(alloc: Global, list: &CostList<DurLen>) -> Result<String, AllocErro
 }
 
 // A list of these costs.
-fn list_of(rt: &impl Abort, alloc: Global, costs: &str) -> Result<CostList<DurLen>, AllocError> {
+fn list_of(
+    rt: &impl Abort,
+    alloc: Global,
+    costs: &str,
+) -> Result<CostList<WeightDurLen>, AllocError> {
     let mut list = CostList::new(alloc);
     push_all(rt, &mut list, costs)?;
     Ok(list)
@@ -54,7 +61,7 @@ fn given_back(rt: &impl Abort, alloc: Global, costs: &str) -> Result<String, All
 #[test]
 fn a_list_gives_back_what_was_put_in(rt: HostRuntime) -> Result<(), AllocError> {
     let told = given_back(&rt, rt.alloc(), COSTS)?;
-    let want = format!(in rt.alloc(); "7: {COSTS} ")?;
+    let want = format!(in rt.alloc(); "9: {COSTS} ")?;
     assert_eq!(rt; told.as_str(), want.as_str());
     Ok(())
 }
@@ -62,7 +69,7 @@ fn a_list_gives_back_what_was_put_in(rt: HostRuntime) -> Result<(), AllocError> 
 // The places of a list from one on and below another.
 fn part_told(
     alloc: Global,
-    list: &CostList<DurLen>,
+    list: &CostList<WeightDurLen>,
     from: usize,
     to: usize,
 ) -> Result<String, AllocError>
@@ -78,11 +85,16 @@ fn part_told(
     Ok(text)
 }
 
-// Asserts what the places from 3 on are, in a list of seven.
-fn assert_parts(rt: &impl Abort, alloc: Global, list: &CostList<DurLen>) -> Result<(), AllocError> {
-    assert!(rt; list.len() == 7);
-    let want = "3: 2147483648/0 0/4294967296 18446744073709551615/18446744073709551615 ";
-    let told = part_told(alloc, list, 3, 6)?;
+// Asserts what the places from 3 on are, in a list of nine.
+fn assert_parts(
+    rt: &impl Abort,
+    alloc: Global,
+    list: &CostList<WeightDurLen>,
+) -> Result<(), AllocError> {
+    assert!(rt; list.len() == 9);
+    let want =
+        "5: 2147483648/2147483648/0 0/0/2147483648 12/7/12 9/7/12 18446744073709551615/18446744073709551615/18446744073709551615 ";
+    let told = part_told(alloc, list, 3, 8)?;
     assert_eq!(rt; told.as_str(), want);
     let none = part_told(alloc, list, 3, 3)?;
     assert_eq!(rt; none.as_str(), "none");
@@ -91,7 +103,7 @@ fn assert_parts(rt: &impl Abort, alloc: Global, list: &CostList<DurLen>) -> Resu
 
 #[test]
 fn a_row_has_its_places(rt: HostRuntime) -> Result<(), AllocError> {
-    let mut list = CostList::with_capacity(rt.alloc(), 7)?;
+    let mut list = CostList::with_capacity(rt.alloc(), 9)?;
     push_all(&rt, &mut list, COSTS)?;
     assert_parts(&rt, rt.alloc(), &list)
 }
@@ -100,22 +112,25 @@ fn a_row_has_its_places(rt: HostRuntime) -> Result<(), AllocError> {
 fn assert_put_together(
     rt: &impl Abort,
     alloc: Global,
-    one: &mut CostList<DurLen>,
-    other: &CostList<DurLen>,
+    one: &mut CostList<WeightDurLen>,
+    other: &CostList<WeightDurLen>,
 ) -> Result<(), AllocError> {
     one.append(other)?;
     let told = list_told(alloc, one)?;
-    assert_eq!(rt; told.as_str(), "3: 2147483648/1 - 1/4294967296 ");
+    assert_eq!(rt;
+        told.as_str(),
+        "3: 2147483648/2147483648/1 - 1/1/2147483648 "
+    );
     assert!(rt; one.len() == 3);
     one.set(0, cost(rt, "5/6"))?;
     let told = list_told(alloc, one)?;
-    assert_eq!(rt; told.as_str(), "3: 5/6 - 1/4294967296 ");
+    assert_eq!(rt; told.as_str(), "3: 5/5/6 - 1/1/2147483648 ");
     Ok(())
 }
 
 #[test]
 fn lists_are_put_together_and_changed(rt: HostRuntime) -> Result<(), AllocError> {
     let mut one = list_of(&rt, rt.alloc(), "2147483648/1")?;
-    let other = list_of(&rt, rt.alloc(), "- 1/4294967296")?;
+    let other = list_of(&rt, rt.alloc(), "- 1/2147483648")?;
     assert_put_together(&rt, rt.alloc(), &mut one, &other)
 }

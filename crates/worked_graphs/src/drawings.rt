@@ -3,7 +3,7 @@
 ghost use Rattle.std.specs.Prelude.{◌≡◌, ◌<◌, ◌≤◌, length, All, IfOk};
 ghost use Rattle.std.specs.Option.{ForSome};
 ghost use Rattle.std.specs.List.Sorted.{IsStrictlyIncreasing};
-ghost use Rattle.search_graph.specs.Durations.{durlen_ops};
+ghost use Rattle.search_graph.specs.RoadCosts.{road_cost_ops};
 ghost use Rattle.search_graph.specs.Weighted.{AreSmall, IsWeighting};
 ghost use Rattle.cell_frame.specs.Cliqued.{AreExact};
 
@@ -11,7 +11,7 @@ use cell_customize::customize;
 use cell_frame::{Cliques, Frame};
 use cell_partition::{Cells, PartitionError, cells};
 use cost_lists::{CostList, CostRow, FullCostList};
-use search_graph::{DurLen, Graph, GraphFault, Start, Target, Weights, small_weights};
+use search_graph::{Graph, GraphFault, Start, Target, WeightDurLen, Weights, small_weights};
 use std::alloc::{AllocError, Global};
 use std::process::Abort;
 use std::test::Fail;
@@ -23,7 +23,8 @@ pub struct Drawing {
     pub vertices: &'static str,
     /// each arc as `tail-head`
     pub arcs: &'static str,
-    /// what each vertex costs, as `duration/length`; `-` where it is closed
+    /// what each vertex costs, as `weight/duration/length`, or `duration/length` at the weight of the duration; `-` where it
+    /// is closed
     pub vertex_costs: &'static str,
     /// what each arc costs
     pub arc_costs: &'static str,
@@ -62,6 +63,22 @@ pub const RING_OF_TEN: Drawing = Drawing {
     arc_costs: "1/0 1/0 1/0 1/0 1/0 1/0 1/0 1/0 1/0 1/0 7/3 50/0 50/0",
 };
 
+/// Two ways from 0 to 3: by 1 quick and of much weight, by 2 slow and of little.
+pub const WEIGHED: Drawing = Drawing {
+    vertices: "0,0 1000,0 0,1000 1000,1000",
+    arcs: "0-1 0-2 1-3 2-3",
+    vertex_costs: "10/100 99/1111 1/199/1111 10/100",
+    arc_costs: "0/0 0/0 0/0 0/0",
+};
+
+/// `RING_OF_TEN` where some weigh what they are long, and some weigh what is neither their duration nor their length.
+pub const WEIGHED_RING: Drawing = Drawing {
+    vertices: "0,0 10,0 20,0 30,0 40,0 50,0 60,0 70,0 80,0 90,0",
+    arcs: "0-1 1-2 2-3 3-4 4-5 5-6 6-7 7-8 8-9 9-0 7-9 5-7 0-2",
+    vertex_costs: "10/1 3/10/1 1/10/1 10/1 0/10/0 10/1 25/10/1 10/1 - 1/10/1",
+    arc_costs: "1/0 0/1/0 1/0 1/0 1/0 0/7/0 1/0 1/0 1/0 1/0 2/7/3 30/50/0 7/50/9",
+};
+
 // The whole number that a text is.
 fn number(rt: &impl Abort, text: Option<&str>) -> u64 {
     let Some(Ok(number)) = text.map(|text| text.parse::<u64>()) else {
@@ -70,15 +87,10 @@ fn number(rt: &impl Abort, text: Option<&str>) -> u64 {
     number
 }
 
-/// The two numbers of an entry.
-pub fn pair(rt: &impl Abort, entry: &str, between: char) -> (u64, u64) {
+// The two numbers of an entry.
+fn pair(rt: &impl Abort, entry: &str, between: char) -> (u32, u32) {
     let mut parts = entry.split(between);
-    (number(rt, parts.next()), number(rt, parts.next()))
-}
-
-// The two numbers of an entry, as `u32`.
-fn short_pair(rt: &impl Abort, entry: &str, between: char) -> (u32, u32) {
-    let (one, other) = pair(rt, entry, between);
+    let (one, other) = (number(rt, parts.next()), number(rt, parts.next()));
     assert!(rt; one <= 4294967295 && other <= 4294967295);
     (one as u32, other as u32)
 }
@@ -92,27 +104,49 @@ fn pairs(
 ) -> Result<Vec<(u32, u32)>, AllocError> {
     let mut pairs = Vec::new(alloc);
     for entry in list.split(' ') {
-        pairs.push(short_pair(rt, entry, between))?;
+        pairs.push(pair(rt, entry, between))?;
     }
     Ok(pairs)
 }
 
+/// The cost `weight/duration/length`, or `duration/length` at the weight of the duration.
+pub fn parts_of(rt: &impl Abort, text: &str) -> WeightDurLen {
+    let mut parts = text.split('/');
+    let first = number(rt, parts.next());
+    let second = number(rt, parts.next());
+    match parts.next() {
+        None => WeightDurLen {
+            weight: first,
+            duration: first,
+            length: second,
+        },
+        Some(third) => WeightDurLen {
+            weight: first,
+            duration: second,
+            length: number(rt, Some(third)),
+        },
+    }
+}
+
 // The cost that a text tells, None for `-`.
-fn cost_of(rt: &impl Abort, text: &str) -> Option<DurLen>
-    ensures { ForSome result (λ cost. durlen_ops.units cost 1) }
+fn cost_of(rt: &impl Abort, text: &str) -> Option<WeightDurLen>
+    ensures { ForSome result (λ cost. road_cost_ops.units cost 1) }
 {
     if text == "-" {
         return None;
     }
-    let (duration, length) = short_pair(rt, text, '/');
-    Some(DurLen {
-        duration: duration as u64,
-        length: length as u64,
-    })
+    let cost = parts_of(rt, text);
+    assert!(rt; cost.weight <= 4294967295 && cost.duration <= 4294967295);
+    assert!(rt; cost.length <= 4294967295);
+    Some(cost)
 }
 
-fn vertex_costs(rt: &impl Abort, alloc: Global, list: &str) -> Result<CostList<DurLen>, AllocError>
-    ensures { IfOk result (All (λ o. ForSome o (λ x. durlen_ops.units x 1))) }
+fn vertex_costs(
+    rt: &impl Abort,
+    alloc: Global,
+    list: &str,
+) -> Result<CostList<WeightDurLen>, AllocError>
+    ensures { IfOk result (All (λ o. ForSome o (λ x. road_cost_ops.units x 1))) }
 {
     let mut costs = CostList::new(alloc);
     for text in list.split(' ') {
@@ -121,8 +155,12 @@ fn vertex_costs(rt: &impl Abort, alloc: Global, list: &str) -> Result<CostList<D
     Ok(costs)
 }
 
-fn arc_costs(rt: &impl Abort, alloc: Global, list: &str) -> Result<FullCostList<DurLen>, AllocError>
-    ensures { IfOk result (All (λ a. durlen_ops.units a 1)) }
+fn arc_costs(
+    rt: &impl Abort,
+    alloc: Global,
+    list: &str,
+) -> Result<FullCostList<WeightDurLen>, AllocError>
+    ensures { IfOk result (All (λ a. road_cost_ops.units a 1)) }
 {
     let mut costs = FullCostList::with_capacity(alloc, list.len())?;
     for text in list.split(' ') {
@@ -138,8 +176,8 @@ fn arc_costs(rt: &impl Abort, alloc: Global, list: &str) -> Result<FullCostList<
 fn assert_fitting(
     rt: &impl Abort,
     graph: &Graph,
-    vertex: &CostList<DurLen>,
-    arc: &FullCostList<DurLen>,
+    vertex: &CostList<WeightDurLen>,
+    arc: &FullCostList<WeightDurLen>,
 )
     ensures few { graph.now.vertices ≤ 1000 }
     ensures vertices { length vertex.now ≡ graph.now.vertices }
@@ -156,9 +194,9 @@ pub fn weights(
     alloc: Global,
     graph: &Graph,
     drawing: &Drawing,
-) -> Result<Weights<DurLen>, AllocError>
-    ensures small { IfOk result (AreSmall durlen_ops graph.now) }
-    ensures weighting { IfOk result (IsWeighting durlen_ops graph.now) }
+) -> Result<Weights<WeightDurLen>, AllocError>
+    ensures small { IfOk result (AreSmall road_cost_ops graph.now) }
+    ensures weighting { IfOk result (IsWeighting road_cost_ops graph.now) }
 {
     let vertex = vertex_costs(rt, alloc, drawing.vertex_costs)?;
     let arc = arc_costs(rt, alloc, drawing.arc_costs)?;
@@ -240,8 +278,8 @@ pub fn frame(
 }
 
 // The vertex and the cost of an entry `vertex:cost`.
-fn end(rt: &impl Abort, vertices: u32, entry: &str) -> (u32, DurLen)
-    ensures { (result.0 < vertices) × durlen_ops.units result.1 1 }
+fn end(rt: &impl Abort, vertices: u32, entry: &str) -> (u32, WeightDurLen)
+    ensures { (result.0 < vertices) × road_cost_ops.units result.1 1 }
 {
     let mut parts = entry.split(':');
     let vertex = number(rt, parts.next());
@@ -258,8 +296,8 @@ pub fn starts(
     alloc: Global,
     vertices: u32,
     list: &str,
-) -> Result<Vec<Start<DurLen>>, AllocError>
-    ensures { IfOk result (λ starts. All (λ s. (s.vertex < vertices) × durlen_ops.units s.cost 1) starts.items) }
+) -> Result<Vec<Start<WeightDurLen>>, AllocError>
+    ensures { IfOk result (λ starts. All (λ s. (s.vertex < vertices) × road_cost_ops.units s.cost 1) starts.items) }
 {
     let mut starts = Vec::new(alloc);
     for entry in list.split(' ') {
@@ -275,8 +313,8 @@ pub fn targets(
     alloc: Global,
     vertices: u32,
     list: &str,
-) -> Result<Vec<Target<DurLen>>, AllocError>
-    ensures { IfOk result (λ targets. All (λ t. (t.vertex < vertices) × durlen_ops.units t.cost 1) targets.items) }
+) -> Result<Vec<Target<WeightDurLen>>, AllocError>
+    ensures { IfOk result (λ targets. All (λ t. (t.vertex < vertices) × road_cost_ops.units t.cost 1) targets.items) }
 {
     let mut targets = Vec::new(alloc);
     for entry in list.split(' ') {
@@ -287,15 +325,15 @@ pub fn targets(
 }
 
 /// A cost and a blank behind it; `-` for none.
-pub fn cost_told(alloc: Global, cost: Option<DurLen>) -> Result<String, AllocError> {
+pub fn cost_told(alloc: Global, cost: Option<WeightDurLen>) -> Result<String, AllocError> {
     match cost {
-        Some(cost) => format!(in alloc; "{}/{} ", cost.duration, cost.length),
+        Some(cost) => format!(in alloc; "{}/{}/{} ", cost.weight, cost.duration, cost.length),
         None => String::from_str(alloc, "- "),
     }
 }
 
 /// Costs, each with a blank behind it.
-pub fn costs_told(alloc: Global, costs: &[Option<DurLen>]) -> Result<String, AllocError> {
+pub fn costs_told(alloc: Global, costs: &[Option<WeightDurLen>]) -> Result<String, AllocError> {
     let mut text = String::new(alloc);
     for cost in costs {
         text.push_str(cost_told(alloc, *cost)?.as_str())?;
@@ -304,7 +342,7 @@ pub fn costs_told(alloc: Global, costs: &[Option<DurLen>]) -> Result<String, All
 }
 
 /// The costs of a row, each with a blank behind it.
-pub fn row_told(alloc: Global, row: &CostRow<'_, DurLen>) -> Result<String, AllocError> {
+pub fn row_told(alloc: Global, row: &CostRow<'_, WeightDurLen>) -> Result<String, AllocError> {
     let mut text = String::new(alloc);
     for place in 0..row.len() {
         text.push_str(cost_told(alloc, row.get(place))?.as_str())?;
@@ -325,8 +363,8 @@ pub fn vertices_told(alloc: Global, vertices: &[u32]) -> Result<String, AllocErr
 #[derive(Drop)]
 pub struct Overlay {
     pub frame: Box<Frame>,
-    pub weights: Box<Weights<DurLen>>,
-    pub cliques: Box<Cliques<DurLen>>,
+    pub weights: Box<Weights<WeightDurLen>>,
+    pub cliques: Box<Cliques<WeightDurLen>>,
 }
 
 /// The graph of a drawing, in cells of at most so many vertices.
@@ -338,9 +376,9 @@ pub fn cut(
 ) -> Result<Overlay, Fail>
     requires ascending { IsStrictlyIncreasing limits.now }
     requires some { All (λ limit. 1 ≤ limit) limits.now }
-    ensures small { IfOk result (λ c. AreSmall durlen_ops c.frame.value.graph c.weights.value) }
-    ensures weighting { IfOk result (λ c. IsWeighting durlen_ops c.frame.value.graph c.weights.value) }
-    ensures exact { IfOk result (λ c. AreExact durlen_ops c.frame.value c.weights.value c.cliques.value (length c.frame.value.cells.levels)) }
+    ensures small { IfOk result (λ c. AreSmall road_cost_ops c.frame.value.graph c.weights.value) }
+    ensures weighting { IfOk result (λ c. IsWeighting road_cost_ops c.frame.value.graph c.weights.value) }
+    ensures exact { IfOk result (λ c. AreExact road_cost_ops c.frame.value c.weights.value c.cliques.value (length c.frame.value.cells.levels)) }
 {
     let frame = frame(rt, alloc, drawing, limits)?;
     let weights = Box::new(alloc, weights(rt, alloc, frame.graph(), drawing)?)?;

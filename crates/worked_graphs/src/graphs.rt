@@ -1,11 +1,11 @@
 //! Graphs by their arcs, indices of keys, and what vertices and arcs cost.
 
 ghost use Rattle.std.specs.Prelude.{◌≡◌, ◌^◌, ◌<◌, length, All};
-ghost use Rattle.search_graph.specs.Durations.{durlen_ops};
+ghost use Rattle.search_graph.specs.RoadCosts.{road_cost_ops};
 ghost use Rattle.search_graph.specs.Weighted.{IsWeighting};
 
 use crate::drawings::{Drawing, cost_told, graph, graph_of, vertices_told, weights};
-use search_graph::{ArcRow, Cost, DurLen, Graph, GraphFault, Weights, index_by};
+use search_graph::{ArcRow, Cost, Graph, GraphFault, WeightDurLen, Weights, index_by};
 use std::alloc::{AllocError, Global};
 use std::process::Abort;
 use std::test::Fail;
@@ -15,10 +15,15 @@ const ARCS: &str = "2-0 0-1 2-3 0-2 2-0";
 // The same arcs by tail.
 const BY_TAIL: &str = "0-1 0-2 2-0 2-3 2-0";
 
-fn cost(duration: u64, length: u64) -> DurLen
-    ensures { result ≡ record { duration = duration; length = length } }
+// A cost of the weight of its duration.
+fn cost(duration: u64, length: u64) -> WeightDurLen
+    ensures { result ≡ record { weight = duration; duration = duration; length = length } }
 {
-    DurLen { duration, length }
+    WeightDurLen {
+        weight: duration,
+        duration,
+        length,
+    }
 }
 
 // The numbers of a row, `-` where it is empty.
@@ -126,9 +131,9 @@ const TWO: Drawing = Drawing {
 fn vertex_costs_told(
     alloc: Global,
     graph: &Graph,
-    weights: &Weights<DurLen>,
+    weights: &Weights<WeightDurLen>,
 ) -> Result<String, AllocError>
-    requires { IsWeighting durlen_ops graph.now weights.now }
+    requires { IsWeighting road_cost_ops graph.now weights.now }
 {
     let mut text = String::new(alloc);
     for v in 0..graph.vertices() {
@@ -141,9 +146,9 @@ fn vertex_costs_told(
 fn arc_costs_told(
     alloc: Global,
     graph: &Graph,
-    weights: &Weights<DurLen>,
+    weights: &Weights<WeightDurLen>,
 ) -> Result<String, AllocError>
-    requires { IsWeighting durlen_ops graph.now weights.now }
+    requires { IsWeighting road_cost_ops graph.now weights.now }
 {
     let mut text = String::new(alloc);
     for i in 0..graph.arcs() {
@@ -156,9 +161,9 @@ fn arc_costs_told(
 fn weights_told(
     alloc: Global,
     graph: &Graph,
-    weights: &Weights<DurLen>,
+    weights: &Weights<WeightDurLen>,
 ) -> Result<String, AllocError>
-    requires { IsWeighting durlen_ops graph.now weights.now }
+    requires { IsWeighting road_cost_ops graph.now weights.now }
 {
     let mut text = vertex_costs_told(alloc, graph, weights)?;
     text.push_str("| ")?;
@@ -185,7 +190,7 @@ fn two_told(rt: &impl Abort, alloc: Global, graph: &Graph) -> Result<String, All
 fn weights_are_read_by_vertex_and_arc(rt: HostRuntime) -> Result<(), Fail> {
     let graph = graph(&rt, rt.alloc(), &TWO)?;
     let told = two_told(&rt, rt.alloc(), &graph)?;
-    assert_eq!(rt; told.as_str(), "7/2 - | 3/9 ");
+    assert_eq!(rt; told.as_str(), "7/7/2 - | 3/3/9 ");
     calculate(&rt);
     Ok(())
 }

@@ -1,17 +1,20 @@
 //! Cheapest walks in a plain graph.
 
-ghost use Rattle.search_graph.specs.Durations.{durlen_ops};
+ghost use Rattle.search_graph.specs.RoadCosts.{road_cost_ops};
 ghost use Rattle.search_graph.specs.Weighted.{IsWeighting};
 
-use crate::drawings::{SMALL, cost_told, graph, starts, targets, vertices_told, weights};
+use crate::drawings::{SMALL, WEIGHED, cost_told, graph, starts, targets, vertices_told, weights};
 use plain_search::{Found, SearchFault, least_from};
-use search_graph::{DurLen, Graph, Weights};
+use search_graph::{Graph, WeightDurLen, Weights};
 use std::alloc::{AllocError, Global};
 use std::process::Abort;
 use std::test::Fail;
 
 /// For each target its cost and its walk, `-` where there is none.
-pub fn walks_told(alloc: Global, found: &[Option<Found<DurLen>>]) -> Result<String, AllocError> {
+pub fn walks_told(
+    alloc: Global,
+    found: &[Option<Found<WeightDurLen>>],
+) -> Result<String, AllocError> {
     let mut text = String::new(alloc);
     for found in found {
         text.push_str(cost_told(alloc, found.as_ref().map(|found| found.cost))?.as_str())?;
@@ -28,11 +31,11 @@ pub fn least_told(
     rt: &impl Abort,
     alloc: Global,
     graph: &Graph,
-    weights: &Weights<DurLen>,
+    weights: &Weights<WeightDurLen>,
     from: &str,
     to: &str,
 ) -> Result<String, SearchFault>
-    requires { IsWeighting durlen_ops graph.now weights.now }
+    requires { IsWeighting road_cost_ops graph.now weights.now }
 {
     let starts = starts(rt, alloc, graph.vertices(), from)?;
     let targets = targets(rt, alloc, graph.vertices(), to)?;
@@ -47,9 +50,19 @@ fn cheapest_walks_in_a_small_graph(rt: HostRuntime) -> Result<(), Fail> {
     let weights = weights(&rt, alloc, &graph, &SMALL)?;
     let (from, to) = ("0:8/0 5:30/0 3:0/0", "4:2/2 0:3/3 2:1/0 3:0/0 6:0/0 5:0/0");
     let told = least_told(&rt, alloc, &graph, &weights, from, to)?;
-    let want = "32/11 5 4 | 48/90 0 1 2 0 | 20/52 0 1 2 | - | - | - | ";
+    let want = "32/32/11 5 4 | 48/48/90 0 1 2 0 | 20/20/52 0 1 2 | - | - | - | ";
     assert_eq!(rt; told.as_str(), want);
     let told = least_told(&rt, alloc, &graph, &weights, "0:8/0", "4:2/2")?;
-    assert_eq!(rt; told.as_str(), "44/86 0 1 2 4 | ");
+    assert_eq!(rt; told.as_str(), "44/44/86 0 1 2 4 | ");
+    Ok(())
+}
+
+#[test]
+fn less_weight_is_cheaper_though_it_lasts_longer(rt: HostRuntime) -> Result<(), Fail> {
+    let alloc = rt.alloc();
+    let graph = graph(&rt, alloc, &WEIGHED)?;
+    let weights = weights(&rt, alloc, &graph, &WEIGHED)?;
+    let told = least_told(&rt, alloc, &graph, &weights, "0:10/100", "3:0/0")?;
+    assert_eq!(rt; told.as_str(), "21/219/1311 0 2 3 | ");
     Ok(())
 }

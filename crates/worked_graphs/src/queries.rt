@@ -1,7 +1,7 @@
 //! Packed walks, by the cliques of a frame.
 
 ghost use Rattle.std.specs.Prelude.{◌≡◌, length};
-ghost use Rattle.search_graph.specs.Durations.{durlen_ops};
+ghost use Rattle.search_graph.specs.RoadCosts.{road_cost_ops};
 ghost use Rattle.search_graph.specs.Weighted.{AreSmall};
 ghost use Rattle.cell_frame.specs.Cliqued.{AreExact};
 
@@ -10,7 +10,7 @@ use crate::drawings::{
 };
 use overlay_query::{Hop, PackedFound, cheapest, least, least_costs};
 use plain_search::SearchFault;
-use search_graph::DurLen;
+use search_graph::WeightDurLen;
 use std::alloc::{AllocError, Global};
 use std::process::Abort;
 use std::test::Fail;
@@ -25,7 +25,7 @@ fn hop_told(alloc: Global, hop: &Hop) -> Result<String, AllocError> {
 }
 
 /// The cost of a packed walk, its first vertex and its hops.
-pub fn walk_told(alloc: Global, found: &PackedFound<DurLen>) -> Result<String, AllocError> {
+pub fn walk_told(alloc: Global, found: &PackedFound<WeightDurLen>) -> Result<String, AllocError> {
     let mut text = cost_told(alloc, Some(found.cost))?;
     text.push_str(format!(in alloc; "{} ", found.packed.first)?.as_str())?;
     for hop in found.packed.hops.as_slice() {
@@ -35,7 +35,10 @@ pub fn walk_told(alloc: Global, found: &PackedFound<DurLen>) -> Result<String, A
 }
 
 // The same; `-` for none.
-fn packed_told(alloc: Global, found: &Option<PackedFound<DurLen>>) -> Result<String, AllocError> {
+fn packed_told(
+    alloc: Global,
+    found: &Option<PackedFound<WeightDurLen>>,
+) -> Result<String, AllocError> {
     match found {
         Some(found) => walk_told(alloc, found),
         None => String::from_str(alloc, "- "),
@@ -43,7 +46,10 @@ fn packed_told(alloc: Global, found: &Option<PackedFound<DurLen>>) -> Result<Str
 }
 
 // Packed walks, each with a bar behind it.
-fn all_told(alloc: Global, all: &[Option<PackedFound<DurLen>>]) -> Result<String, AllocError> {
+fn all_told(
+    alloc: Global,
+    all: &[Option<PackedFound<WeightDurLen>>],
+) -> Result<String, AllocError> {
     let mut text = String::new(alloc);
     for found in all {
         text.push_str(packed_told(alloc, found)?.as_str())?;
@@ -60,8 +66,8 @@ fn least_told(
     from: &str,
     to: &str,
 ) -> Result<String, SearchFault>
-    requires small { AreSmall durlen_ops overlay.now.frame.value.graph overlay.now.weights.value }
-    requires exact { AreExact durlen_ops overlay.now.frame.value overlay.now.weights.value overlay.now.cliques.value (length overlay.now.frame.value.cells.levels) }
+    requires small { AreSmall road_cost_ops overlay.now.frame.value.graph overlay.now.weights.value }
+    requires exact { AreExact road_cost_ops overlay.now.frame.value overlay.now.weights.value overlay.now.cliques.value (length overlay.now.frame.value.cells.levels) }
 {
     let vertices = overlay.frame.graph().vertices();
     let starts = starts(rt, alloc, vertices, from)?;
@@ -85,8 +91,8 @@ fn cheapest_told(
     from: &str,
     to: &str,
 ) -> Result<String, SearchFault>
-    requires small { AreSmall durlen_ops overlay.now.frame.value.graph overlay.now.weights.value }
-    requires exact { AreExact durlen_ops overlay.now.frame.value overlay.now.weights.value overlay.now.cliques.value (length overlay.now.frame.value.cells.levels) }
+    requires small { AreSmall road_cost_ops overlay.now.frame.value.graph overlay.now.weights.value }
+    requires exact { AreExact road_cost_ops overlay.now.frame.value overlay.now.weights.value overlay.now.cliques.value (length overlay.now.frame.value.cells.levels) }
 {
     let vertices = overlay.frame.graph().vertices();
     let starts = starts(rt, alloc, vertices, from)?;
@@ -112,8 +118,8 @@ pub fn least_costs_told(
     from: &str,
     to: &str,
 ) -> Result<String, SearchFault>
-    requires small { AreSmall durlen_ops overlay.now.frame.value.graph overlay.now.weights.value }
-    requires exact { AreExact durlen_ops overlay.now.frame.value overlay.now.weights.value overlay.now.cliques.value (length overlay.now.frame.value.cells.levels) }
+    requires small { AreSmall road_cost_ops overlay.now.frame.value.graph overlay.now.weights.value }
+    requires exact { AreExact road_cost_ops overlay.now.frame.value overlay.now.weights.value overlay.now.cliques.value (length overlay.now.frame.value.cells.levels) }
 {
     let vertices = overlay.frame.graph().vertices();
     let starts = starts(rt, alloc, vertices, from)?;
@@ -137,8 +143,8 @@ fn cheapest_of_told(
     from: &str,
     to: &str,
 ) -> Result<String, SearchFault>
-    requires small { AreSmall durlen_ops overlay.now.frame.value.graph overlay.now.weights.value }
-    requires exact { AreExact durlen_ops overlay.now.frame.value overlay.now.weights.value overlay.now.cliques.value (length overlay.now.frame.value.cells.levels) }
+    requires small { AreSmall road_cost_ops overlay.now.frame.value.graph overlay.now.weights.value }
+    requires exact { AreExact road_cost_ops overlay.now.frame.value overlay.now.weights.value overlay.now.cliques.value (length overlay.now.frame.value.cells.levels) }
 {
     let packed = cheapest_told(rt, alloc, overlay, from, to)?;
     let costs = least_costs_told(rt, alloc, overlay, from, to)?;
@@ -149,7 +155,7 @@ fn cheapest_of_told(
 fn a_walk_leaps_over_the_street_without_a_terminal(rt: HostRuntime) -> Result<(), Fail> {
     let streets = cut(&rt, rt.alloc(), &STREETS, &[2])?;
     let told = least_told(&rt, rt.alloc(), &streets, "3:49/555", "2:50/556 3:50/556")?;
-    let want = "497/3333 3 1 0[1.0] 2 | 796/4444 3 1 0[1.0] 2 3 | ";
+    let want = "497/497/3333 3 1 0[1.0] 2 | 796/796/4444 3 1 0[1.0] 2 3 | ";
     assert_eq!(rt; told.as_str(), want);
     Ok(())
 }
@@ -158,7 +164,7 @@ fn a_walk_leaps_over_the_street_without_a_terminal(rt: HostRuntime) -> Result<()
 fn a_walk_has_a_shortcut_of_each_level(rt: HostRuntime) -> Result<(), Fail> {
     let ring = cut(&rt, rt.alloc(), &RING_OF_EIGHT, &[2, 4])?;
     let told = least_told(&rt, rt.alloc(), &ring, "1:5/0", "0:2/2")?;
-    assert_eq!(rt; told.as_str(), "91/13 1 2 3[1.1] 4 7[2.1] 0 | ");
+    assert_eq!(rt; told.as_str(), "91/91/13 1 2 3[1.1] 4 7[2.1] 0 | ");
     Ok(())
 }
 
@@ -166,7 +172,7 @@ fn a_walk_has_a_shortcut_of_each_level(rt: HostRuntime) -> Result<(), Fail> {
 fn the_second_of_two_targets_is_the_cheapest(rt: HostRuntime) -> Result<(), Fail> {
     let streets = cut(&rt, rt.alloc(), &STREETS, &[2])?;
     let told = cheapest_of_told(&rt, rt.alloc(), &streets, "3:49/555", "3:50/556 2:50/556")?;
-    let want = "497/3333 3 1 0[1.0] 2 of 796/4444 497/3333 ";
+    let want = "497/497/3333 3 1 0[1.0] 2 of 796/796/4444 497/497/3333 ";
     assert_eq!(rt; told.as_str(), want);
     Ok(())
 }
@@ -177,6 +183,6 @@ fn no_walk_leads_to_a_closed_vertex(rt: HostRuntime) -> Result<(), Fail> {
     let none = cheapest_of_told(&rt, rt.alloc(), &ring, "1:5/0", "6:2/2")?;
     assert_eq!(rt; none.as_str(), "- of - ");
     let one = cheapest_of_told(&rt, rt.alloc(), &ring, "1:5/0", "6:2/2 0:2/2 6:2/2")?;
-    assert_eq!(rt; one.as_str(), "91/13 1 2 3[1.1] 4 7 0 of - 91/13 - ");
+    assert_eq!(rt; one.as_str(), "91/91/13 1 2 3[1.1] 4 7 0 of - 91/91/13 - ");
     Ok(())
 }

@@ -2,15 +2,15 @@
 //! further.
 
 ghost use Rattle.std.specs.Prelude.{◌≡◌, IfOk};
-ghost use Rattle.search_graph.specs.Durations.{durlen_ops};
-ghost use Rattle.search_graph.specs.declared.costs.DurLen.{DurLen};
+ghost use Rattle.search_graph.specs.RoadCosts.{road_cost_ops};
+ghost use Rattle.search_graph.specs.declared.costs.WeightDurLen.{WeightDurLen};
 ghost use Rattle.step_search.specs.Paths.{AreStarts};
 ghost use Rattle.step_search.specs.UnderWay.{IsUnderWay};
 ghost use Rattle.worked_graphs.specs.RingOfSix.{AreOfRing, ring_of_six};
 
 use crate::drawings::{cost_told, vertices_told};
 use cost_lists::{CostList, CostRow};
-use search_graph::{ArcRow, DurLen, Start};
+use search_graph::{ArcRow, Start, WeightDurLen};
 use std::alloc::{AllocError, Global};
 use std::process::Abort;
 use step_search::{Hop, Reached, Search, Steps, least};
@@ -19,7 +19,7 @@ use step_search::{Hop, Reached, Search, Steps, least};
 #[derive(Drop)]
 struct Ring {
     heads: [u32; 6],
-    costs: CostList<DurLen>,
+    costs: CostList<WeightDurLen>,
 }
 
 fn new_ring(alloc: Global) -> Result<Ring, AllocError>
@@ -33,13 +33,18 @@ fn new_ring(alloc: Global) -> Result<Ring, AllocError>
     })
 }
 
-fn cost(duration: u64, length: u64) -> DurLen
-    ensures { result ≡ record { duration = duration; length = length } }
+// A cost of the weight of its duration.
+fn cost(duration: u64, length: u64) -> WeightDurLen
+    ensures { result ≡ record { weight = duration; duration = duration; length = length } }
 {
-    DurLen { duration, length }
+    WeightDurLen {
+        weight: duration,
+        duration,
+        length,
+    }
 }
 
-impl Steps<DurLen> for Ring {
+impl Steps<WeightDurLen> for Ring {
     ghost space = { λ s. ring_of_six };
 
     ghost ready = { λ s. AreOfRing s.heads s.costs };
@@ -53,7 +58,7 @@ impl Steps<DurLen> for Ring {
         ArcRow::range(0, 1)
     }
 
-    fn by_arc(&self, v: u32, i: u32) -> Option<Hop<DurLen>> {
+    fn by_arc(&self, v: u32, i: u32) -> Option<Hop<WeightDurLen>> {
         let _ = i;
         let head = (v + 1) % 6;
         if head == 3 {
@@ -69,7 +74,7 @@ impl Steps<DurLen> for Ring {
         &self.heads[v as usize..v as usize + 1]
     }
 
-    fn costs(&self, v: u32) -> CostRow<'_, DurLen> {
+    fn costs(&self, v: u32) -> CostRow<'_, WeightDurLen> {
         if v == 1 {
             return CostRow::empty();
         }
@@ -82,7 +87,10 @@ impl Steps<DurLen> for Ring {
 }
 
 // What each path costs, and its vertices, with a bar behind it; `-` for none.
-fn paths_told(alloc: Global, found: &[Option<Reached<DurLen>>]) -> Result<String, AllocError> {
+fn paths_told(
+    alloc: Global,
+    found: &[Option<Reached<WeightDurLen>>],
+) -> Result<String, AllocError> {
     let mut text = String::new(alloc);
     for path in found {
         text.push_str(cost_told(alloc, path.as_ref().map(|path| path.cost))?.as_str())?;
@@ -110,19 +118,19 @@ fn least_told(alloc: Global, ring: &Ring, targets: &[u32]) -> Result<String, All
 fn the_cheapest_way_round_leaves_out_the_closed_vertex(rt: HostRuntime) -> Result<(), AllocError> {
     let ring = new_ring(rt.alloc())?;
     let told = least_told(rt.alloc(), &ring, &[0, 3])?;
-    assert_eq!(rt; told.as_str(), "16/6 0 2 4 0 | - | ");
+    assert_eq!(rt; told.as_str(), "16/16/6 0 2 4 0 | - | ");
     Ok(())
 }
 
 // What a cheapest path from the starts costs, by a search that begins anew.
 fn cost_anew(
-    search: &mut Search<DurLen>,
+    search: &mut Search<WeightDurLen>,
     ring: &Ring,
-    starts: &[Start<DurLen>],
+    starts: &[Start<WeightDurLen>],
     until: u32,
-) -> Result<Option<DurLen>, AllocError>
+) -> Result<Option<WeightDurLen>, AllocError>
     requires ready { AreOfRing ring.now.heads ring.now.costs }
-    requires starts { AreStarts durlen_ops ring_of_six starts.now }
+    requires starts { AreStarts road_cost_ops ring_of_six starts.now }
 {
     search.restart(ring, starts)?;
     search.run(ring, starts, until)?;
@@ -132,7 +140,7 @@ fn cost_anew(
 // Asserts that a search knows nothing of the one before it.
 fn assert_forgetful(
     rt: &impl Abort,
-    search: &mut Search<DurLen>,
+    search: &mut Search<WeightDurLen>,
     ring: &Ring,
 ) -> Result<(), AllocError>
     requires { AreOfRing ring.now.heads ring.now.costs }
@@ -158,7 +166,11 @@ fn a_search_that_begins_anew_forgets_where_it_began(rt: HostRuntime) -> Result<(
 }
 
 // Asserts which of some targets is told.
-fn assert_first(rt: &impl Abort, search: &mut Search<DurLen>, ring: &Ring) -> Result<(), AllocError>
+fn assert_first(
+    rt: &impl Abort,
+    search: &mut Search<WeightDurLen>,
+    ring: &Ring,
+) -> Result<(), AllocError>
     requires { AreOfRing ring.now.heads ring.now.costs }
 {
     let starts = [Start {
@@ -183,13 +195,13 @@ fn the_nearer_of_two_targets_is_told_first(rt: HostRuntime) -> Result<(), AllocE
 // What a cheapest path to vertex 4 costs, by a search that ends as soon as it has a path that costs as little as is known.
 fn cost_by_known(
     rt: &impl Abort,
-    search: &mut Search<DurLen>,
+    search: &mut Search<WeightDurLen>,
     ring: &Ring,
-    starts: &[Start<DurLen>],
-) -> Result<Option<DurLen>, AllocError>
+    starts: &[Start<WeightDurLen>],
+) -> Result<Option<WeightDurLen>, AllocError>
     requires ready { AreOfRing ring.now.heads ring.now.costs }
-    requires starts { AreStarts durlen_ops ring_of_six starts.now }
-    requires under_way { IsUnderWay durlen_ops ring_of_six starts.now search.old }
+    requires starts { AreStarts road_cost_ops ring_of_six starts.now }
+    requires under_way { IsUnderWay road_cost_ops ring_of_six starts.now search.old }
 {
     search.run(ring, starts, 4)?;
     let Some(known) = search.cost(ring, starts, 4) else {

@@ -1,13 +1,13 @@
 //! Tables of least costs.
 
 ghost use Rattle.std.specs.Prelude.{◌≡◌, ◌<◌, length, All, IfOk};
-ghost use Rattle.search_graph.specs.Durations.{durlen_ops};
+ghost use Rattle.search_graph.specs.RoadCosts.{road_cost_ops};
 ghost use Rattle.search_graph.specs.Weighted.{AreSmall, IsWeighting};
 ghost use Rattle.cell_frame.specs.Cliqued.{AreExact};
 
 use crate::drawings::{Overlay, SMALL, cost_told, costs_told, cut, starts, targets};
 use plain_search::{Found, SearchFault, least_from};
-use search_graph::DurLen;
+use search_graph::WeightDurLen;
 use std::alloc::{AllocError, Global};
 use std::process::Abort;
 use std::test::Fail;
@@ -20,8 +20,8 @@ fn sources(
     alloc: Global,
     vertices: u32,
     lists: &str,
-) -> Result<Vec<Starts<DurLen>>, AllocError>
-    ensures { IfOk result (λ lists. All (All (λ s. (s.vertex < vertices) × durlen_ops.units s.cost 1)) lists.items) }
+) -> Result<Vec<Starts<WeightDurLen>>, AllocError>
+    ensures { IfOk result (λ lists. All (All (λ s. (s.vertex < vertices) × road_cost_ops.units s.cost 1)) lists.items) }
 {
     let mut sources = Vec::new(alloc);
     for list in lists.split(';') {
@@ -36,8 +36,8 @@ fn columns(
     alloc: Global,
     vertices: u32,
     lists: &str,
-) -> Result<Vec<Targets<DurLen>>, AllocError>
-    ensures { IfOk result (λ lists. All (All (λ t. (t.vertex < vertices) × durlen_ops.units t.cost 1)) lists.items) }
+) -> Result<Vec<Targets<WeightDurLen>>, AllocError>
+    ensures { IfOk result (λ lists. All (All (λ t. (t.vertex < vertices) × road_cost_ops.units t.cost 1)) lists.items) }
 {
     let mut columns = Vec::new(alloc);
     for list in lists.split(';') {
@@ -47,7 +47,7 @@ fn columns(
 }
 
 // The rows of a table, with a bar behind each.
-fn rows_told(alloc: Global, rows: &[Row<DurLen>]) -> Result<String, AllocError> {
+fn rows_told(alloc: Global, rows: &[Row<WeightDurLen>]) -> Result<String, AllocError> {
     let mut text = String::new(alloc);
     for row in rows {
         text.push_str(costs_told(alloc, row.as_slice())?.as_str())?;
@@ -64,8 +64,8 @@ fn table_told(
     from: &str,
     to: &str,
 ) -> Result<String, SearchFault>
-    requires small { AreSmall durlen_ops overlay.now.frame.value.graph overlay.now.weights.value }
-    requires exact { AreExact durlen_ops overlay.now.frame.value overlay.now.weights.value overlay.now.cliques.value (length overlay.now.frame.value.cells.levels) }
+    requires small { AreSmall road_cost_ops overlay.now.frame.value.graph overlay.now.weights.value }
+    requires exact { AreExact road_cost_ops overlay.now.frame.value overlay.now.weights.value overlay.now.cliques.value (length overlay.now.frame.value.cells.levels) }
 {
     let vertices = overlay.frame.graph().vertices();
     let sources = sources(rt, alloc, vertices, from)?;
@@ -88,12 +88,15 @@ fn least_costs_in_a_small_graph(rt: HostRuntime) -> Result<(), Fail> {
     let from = "0:8/0 5:30/0 3:0/0;0:8/0;3:0/0";
     let to = "4:2/2;0:3/3 2:1/0;3:0/0 6:0/0";
     let told = table_told(&rt, rt.alloc(), &small, from, to)?;
-    assert_eq!(rt; told.as_str(), "32/11 20/52 - | 44/86 20/52 - | - - - | ");
+    assert_eq!(rt;
+        told.as_str(),
+        "32/32/11 20/20/52 - | 44/44/86 20/20/52 - | - - - | "
+    );
     Ok(())
 }
 
 // What the walk to each target costs.
-fn found_told(alloc: Global, found: &[Option<Found<DurLen>>]) -> Result<String, AllocError> {
+fn found_told(alloc: Global, found: &[Option<Found<WeightDurLen>>]) -> Result<String, AllocError> {
     let mut text = String::new(alloc);
     for found in found {
         let cost = found.as_ref().map(|found| found.cost);
@@ -110,7 +113,7 @@ fn plain_row_told(
     from: &str,
     to: &str,
 ) -> Result<String, SearchFault>
-    requires { IsWeighting durlen_ops overlay.now.frame.value.graph overlay.now.weights.value }
+    requires { IsWeighting road_cost_ops overlay.now.frame.value.graph overlay.now.weights.value }
 {
     let graph = overlay.frame.graph();
     let starts = starts(rt, alloc, graph.vertices(), from)?;
@@ -127,7 +130,7 @@ fn plain_told(
     from: &str,
     to: &str,
 ) -> Result<String, SearchFault>
-    requires { IsWeighting durlen_ops overlay.now.frame.value.graph overlay.now.weights.value }
+    requires { IsWeighting road_cost_ops overlay.now.frame.value.graph overlay.now.weights.value }
 {
     let mut text = String::new(alloc);
     for start in from.split(' ') {

@@ -2,21 +2,21 @@
 
 ghost use Rattle.std.specs.Prelude.{◌≡◌, ◌≤◌, All, length};
 ghost use Rattle.std.specs.List.Sorted.{IsStrictlyIncreasing};
-ghost use Rattle.search_graph.specs.Durations.{durlen_ops};
+ghost use Rattle.search_graph.specs.RoadCosts.{road_cost_ops};
 ghost use Rattle.search_graph.specs.Weighted.{AreSmall, IsWeighting};
 ghost use Rattle.cell_frame.specs.Cliqued.{AreExact};
 ghost use Rattle.path_unpack.specs.Unpacked.{IsPackedWalk};
 
 use crate::drawings::{
-    Drawing, Overlay, RING_OF_EIGHT, RING_OF_TEN, SMALL, cost_told, cut, starts, targets,
-    vertices_told,
+    Drawing, Overlay, RING_OF_EIGHT, RING_OF_TEN, SMALL, WEIGHED, WEIGHED_RING, cost_told, cut,
+    starts, targets, vertices_told,
 };
 use crate::plain::{least_told, walks_told};
 use crate::queries::{least_costs_told, walk_told};
 use overlay_query::{PackedFound, cheapest};
 use path_unpack::{cheapest_from, least_from, unpack};
 use plain_search::{Found, SearchFault};
-use search_graph::DurLen;
+use search_graph::WeightDurLen;
 use std::alloc::{AllocError, Global};
 use std::process::Abort;
 use std::test::Fail;
@@ -26,12 +26,12 @@ use step_search::Search;
 fn opened_told(
     alloc: Global,
     overlay: &Overlay,
-    found: &PackedFound<DurLen>,
-    search: &mut Search<DurLen>,
+    found: &PackedFound<WeightDurLen>,
+    search: &mut Search<WeightDurLen>,
 ) -> Result<String, SearchFault>
-    requires small { AreSmall durlen_ops overlay.now.frame.value.graph overlay.now.weights.value }
-    requires exact { AreExact durlen_ops overlay.now.frame.value overlay.now.weights.value overlay.now.cliques.value (length overlay.now.frame.value.cells.levels) }
-    requires packed { IsPackedWalk durlen_ops overlay.now.frame.value overlay.now.weights.value found.now.packed.first found.now.packed.hops }
+    requires small { AreSmall road_cost_ops overlay.now.frame.value.graph overlay.now.weights.value }
+    requires exact { AreExact road_cost_ops overlay.now.frame.value overlay.now.weights.value overlay.now.cliques.value (length overlay.now.frame.value.cells.levels) }
+    requires packed { IsPackedWalk road_cost_ops overlay.now.frame.value overlay.now.weights.value found.now.packed.first found.now.packed.hops }
 {
     let walk = unpack(
         alloc,
@@ -54,8 +54,8 @@ fn unpacked_told(
     from: &str,
     to: &str,
 ) -> Result<String, SearchFault>
-    requires small { AreSmall durlen_ops overlay.now.frame.value.graph overlay.now.weights.value }
-    requires exact { AreExact durlen_ops overlay.now.frame.value overlay.now.weights.value overlay.now.cliques.value (length overlay.now.frame.value.cells.levels) }
+    requires small { AreSmall road_cost_ops overlay.now.frame.value.graph overlay.now.weights.value }
+    requires exact { AreExact road_cost_ops overlay.now.frame.value overlay.now.weights.value overlay.now.cliques.value (length overlay.now.frame.value.cells.levels) }
 {
     let vertices = overlay.frame.graph().vertices();
     let starts = starts(rt, alloc, vertices, from)?;
@@ -77,7 +77,7 @@ fn unpacked_told(
 }
 
 // What a walk costs, and the walk; `-` for none.
-fn found_told(alloc: Global, found: &Option<Found<DurLen>>) -> Result<String, AllocError> {
+fn found_told(alloc: Global, found: &Option<Found<WeightDurLen>>) -> Result<String, AllocError> {
     let Some(found) = found else {
         return String::from_str(alloc, "- ");
     };
@@ -94,8 +94,8 @@ fn cheapest_told(
     from: &str,
     to: &str,
 ) -> Result<String, SearchFault>
-    requires small { AreSmall durlen_ops overlay.now.frame.value.graph overlay.now.weights.value }
-    requires exact { AreExact durlen_ops overlay.now.frame.value overlay.now.weights.value overlay.now.cliques.value (length overlay.now.frame.value.cells.levels) }
+    requires small { AreSmall road_cost_ops overlay.now.frame.value.graph overlay.now.weights.value }
+    requires exact { AreExact road_cost_ops overlay.now.frame.value overlay.now.weights.value overlay.now.cliques.value (length overlay.now.frame.value.cells.levels) }
 {
     let vertices = overlay.frame.graph().vertices();
     let starts = starts(rt, alloc, vertices, from)?;
@@ -119,7 +119,7 @@ fn shortcuts_of_both_levels_are_opened(rt: HostRuntime) -> Result<(), Fail> {
     let told = unpacked_told(&rt, rt.alloc(), &ring, "4:5/0", "3:2/2")?;
     assert_eq!(rt;
         told.as_str(),
-        "91/12 4 5 9[2.1] 0 2[1.0] 3 is 4 5 6 7 9 0 1 2 3 "
+        "91/91/12 4 5 9[2.1] 0 2[1.0] 3 is 4 5 6 7 9 0 1 2 3 "
     );
     Ok(())
 }
@@ -130,7 +130,7 @@ fn the_nearer_of_two_targets_is_the_cheapest(rt: HostRuntime) -> Result<(), Fail
     let none = cheapest_told(&rt, rt.alloc(), &ring, "4:5/0", "8:2/2")?;
     assert_eq!(rt; none.as_str(), "- ");
     let near = cheapest_told(&rt, rt.alloc(), &ring, "4:5/0", "8:2/2 3:2/2 5:2/2")?;
-    assert_eq!(rt; near.as_str(), "8/2 4 5 ");
+    assert_eq!(rt; near.as_str(), "8/8/2 4 5 ");
     Ok(())
 }
 
@@ -142,8 +142,8 @@ fn overlay_told(
     from: &str,
     to: &str,
 ) -> Result<String, SearchFault>
-    requires small { AreSmall durlen_ops overlay.now.frame.value.graph overlay.now.weights.value }
-    requires exact { AreExact durlen_ops overlay.now.frame.value overlay.now.weights.value overlay.now.cliques.value (length overlay.now.frame.value.cells.levels) }
+    requires small { AreSmall road_cost_ops overlay.now.frame.value.graph overlay.now.weights.value }
+    requires exact { AreExact road_cost_ops overlay.now.frame.value overlay.now.weights.value overlay.now.cliques.value (length overlay.now.frame.value.cells.levels) }
 {
     let vertices = overlay.frame.graph().vertices();
     let starts = starts(rt, alloc, vertices, from)?;
@@ -167,9 +167,9 @@ fn compare(
     from: &str,
     to: &str,
 ) -> Result<(), SearchFault>
-    requires small { AreSmall durlen_ops overlay.now.frame.value.graph overlay.now.weights.value }
-    requires weighting { IsWeighting durlen_ops overlay.now.frame.value.graph overlay.now.weights.value }
-    requires exact { AreExact durlen_ops overlay.now.frame.value overlay.now.weights.value overlay.now.cliques.value (length overlay.now.frame.value.cells.levels) }
+    requires small { AreSmall road_cost_ops overlay.now.frame.value.graph overlay.now.weights.value }
+    requires weighting { IsWeighting road_cost_ops overlay.now.frame.value.graph overlay.now.weights.value }
+    requires exact { AreExact road_cost_ops overlay.now.frame.value overlay.now.weights.value overlay.now.cliques.value (length overlay.now.frame.value.cells.levels) }
 {
     let plain = least_told(rt, alloc, overlay.frame.graph(), &overlay.weights, from, to)?;
     let found = overlay_told(rt, alloc, overlay, from, to)?;
@@ -190,9 +190,9 @@ fn compare_vertices(
     from: u32,
     to: u32,
 ) -> Result<(), SearchFault>
-    requires small { AreSmall durlen_ops overlay.now.frame.value.graph overlay.now.weights.value }
-    requires weighting { IsWeighting durlen_ops overlay.now.frame.value.graph overlay.now.weights.value }
-    requires exact { AreExact durlen_ops overlay.now.frame.value overlay.now.weights.value overlay.now.cliques.value (length overlay.now.frame.value.cells.levels) }
+    requires small { AreSmall road_cost_ops overlay.now.frame.value.graph overlay.now.weights.value }
+    requires weighting { IsWeighting road_cost_ops overlay.now.frame.value.graph overlay.now.weights.value }
+    requires exact { AreExact road_cost_ops overlay.now.frame.value overlay.now.weights.value overlay.now.cliques.value (length overlay.now.frame.value.cells.levels) }
 {
     let from = format!(in alloc; "{from}:5/0")?;
     let to = format!(in alloc; "{to}:2/2")?;
@@ -201,9 +201,9 @@ fn compare_vertices(
 
 // The same from each vertex to each.
 fn compare_all(rt: &impl Abort, alloc: Global, overlay: &Overlay) -> Result<(), SearchFault>
-    requires small { AreSmall durlen_ops overlay.now.frame.value.graph overlay.now.weights.value }
-    requires weighting { IsWeighting durlen_ops overlay.now.frame.value.graph overlay.now.weights.value }
-    requires exact { AreExact durlen_ops overlay.now.frame.value overlay.now.weights.value overlay.now.cliques.value (length overlay.now.frame.value.cells.levels) }
+    requires small { AreSmall road_cost_ops overlay.now.frame.value.graph overlay.now.weights.value }
+    requires weighting { IsWeighting road_cost_ops overlay.now.frame.value.graph overlay.now.weights.value }
+    requires exact { AreExact road_cost_ops overlay.now.frame.value overlay.now.weights.value overlay.now.cliques.value (length overlay.now.frame.value.cells.levels) }
 {
     for from in 0..overlay.frame.graph().vertices() {
         for to in 0..overlay.frame.graph().vertices() {
@@ -231,5 +231,7 @@ fn compare_cut(
 fn walks_are_those_of_plain_search(rt: HostRuntime) -> Result<(), Fail> {
     compare_cut(&rt, rt.alloc(), &RING_OF_EIGHT, &[2, 4])?;
     compare_cut(&rt, rt.alloc(), &RING_OF_TEN, &[3, 5])?;
-    compare_cut(&rt, rt.alloc(), &SMALL, &[2, 4])
+    compare_cut(&rt, rt.alloc(), &SMALL, &[2, 4])?;
+    compare_cut(&rt, rt.alloc(), &WEIGHED, &[1, 2])?;
+    compare_cut(&rt, rt.alloc(), &WEIGHED_RING, &[3, 5])
 }

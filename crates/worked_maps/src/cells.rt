@@ -11,7 +11,7 @@ use crate::towns::{bend, network_of};
 use cell_frame::Cell;
 use customized::{Metric, Roads, Under};
 use metric_make::base;
-use search_graph::DurLen;
+use search_graph::WeightDurLen;
 use std::alloc::{AllocError, Global};
 use std::process::Abort;
 use std::thread::Threads;
@@ -154,9 +154,9 @@ fn assert_cut(
 fn a_way_into_a_street_turns_back_at_its_end(rt: HostRuntime) -> Result<(), AllocError> {
     let alloc = rt.alloc();
     let map = bend(alloc, "")?;
-    let one = "0 0 1 1 | 1 to 0 299/1111 | 2 to 3 299/1111 ; ";
+    let one = "0 0 1 1 | 1 to 0 299/299/1111 | 2 to 3 299/299/1111 ; ";
     assert_cut(&rt, alloc, map.as_str(), &[2], one)?;
-    let two = "0 0 1 1 | 1 to 0 299/1111 | 2 to 3 299/1111 ; 0 0 0 0 | to ; ";
+    let two = "0 0 1 1 | 1 to 0 299/299/1111 | 2 to 3 299/299/1111 ; 0 0 0 0 | to ; ";
     assert_cut(&rt, alloc, map.as_str(), &[2, 4], two)
 }
 
@@ -171,7 +171,7 @@ w20 Thighway=residential,oneway=yes Nn1,n2,n3,n4,n1";
 #[test]
 fn a_street_round_a_block_is_cut_by_its_segments(rt: HostRuntime) -> Result<(), AllocError> {
     let want =
-        "2 3 6 7 4 5 0 1 | 6 to 6 0/0 | to | 0 to 0 0/0 | to | 4 to 4 0/0 | to | 2 to 2 0/0 | to ; 1 1 3 3 2 2 0 0 | 6 to 6 0/0 | 0 to 0 0/0 | 4 to 4 0/0 | 2 to 2 0/0 ; ";
+        "2 3 6 7 4 5 0 1 | 6 to 6 0/0/0 | to | 0 to 0 0/0/0 | to | 4 to 4 0/0/0 | to | 2 to 2 0/0/0 | to ; 1 1 3 3 2 2 0 0 | 6 to 6 0/0/0 | 0 to 0 0/0/0 | 4 to 4 0/0/0 | 2 to 2 0/0/0 ; ";
     assert_cut(&rt, rt.alloc(), RING, &[1, 2], want)
 }
 

@@ -3,9 +3,10 @@
 ghost use Rattle.std.specs.Prelude.{◌≡◌, ◌*◌, length};
 
 use crate::towns::{bend, crossing, network_of};
+use control_port::base_of_files;
 use edge_graph::Network;
 use metric_make::{BaseMetric, base};
-use search_graph::DurLen;
+use search_graph::WeightDurLen;
 use std::alloc::{AllocError, Global};
 use std::process::Abort;
 
@@ -23,10 +24,10 @@ n3 x0 y0.001
 w1 Thighway=residential,oneway=yes Nn1,n2
 w2 Thighway=residential Nn2,n3";
 
-/// A cost as its duration and its length; `-` where there is none.
-pub fn cost_told(alloc: Global, cost: Option<DurLen>) -> Result<String, AllocError> {
+/// A cost as its weight, its duration and its length; `-` where there is none.
+pub fn cost_told(alloc: Global, cost: Option<WeightDurLen>) -> Result<String, AllocError> {
     match cost {
-        Some(cost) => format!(in alloc; "{}/{} ", cost.duration, cost.length),
+        Some(cost) => format!(in alloc; "{}/{}/{} ", cost.weight, cost.duration, cost.length),
         None => String::from_str(alloc, "- "),
     }
 }
@@ -75,7 +76,7 @@ fn assert_costs(
 // back at the ends.
 #[test]
 fn vertices_and_turns_have_their_costs(rt: HostRuntime) -> Result<(), AllocError> {
-    let want = "99/1111 - 1/1 1/1 | 0/0 200/0 200/0 ";
+    let want = "99/99/1111 - 1/1/1 1/1/1 | 0/0/0 200/200/0 200/200/0 ";
     assert_costs(&rt, rt.alloc(), STREETS, CAR, want)
 }
 
@@ -87,7 +88,8 @@ fn assert_at_crossing(
     turns: &str,
 ) -> Result<(), AllocError> {
     let map = crossing(alloc, at_middle, "")?;
-    let ways = "99/1111 99/1111 99/1111 99/1111 99/1111 99/1111 99/1111 99/1111 | ";
+    let ways =
+        "99/99/1111 99/99/1111 99/99/1111 99/99/1111 99/99/1111 99/99/1111 99/99/1111 99/99/1111 | ";
     let want = format!(in alloc; "{ways}{turns}")?;
     assert_costs(rt, alloc, map.as_str(), WITH_PENALTIES, want.as_str())
 }
@@ -98,12 +100,59 @@ fn assert_at_crossing(
 #[test]
 fn bends_and_signals_have_their_penalties(rt: HostRuntime) -> Result<(), AllocError> {
     let alloc = rt.alloc();
-    let plain = "7/0 0/0 50/0 200/0 200/0 50/0 7/0 0/0 200/0 0/0 50/0 7/0 7/0 0/0 50/0 230/0 ";
+    let plain =
+        "7/7/0 0/0/0 50/50/0 200/200/0 200/200/0 50/50/0 7/7/0 0/0/0 200/200/0 0/0/0 50/50/0 7/7/0 7/7/0 0/0/0 50/50/0 230/230/0 ";
     assert_at_crossing(&rt, alloc, "", plain)?;
     let signalled =
-        "37/0 30/0 80/0 200/0 200/0 80/0 37/0 30/0 200/0 30/0 80/0 37/0 37/0 30/0 80/0 230/0 ";
+        "37/37/0 30/30/0 80/80/0 200/200/0 200/200/0 80/80/0 37/37/0 30/30/0 200/200/0 30/30/0 80/80/0 37/37/0 37/37/0 30/30/0 80/80/0 230/230/0 ";
     assert_at_crossing(&rt, alloc, "highway=traffic_signals", signalled)?;
-    let bent = "99/1111 99/1111 99/1111 99/1111 | 0/0 200/0 200/0 0/0 ";
+    let bent = "99/99/1111 99/99/1111 99/99/1111 99/99/1111 | 0/0/0 200/200/0 200/200/0 0/0/0 ";
     let map = bend(alloc, "")?;
     assert_costs(&rt, alloc, map.as_str(), WITH_PENALTIES, bent)
+}
+
+const BY_DISTANCE: &str =
+    "name = \"car\"\nvehicle = \"motorcar\"\nweight_name = \"distance\"\nu_turn_penalty = 200\n[speeds]\nresidential = 40\n";
+
+// Asserts what the bend's vertices and turns cost under the rows of a speeds file and of a turns file.
+fn assert_under_rows(
+    rt: &impl Abort,
+    alloc: Global,
+    settings: &str,
+    (speeds, turns): (&str, &str),
+    want: &str,
+) -> Result<(), AllocError> {
+    let map = bend(alloc, "")?;
+    let Ok(network) = network_of(alloc, map.as_str(), settings) else {
+        return Err(AllocError);
+    };
+    let Ok(metric) = base_of_files(alloc, &network, speeds.as_bytes(), turns.as_bytes()) else {
+        return Err(AllocError);
+    };
+    let got = told(alloc, &network, &metric)?;
+    assert_eq!(rt; got.as_str(), want);
+    Ok(())
+}
+
+// 1111 decimetres at 2 metres a unit weigh 555.5, at a quarter of a metre as much as at 0.278; a rate opens nothing that a
+// speed of 0 closes.
+const RATES: &str = "1,2,40,2\n2,1,20,0.25\n2,3,0,1\n3,2,40,2\n3,2,40\n";
+
+// A row with a weight of its own, one without.
+const TURN_WEIGHTS: &str = "1,2,3,5,1.59\n3,2,1,7\n3,2,3,5,0\n2,3,2,6,-1\n";
+
+#[test]
+fn rows_have_rates_and_weights(rt: HostRuntime) -> Result<(), AllocError> {
+    let want = "555/99/1111 3996/199/1111 - 99/99/1111 | 15/50/0 200/200/0 0/60/0 70/70/0 ";
+    assert_under_rows(&rt, rt.alloc(), CAR, (RATES, TURN_WEIGHTS), want)
+}
+
+#[test]
+fn a_way_weighs_what_it_is_long_where_the_settings_say_so(
+    rt: HostRuntime,
+) -> Result<(), AllocError> {
+    let ways = "1111/99/1111 1111/99/1111 1111/99/1111 1111/99/1111 | 0/0/0 0/200/0 0/200/0 0/0/0 ";
+    assert_under_rows(&rt, rt.alloc(), BY_DISTANCE, ("", ""), ways)?;
+    let rows = "555/99/1111 3996/199/1111 - 1111/99/1111 | 15/50/0 0/200/0 0/60/0 0/70/0 ";
+    assert_under_rows(&rt, rt.alloc(), BY_DISTANCE, (RATES, TURN_WEIGHTS), rows)
 }

@@ -48,7 +48,7 @@ fn a_slower_way_is_one_search(rt: HostRuntime) -> Result<(), AllocError> {
     let alloc = rt.alloc();
     let remade = remade(&rt, alloc, &[2, 4], b"1,2,20\n", b"")?;
     assert_eq!(rt; remade.searches, 1);
-    let want = "0 0 1 1 | 1 to 0 399/1111 | 2 to 3 299/1111 ; 0 0 0 0 | to ; ";
+    let want = "0 0 1 1 | 1 to 0 399/399/1111 | 2 to 3 299/299/1111 ; 0 0 0 0 | to ; ";
     assert_told(&rt, alloc, &remade.metric, want)
 }
 
@@ -59,7 +59,7 @@ fn a_dearer_turn_at_the_bend_is_no_search(rt: HostRuntime) -> Result<(), AllocEr
     let remade = remade(&rt, alloc, &[2, 4], b"", b"1,2,3,10\n")?;
     assert_eq!(rt; remade.searches, 0);
     assert_eq!(rt; remade.metric.base(None).unmatched(), 0);
-    let want = "0 0 1 1 | 1 to 0 299/1111 | 2 to 3 299/1111 ; 0 0 0 0 | to ; ";
+    let want = "0 0 1 1 | 1 to 0 299/299/1111 | 2 to 3 299/299/1111 ; 0 0 0 0 | to ; ";
     assert_told(&rt, alloc, &remade.metric, want)
 }
 

@@ -32,3 +32,5 @@ mod steps;
 mod traffic;
 #[cfg(test)]
 mod typed;
+#[cfg(test)]
+mod weights;

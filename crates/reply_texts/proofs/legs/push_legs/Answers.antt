@@ -4,7 +4,7 @@ use Rattle.std.proofs.lemmas.List.Elements.{All-get_or}
 use Rattle.std.proofs.lemmas.Option.{slice_get-get_or}
 use Rattle.list_lemmas.proofs.Fronts.{map-map}
 use Rattle.road_base.specs.declared.segments.Place.{Place}
-use Rattle.search_graph.specs.Durations.{durlen_ops}
+use Rattle.search_graph.specs.RoadCosts.{road_cost_ops}
 use Rattle.json_text.specs.Values.{JsonValue}
 use Rattle.json_text.specs.Drafts.{with_value}
 use Rattle.json_text.specs.Wholes.{array_of}
@@ -85,7 +85,7 @@ push_leg-requires-clause-permitted c =
 
 pub push_leg-requires-clause-small : goal.push_leg-requires-clause-small
 push_leg-requires-clause-small c =
-    let small = λ (route : Route). durlen_ops.units route.cost (2 ^ 30) in
+    let small = λ (route : Route). road_cost_ops.units route.cost (2 ^ 30) in
     let route = c.index-routes-leg.result in
     subst small (sym c.index-routes-leg.is) (All-get_or small c.args.routes.now c.loop-leg.leg route (omega arith) c.requires.small)
 

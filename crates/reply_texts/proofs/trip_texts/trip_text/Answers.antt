@@ -7,7 +7,6 @@ use Rattle.reply_texts.specs.Legs.{route_value}
 use Rattle.refusal_texts.specs.Refusals.{code_member, version_member}
 use Rattle.reply_texts.specs.Replies.{trip_reply, waypoints_member}
 use Rattle.reply_texts.specs.RouteLegs.{legs_told}
-use Rattle.step_texts.specs.Steps.{driving_side}
 use Rattle.reply_texts.specs.Waypoints.{trip_waypoints_of}
 use Rattle.refusal_texts.specs.declared.reply_codes.Code.TheVariants as code
 use Rattle.reply_texts.proofs.trip_texts.trip_text.Goals as goal
@@ -17,7 +16,7 @@ unfolding trip_reply
 returns c =
     let request = c.args.request.now in
     let tour = c.args.tour.now in
-    let route = route_value c.args.telling.now (driving_side c.args.network.now.profile) (legs_told (road_of c.args.network.now c.args.base.now) tour.stops.now c.args.routes.now) in
+    let route = route_value c.args.telling.now c.args.network.now.profile (legs_told (road_of c.args.network.now c.args.base.now) tour.stops.now c.args.routes.now) in
     let waypoints = waypoints_member request.skip_waypoints (codes "waypoints") (trip_waypoints_of c.args.network.now.segments request.points tour.places.now tour.order.now) in
     rw (c.into_text.ensures.value, c.in_ok-end_object.ensures.ok, c.in_ok-push_trip_waypoints_member.ensures.ok, c.as_slice.ensures, c.in_ok-push_routes.ensures, c.in_ok-key.ensures.ok, c.in_ok-begin_version_reply.ensures.ok, c.new-json.ensures)
     (ap (λ (d : Draft). d.bytes)

@@ -1,8 +1,8 @@
 use Rattle.std.proofs.Common.{ℕ, ◌≡◌, ◌^◌, List, Option, All, ap, arith, length, subst, sym, ◌∙◌}
 use Rattle.std.specs.Prelude.{IfOk}
 use Rattle.std.specs.Option.{ForSome}
-use Rattle.search_graph.specs.declared.costs.DurLen.{DurLen}
-use Rattle.search_graph.specs.Durations.{durlen_ops}
+use Rattle.search_graph.specs.declared.costs.WeightDurLen.{WeightDurLen}
+use Rattle.search_graph.specs.RoadCosts.{road_cost_ops}
 use Rattle.trip_query.specs.Trips.{IsBestTrip, lists_of}
 use Rattle.road_trips.proofs.RowLemmas.{all-vectors, vectors-length}
 use Rattle.road_trips.proofs.orders.best_by.Goals as goal
@@ -23,13 +23,13 @@ best-requires-clause-square c =
     let vectors = c.deref.result.now in
     let same = ap lists_of c.deref.ensures.value ∙ c.in_ok-vectors.ensures in
     let as_many = vectors-length vectors rows same in
-    all-vectors (λ (row : List (Option DurLen)). length row ≡ length vectors) vectors rows same
-    (subst (λ (n : ℕ). All (λ (row : List (Option DurLen)). length row ≡ n) rows) (sym as_many) c.requires.square)
+    all-vectors (λ (row : List (Option WeightDurLen)). length row ≡ length vectors) vectors rows same
+    (subst (λ (n : ℕ). All (λ (row : List (Option WeightDurLen)). length row ≡ n) rows) (sym as_many) c.requires.square)
 
 pub best-requires-clause-units : goal.best-requires-clause-units
 best-requires-clause-units c =
-    all-vectors (All (λ (value : Option DurLen). ForSome value (λ d. durlen_ops.units d (2 ^ 27)))) c.deref.result.now c.args.rows.now (ap lists_of c.deref.ensures.value ∙ c.in_ok-vectors.ensures) c.requires.units
+    all-vectors (All (λ (value : Option WeightDurLen). ForSome value (λ d. road_cost_ops.units d (2 ^ 27)))) c.deref.result.now c.args.rows.now (ap lists_of c.deref.ensures.value ∙ c.in_ok-vectors.ensures) c.requires.units
 
 pub returns-clause-best : goal.returns-clause-best
 returns-clause-best c =
-    subst (λ (rows : List (List (Option DurLen))). IfOk c.best.result (IsBestTrip durlen_ops rows c.args.rule)) (ap lists_of c.deref.ensures.value ∙ c.in_ok-vectors.ensures) c.best.ensures.best
+    subst (λ (rows : List (List (Option WeightDurLen))). IfOk c.best.result (IsBestTrip road_cost_ops rows c.args.rule)) (ap lists_of c.deref.ensures.value ∙ c.in_ok-vectors.ensures) c.best.ensures.best

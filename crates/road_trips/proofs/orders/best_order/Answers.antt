@@ -2,8 +2,8 @@ use Rattle.std.proofs.Common.{ℕ, ◌≡◌, List, Option, All, ap, arith, leng
 use Rattle.std.specs.Prelude.{IfOk, IfSome}
 use Rattle.std.proofs.lemmas.Result.{IfOk-weaker}
 use Rattle.list_lemmas.proofs.Fronts.{all_zip-length}
-use Rattle.search_graph.specs.declared.costs.DurLen.{DurLen}
-use Rattle.search_graph.specs.Durations.{durlen_ops}
+use Rattle.search_graph.specs.declared.costs.WeightDurLen.{WeightDurLen}
+use Rattle.search_graph.specs.RoadCosts.{road_cost_ops}
 use Rattle.edge_graph.specs.NetworkView.{NetworkView}
 use Rattle.trip_query.specs.Trips.{IsBestTrip}
 use Rattle.road_walks.specs.Tables.{IsRowOf}
@@ -27,7 +27,7 @@ best_by-requires-clause-square g c =
     let places = c.args.places.now in
     let rows = c.in_ok-rows.rows in
     let as_many = all_zip-length (IsRowOf road places) places rows c.in_ok-rows.ensures.least in
-    subst (λ (n : ℕ). All (λ (row : List (Option DurLen)). length row ≡ n) rows) (sym as_many) (row-widths road places places rows c.in_ok-rows.ensures.least)
+    subst (λ (n : ℕ). All (λ (row : List (Option WeightDurLen)). length row ≡ n) rows) (sym as_many) (row-widths road places places rows c.in_ok-rows.ensures.least)
 
 pub best_by-requires-clause-units : goal.best_by-requires-clause-units
 best_by-requires-clause-units g c =
@@ -40,7 +40,7 @@ returns-clause-best g c =
     let road = c.args.under.now.road in
     let places = c.args.places.now in
     let rows = c.in_ok-rows.rows in
-    IfOk-weaker c.best_by.result (IsBestTrip durlen_ops rows c.args.rule) (IsBestThrough road places c.args.rule) (λ answer best. (rows, c.in_ok-rows.ensures.least, best)) c.best_by.ensures.best
+    IfOk-weaker c.best_by.result (IsBestTrip road_cost_ops rows c.args.rule) (IsBestThrough road places c.args.rule) (λ answer best. (rows, c.in_ok-rows.ensures.least, best)) c.best_by.ensures.best
 
 pub returns-clause-size : goal.returns-clause-size
 returns-clause-size g c =

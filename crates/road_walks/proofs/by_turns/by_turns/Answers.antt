@@ -2,7 +2,7 @@ use Rattle.std.proofs.Common.{List, subst, sym}
 use Rattle.road_places.specs.Ends.{AreAll}
 use Rattle.road_places.specs.Permitted.{IsStart, IsTarget}
 use Rattle.std.specs.List.{Contains}
-use Rattle.search_graph.specs.declared.costs.DurLen.{DurLen}
+use Rattle.search_graph.specs.declared.costs.WeightDurLen.{WeightDurLen}
 use Rattle.search_graph.specs.declared.ends.Start.{Start}
 use Rattle.search_graph.specs.declared.ends.Target.{Target}
 use Rattle.road_walks.specs.WalkLaws.{stands_for_walks}
@@ -11,10 +11,10 @@ use Rattle.road_walks.proofs.by_turns.by_turns.Goals as goal
 
 -- the starts and targets fit
 pub over_graph-requires-clause-starts : goal.over_graph-requires-clause-starts
-over_graph-requires-clause-starts c = λ s h. c.in_ok-starts.ensures.fit s (subst (λ (x : List (Start DurLen)). Contains x s) c.deref.ensures.value h)
+over_graph-requires-clause-starts c = λ s h. c.in_ok-starts.ensures.fit s (subst (λ (x : List (Start WeightDurLen)). Contains x s) c.deref.ensures.value h)
 
 pub over_graph-requires-clause-targets : goal.over_graph-requires-clause-targets
-over_graph-requires-clause-targets c = λ t h. c.in_ok-targets.ensures.fit t (subst (λ (x : List (Target DurLen)). Contains x t) c.deref-2.ensures.value h)
+over_graph-requires-clause-targets c = λ t h. c.in_ok-targets.ensures.fit t (subst (λ (x : List (Target WeightDurLen)). Contains x t) c.deref-2.ensures.value h)
 
 -- what the search found is the least walk
 pub returns-clause-least : goal.returns-clause-least
@@ -33,6 +33,6 @@ returns-clause-bound c =
     let road = c.args.under.now.road in
     rw c.route_of.ensures
     (cheapest-bound road c.deref.result.now c.deref-2.result.now c.base-small.ensures.small
-    (λ s h. (c.in_ok-starts.ensures.fit s (subst (λ (x : List (Start DurLen)). Contains x s) c.deref.ensures.value h)).1)
-    (λ t h. (c.in_ok-targets.ensures.fit t (subst (λ (x : List (Target DurLen)). Contains x t) c.deref-2.ensures.value h)).1)
+    (λ s h. (c.in_ok-starts.ensures.fit s (subst (λ (x : List (Start WeightDurLen)). Contains x s) c.deref.ensures.value h)).1)
+    (λ t h. (c.in_ok-targets.ensures.fit t (subst (λ (x : List (Target WeightDurLen)). Contains x t) c.deref-2.ensures.value h)).1)
     c.in_ok-found.found c.in_ok-found.ensures)

@@ -1,7 +1,7 @@
 use Rattle.std.proofs.Common.{◌<◌, ◌∙◌, length, ap, subst, sym}
-use Rattle.search_graph.specs.declared.costs.DurLen.{DurLen}
+use Rattle.search_graph.specs.declared.costs.WeightDurLen.{WeightDurLen}
 use Rattle.search_graph.specs.Digraph.{Digraph, Weighting}
-use Rattle.search_graph.specs.Durations.{durlen_ops}
+use Rattle.search_graph.specs.RoadCosts.{road_cost_ops}
 use Rattle.search_graph.specs.Weighted.{AreSmall}
 use Rattle.path_unpack.specs.Cheapest.{IsCheapest}
 use Rattle.cell_frame.specs.Borders.{Framed}
@@ -14,16 +14,16 @@ pub cheapest_from-requires-clause-weights : goal.cheapest_from-requires-clause-w
 cheapest_from-requires-clause-weights c =
     let graph = ap (λ (f : Framed). f.graph) c.frame-frame.ensures.value ∙ c.frame-frame.ensures.graph in
     let weights = c.weights.ensures.value ∙ c.base-base.ensures.value in
-    subst (λ (g : Digraph). AreSmall durlen_ops g c.weights.result.now) (sym graph)
-    (subst (λ (w : Weighting DurLen). AreSmall durlen_ops (graph_of c.args.under.now.road.network) w) (sym weights) c.base-base.ensures.small)
+    subst (λ (g : Digraph). AreSmall road_cost_ops g c.weights.result.now) (sym graph)
+    (subst (λ (w : Weighting WeightDurLen). AreSmall road_cost_ops (graph_of c.args.under.now.road.network) w) (sym weights) c.base-base.ensures.small)
 
 -- the cliques are exact for just these costs
 pub cheapest_from-requires-clause-cliques : goal.cheapest_from-requires-clause-cliques
 cheapest_from-requires-clause-cliques c =
     let cliques = c.cliques-cliques.result.now in
     let weights = c.weights.ensures.value ∙ c.base-base.ensures.value in
-    subst (λ (f : Framed). AreExact durlen_ops f c.weights.result.now cliques (length f.cells.levels)) (sym c.frame-frame.ensures.value)
-    (subst (λ (w : Weighting DurLen). AreExact durlen_ops c.args.under.now.frame w cliques (length c.args.under.now.frame.cells.levels)) (sym weights) c.cliques-cliques.ensures)
+    subst (λ (f : Framed). AreExact road_cost_ops f c.weights.result.now cliques (length f.cells.levels)) (sym c.frame-frame.ensures.value)
+    (subst (λ (w : Weighting WeightDurLen). AreExact road_cost_ops c.args.under.now.frame w cliques (length c.args.under.now.frame.cells.levels)) (sym weights) c.cliques-cliques.ensures)
 
 -- starts and targets are the frame's vertices
 pub cheapest_from-requires-clause-starts : goal.cheapest_from-requires-clause-starts
@@ -42,5 +42,5 @@ returns-in-Ok c =
     let road = c.args.under.now.road in
     let graph = ap (λ (f : Framed). f.graph) c.frame-frame.ensures.value ∙ c.frame-frame.ensures.graph in
     let weights = c.weights.ensures.value ∙ c.base-base.ensures.value in
-    subst (λ (g : Digraph). IsCheapest durlen_ops g road.weights c.args.starts.now c.args.targets.now c.in-Ok.found) graph
-    (subst (λ (w : Weighting DurLen). IsCheapest durlen_ops c.frame-frame.result.now.graph w c.args.starts.now c.args.targets.now c.in-Ok.found) weights c.in-Ok.ensures)
+    subst (λ (g : Digraph). IsCheapest road_cost_ops g road.weights c.args.starts.now c.args.targets.now c.in-Ok.found) graph
+    (subst (λ (w : Weighting WeightDurLen). IsCheapest road_cost_ops c.frame-frame.result.now.graph w c.args.starts.now c.args.targets.now c.in-Ok.found) weights c.in-Ok.ensures)

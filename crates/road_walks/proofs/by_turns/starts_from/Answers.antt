@@ -1,5 +1,5 @@
 use Rattle.std.proofs.Common.{◌<◌, length, arith, ap, subst, sym, ◌∙◌}
-use Rattle.search_graph.specs.declared.costs.DurLen.{DurLen}
+use Rattle.search_graph.specs.declared.costs.WeightDurLen.{WeightDurLen}
 use Rattle.search_graph.specs.Digraph.{Digraph, Weighting}
 use Rattle.metric_make.specs.MetricOf.{AreWithinUnit}
 use Rattle.road_places.specs.Ends.{AreAll}
@@ -14,12 +14,12 @@ starts-requires-clause-few c = omega (arith, c.requires.on_segment, segments-in-
 
 pub starts-requires-clause-in_range : goal.starts-requires-clause-in_range
 starts-requires-clause-in_range c =
-    let same = ap (λ (w : Weighting DurLen). length w.vertex) c.base-base.ensures.value in
+    let same = ap (λ (w : Weighting WeightDurLen). length w.vertex) c.base-base.ensures.value in
     omega (arith, same, c.requires.on_segment, segments-in-graph c.args.under.now.road.network, c.base-base.ensures.small.vertices)
 
 -- the starts are those under the road's own costs
 pub returns-clause-all : goal.returns-clause-all
-returns-clause-all c = subst (λ (w : Weighting DurLen). AreAll (IsStart w c.args.from) c.in_ok-starts.starts.items) c.base-base.ensures.value c.in_ok-starts.ensures
+returns-clause-all c = subst (λ (w : Weighting WeightDurLen). AreAll (IsStart w c.args.from) c.in_ok-starts.starts.items) c.base-base.ensures.value c.in_ok-starts.ensures
 
 pub returns-clause-fit : goal.returns-clause-fit
 returns-clause-fit c = λ s h.

@@ -1,5 +1,5 @@
 use Rattle.std.proofs.Common.{◌<◌, length, arith, ap, subst, sym, ◌∙◌}
-use Rattle.search_graph.specs.declared.costs.DurLen.{DurLen}
+use Rattle.search_graph.specs.declared.costs.WeightDurLen.{WeightDurLen}
 use Rattle.search_graph.specs.Digraph.{Digraph, Weighting}
 use Rattle.metric_make.specs.MetricOf.{AreWithinUnit}
 use Rattle.road_places.specs.Ends.{AreAll}
@@ -14,12 +14,12 @@ targets-requires-clause-few c = omega (arith, c.requires.on_segment, segments-in
 
 pub targets-requires-clause-in_range : goal.targets-requires-clause-in_range
 targets-requires-clause-in_range c =
-    let same = ap (λ (w : Weighting DurLen). length w.vertex) c.base-base.ensures.value in
+    let same = ap (λ (w : Weighting WeightDurLen). length w.vertex) c.base-base.ensures.value in
     omega (arith, same, c.requires.on_segment, segments-in-graph c.args.under.now.road.network, c.base-base.ensures.small.vertices)
 
 -- the targets are those under the road's own costs
 pub returns-clause-all : goal.returns-clause-all
-returns-clause-all c = subst (λ (w : Weighting DurLen). AreAll (IsTarget w c.args.to) c.in_ok-targets.targets.items) c.base-base.ensures.value c.in_ok-targets.ensures
+returns-clause-all c = subst (λ (w : Weighting WeightDurLen). AreAll (IsTarget w c.args.to) c.in_ok-targets.targets.items) c.base-base.ensures.value c.in_ok-targets.ensures
 
 pub returns-clause-fit : goal.returns-clause-fit
 returns-clause-fit c = λ t h.

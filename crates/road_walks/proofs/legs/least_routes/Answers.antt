@@ -6,7 +6,7 @@ use Rattle.std.proofs.lemmas.List.Elements.{All-push}
 use Rattle.list_lemmas.proofs.Fronts.{all_zip-length, all_zip-more}
 use Rattle.road_base.specs.declared.segments.Place.{Place}
 use Rattle.road_places.specs.declared.walks.Route.{Route}
-use Rattle.search_graph.specs.Durations.{durlen_ops}
+use Rattle.search_graph.specs.RoadCosts.{road_cost_ops}
 use Rattle.road_walks.specs.FirstFailure.{first_failure}
 use Rattle.road_walks.specs.Least.{most_units}
 use Rattle.road_walks.specs.Legs.{HasNoWalk, HasWalk, IsLeastAlong, legs_of}
@@ -35,7 +35,7 @@ loop-leg-preserved c =
     let nowhere : Place = record { segment = 0; at = 0 } in
     let leg : Place × Place = (get_or places k nowhere, get_or places (k + 1) nowhere) in
     let test = c.loop-leg-test.true in
-    let within = λ (route : Route). durlen_ops.units route.cost (most_units road.network) in
+    let within = λ (route : Route). road_cost_ops.units route.cost (most_units road.network) in
     record {
       least = subst (λ (routes : List Route). AllZip (IsLeastAlong road) (take (k + 1) (legs_of places)) routes) (sym c.in_ok-push-in-Some.ensures.items)
           (all_zip-more (IsLeastAlong road) (legs_of places) c.loop-leg.routes.items k leg c.in-Some.route c.loop-leg.invariant.least

@@ -1,6 +1,6 @@
 use Rattle.std.proofs.Common.{arith, subst, ap}
 use Rattle.std.specs.Prelude.{length}
-use Rattle.search_graph.specs.declared.costs.DurLen.{DurLen}
+use Rattle.search_graph.specs.declared.costs.WeightDurLen.{WeightDurLen}
 use Rattle.search_graph.specs.Digraph.{Weighting}
 use Rattle.road_places.specs.GraphLaws.{segments-in-graph}
 use Rattle.road_places.specs.Permitted.{IsAlongOne, IsByTurns}
@@ -15,7 +15,7 @@ along_one-requires-clause-few c = omega (arith, c.requires.from.on_segment, segm
 
 pub along_one-requires-clause-in_range : goal.along_one-requires-clause-in_range
 along_one-requires-clause-in_range c =
-    let same = ap (λ (w : Weighting DurLen). length w.vertex) c.base.ensures.value in
+    let same = ap (λ (w : Weighting WeightDurLen). length w.vertex) c.base.ensures.value in
     omega (arith, same, c.requires.from.on_segment, segments-in-graph c.args.under.now.road.network, c.base.ensures.small.vertices)
 
 pub returns-clause-least : goal.returns-clause-least
@@ -25,7 +25,7 @@ returns-clause-least c =
     let q = c.args.to in
     least-route road p q c.cheaper.result
     (least-cheaper (IsAlongOne road.weights p q) (IsByTurns road p q) c.in_ok-along.along c.in_ok-by_turns.by_turns c.cheaper.result c.cheaper.ensures
-    (subst (λ (w : Weighting DurLen). IsLeastOf (IsAlongOne w p q) c.in_ok-along.along) c.base.ensures.value c.in_ok-along.ensures.least)
+    (subst (λ (w : Weighting WeightDurLen). IsLeastOf (IsAlongOne w p q) c.in_ok-along.along) c.base.ensures.value c.in_ok-along.ensures.least)
     c.in_ok-by_turns.ensures.least)
 
 pub returns-clause-bound : goal.returns-clause-bound

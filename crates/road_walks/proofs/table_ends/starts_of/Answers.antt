@@ -4,7 +4,7 @@ use Rattle.std.specs.List.{AllZip}
 use Rattle.std.proofs.lemmas.Option.{slice_get-get_or}
 use Rattle.list_lemmas.proofs.Fronts.{all_zip-more}
 use Rattle.road_base.specs.declared.segments.Place.{Place}
-use Rattle.search_graph.specs.declared.costs.DurLen.{DurLen}
+use Rattle.search_graph.specs.declared.costs.WeightDurLen.{WeightDurLen}
 use Rattle.search_graph.specs.declared.ends.Start.{Start}
 use Rattle.road_walks.specs.TableParts.{AreStartsFrom}
 use Rattle.road_walks.proofs.table_ends.starts_of.Goals as goal
@@ -24,7 +24,7 @@ loop-source-preserved c =
     let nowhere : Place = record { segment = 0; at = 0 } in
     let k = c.loop-source.source-index in
     let place = get_or places k nowhere in
-    subst (λ (lists : List (List (Start DurLen))). AllZip (AreStartsFrom n w) (take (k + 1) places) lists) (sym c.in_ok-push.ensures.items)
+    subst (λ (lists : List (List (Start WeightDurLen))). AllZip (AreStartsFrom n w) (take (k + 1) places) lists) (sym c.in_ok-push.ensures.items)
     (all_zip-more (AreStartsFrom n w) places c.loop-source.lists.items k place c.of.result c.loop-source.invariant
     (slice_get-get_or places k nowhere c.loop-source-test.true)
-    (subst (λ (list : List (Start DurLen)). AreStartsFrom n w place list) (sym c.of.ensures) (record { all = c.in_ok-starts.ensures.all; fit = c.in_ok-starts.ensures.fit })))
+    (subst (λ (list : List (Start WeightDurLen)). AreStartsFrom n w place list) (sym c.of.ensures) (record { all = c.in_ok-starts.ensures.all; fit = c.in_ok-starts.ensures.fit })))

@@ -4,7 +4,7 @@ use Rattle.std.specs.List.{AllZip}
 use Rattle.std.proofs.lemmas.Option.{slice_get-get_or}
 use Rattle.list_lemmas.proofs.Fronts.{all_zip-more}
 use Rattle.road_base.specs.declared.segments.Place.{Place}
-use Rattle.search_graph.specs.declared.costs.DurLen.{DurLen}
+use Rattle.search_graph.specs.declared.costs.WeightDurLen.{WeightDurLen}
 use Rattle.search_graph.specs.declared.ends.Target.{Target}
 use Rattle.road_walks.specs.TableParts.{AreTargetsTo}
 use Rattle.road_walks.proofs.table_ends.targets_of.Goals as goal
@@ -24,7 +24,7 @@ loop-destination-preserved c =
     let nowhere : Place = record { segment = 0; at = 0 } in
     let k = c.loop-destination.destination-index in
     let place = get_or places k nowhere in
-    subst (λ (lists : List (List (Target DurLen))). AllZip (AreTargetsTo n w) (take (k + 1) places) lists) (sym c.in_ok-push.ensures.items)
+    subst (λ (lists : List (List (Target WeightDurLen))). AllZip (AreTargetsTo n w) (take (k + 1) places) lists) (sym c.in_ok-push.ensures.items)
     (all_zip-more (AreTargetsTo n w) places c.loop-destination.lists.items k place c.of.result c.loop-destination.invariant
     (slice_get-get_or places k nowhere c.loop-destination-test.true)
-    (subst (λ (list : List (Target DurLen)). AreTargetsTo n w place list) (sym c.of.ensures) (record { all = c.in_ok-targets.ensures.all; fit = c.in_ok-targets.ensures.fit })))
+    (subst (λ (list : List (Target WeightDurLen)). AreTargetsTo n w place list) (sym c.of.ensures) (record { all = c.in_ok-targets.ensures.all; fit = c.in_ok-targets.ensures.fit })))

@@ -6,7 +6,7 @@ use Rattle.std.proofs.lemmas.Option.{slice_get-get_or}
 use Rattle.list_lemmas.proofs.Fronts.{all_zip-length, all_zip-more}
 use Rattle.list_lemmas.proofs.Gets.{get_is}
 use Rattle.road_base.specs.declared.segments.Place.{Place}
-use Rattle.search_graph.specs.declared.costs.DurLen.{DurLen}
+use Rattle.search_graph.specs.declared.costs.WeightDurLen.{WeightDurLen}
 use Rattle.road_walks.specs.Least.{most_units}
 use Rattle.road_walks.specs.TableParts.{IsRowByTurns, IsRowWithin}
 use Rattle.road_walks.specs.Tables.{AreRowsOf, AreWithin}
@@ -36,7 +36,7 @@ row_of-requires-clause-by_turns g c =
     let k = c.loop-number.number in
     let as_many = all_zip-length (IsRowByTurns road destinations) places rows c.in_ok-by_turns.ensures in
     let place = get_or places k nowhere in
-    subst (λ (row : List (Option DurLen)). IsRowByTurns road destinations place row) (sym c.as_slice-values.ensures)
+    subst (λ (row : List (Option WeightDurLen)). IsRowByTurns road destinations place row) (sym c.as_slice-values.ensures)
     (all_zip-at (IsRowByTurns road destinations) places rows k place c.index.result.now c.in_ok-by_turns.ensures
     (slice_get-get_or places k nowhere c.loop-number-test.true)
     (get_is rows k c.index.result.now (omega (arith, as_many, c.loop-number-test.true)) (sym c.index.ensures)))
@@ -48,7 +48,7 @@ loop-number-preserved g c =
     let places = c.args.sources.now in
     let destinations = c.args.destinations.now in
     let k = c.loop-number.number in
-    subst (λ (rows : List (List (Option DurLen))). AllZip (IsRowWithin road destinations) (take (k + 1) places) rows) (sym c.in_ok-push.ensures.items)
+    subst (λ (rows : List (List (Option WeightDurLen))). AllZip (IsRowWithin road destinations) (take (k + 1) places) rows) (sym c.in_ok-push.ensures.items)
     (all_zip-more (IsRowWithin road destinations) places c.loop-number.rows.items k (get_or places k nowhere) c.in_ok-row.row c.loop-number.invariant
     (slice_get-get_or places k nowhere c.loop-number-test.true) c.in_ok-row.ensures)
 
@@ -59,7 +59,7 @@ returns-clause-least g c =
     let sources = c.args.sources.now in
     let destinations = c.args.destinations.now in
     let rows = c.loop-number.rows.items in
-    subst (λ (all : List (List (Option DurLen))). AreRowsOf road sources destinations all) (sym c.of.ensures)
+    subst (λ (all : List (List (Option WeightDurLen))). AreRowsOf road sources destinations all) (sym c.of.ensures)
     (rows-least road destinations sources rows
     (subst (λ (front : List Place). AllZip (IsRowWithin road destinations) front rows) (take_all c.loop-number.number sources c.loop-number-test.false) c.loop-number.invariant))
 

@@ -1,7 +1,7 @@
 use Rattle.std.proofs.Common.{◌<◌, ◌∙◌, length, ap, subst, sym}
-use Rattle.search_graph.specs.declared.costs.DurLen.{DurLen}
+use Rattle.search_graph.specs.declared.costs.WeightDurLen.{WeightDurLen}
 use Rattle.search_graph.specs.Digraph.{Digraph, Weighting}
-use Rattle.search_graph.specs.Durations.{durlen_ops}
+use Rattle.search_graph.specs.RoadCosts.{road_cost_ops}
 use Rattle.search_graph.specs.Weighted.{AreSmall}
 use Rattle.cell_frame.specs.Borders.{Framed}
 use Rattle.cell_frame.specs.Cliqued.{AreExact}
@@ -14,16 +14,16 @@ pub table-requires-clause-weights : goal.table-requires-clause-weights
 table-requires-clause-weights g c κs within =
     let graph = ap (λ (f : Framed). f.graph) c.frame-frame.ensures.value ∙ c.frame-frame.ensures.graph in
     let weights = c.weights.ensures.value ∙ c.base-base.ensures.value in
-    subst (λ (g : Digraph). AreSmall durlen_ops g c.weights.result.now) (sym graph)
-    (subst (λ (w : Weighting DurLen). AreSmall durlen_ops (graph_of c.args.under.now.road.network) w) (sym weights) c.base-base.ensures.small)
+    subst (λ (g : Digraph). AreSmall road_cost_ops g c.weights.result.now) (sym graph)
+    (subst (λ (w : Weighting WeightDurLen). AreSmall road_cost_ops (graph_of c.args.under.now.road.network) w) (sym weights) c.base-base.ensures.small)
 
 -- the cliques are exact for just these costs
 pub table-requires-clause-cliques : goal.table-requires-clause-cliques
 table-requires-clause-cliques g c κs within =
     let cliques = c.cliques-cliques.result.now in
     let weights = c.weights.ensures.value ∙ c.base-base.ensures.value in
-    subst (λ (f : Framed). AreExact durlen_ops f c.weights.result.now cliques (length f.cells.levels)) (sym c.frame-frame.ensures.value)
-    (subst (λ (w : Weighting DurLen). AreExact durlen_ops c.args.under.now.frame w cliques (length c.args.under.now.frame.cells.levels)) (sym weights) c.cliques-cliques.ensures)
+    subst (λ (f : Framed). AreExact road_cost_ops f c.weights.result.now cliques (length f.cells.levels)) (sym c.frame-frame.ensures.value)
+    (subst (λ (w : Weighting WeightDurLen). AreExact road_cost_ops c.args.under.now.frame w cliques (length c.args.under.now.frame.cells.levels)) (sym weights) c.cliques-cliques.ensures)
 
 -- starts and targets are the frame's vertices
 pub table-requires-clause-sources : goal.table-requires-clause-sources
@@ -44,5 +44,5 @@ returns-in-Ok g c =
     let weights = c.weights.ensures.value ∙ c.base-base.ensures.value in
     let sources = c.args.sources.now in
     let targets = c.args.targets.now in
-    subst (λ (g : Digraph). IsTable durlen_ops g road.weights sources targets c.in-Ok.rows.items) graph
-    (subst (λ (w : Weighting DurLen). IsTable durlen_ops c.frame-frame.result.now.graph w sources targets c.in-Ok.rows.items) weights c.in-Ok.ensures)
+    subst (λ (g : Digraph). IsTable road_cost_ops g road.weights sources targets c.in-Ok.rows.items) graph
+    (subst (λ (w : Weighting WeightDurLen). IsTable road_cost_ops c.frame-frame.result.now.graph w sources targets c.in-Ok.rows.items) weights c.in-Ok.ensures)

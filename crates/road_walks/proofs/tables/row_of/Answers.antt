@@ -3,7 +3,7 @@ use Rattle.std.proofs.Common.{◌+◌, List, Option, None, get_or, take, sym, su
 use Rattle.std.proofs.lemmas.Option.{slice_get-get_or}
 use Rattle.list_lemmas.proofs.Fronts.{all_zip-length, all_zip-more}
 use Rattle.road_base.specs.declared.segments.Place.{Place}
-use Rattle.search_graph.specs.declared.costs.DurLen.{DurLen}
+use Rattle.search_graph.specs.declared.costs.WeightDurLen.{WeightDurLen}
 use Rattle.road_walks.specs.TableParts.{IsCellByTurns, IsCellWithin, IsRowWithin}
 use Rattle.road_walks.proofs.TableLemmas.{all_zip-at}
 use Rattle.road_walks.proofs.tables.row_of.Goals as goal
@@ -37,6 +37,6 @@ loop-column-preserved c =
     let nowhere : Place = record { segment = 0; at = 0 } in
     let places = c.args.destinations.now in
     let k = c.loop-column.column in
-    subst (λ (row : List (Option DurLen)). IsRowWithin road (take (k + 1) places) c.args.from row) (sym c.in_ok-push.ensures.items)
+    subst (λ (row : List (Option WeightDurLen)). IsRowWithin road (take (k + 1) places) c.args.from row) (sym c.in_ok-push.ensures.items)
     (all_zip-more (IsCellWithin road c.args.from) places c.loop-column.values.items k (get_or places k nowhere) c.in_ok-value.value c.loop-column.invariant
     (slice_get-get_or places k nowhere c.loop-column-test.true) c.in_ok-value.ensures)

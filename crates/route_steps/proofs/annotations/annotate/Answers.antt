@@ -1,5 +1,5 @@
 use Rattle.std.proofs.Common.{List, subst, sym}
-use Rattle.search_graph.specs.declared.costs.DurLen.{DurLen}
+use Rattle.search_graph.specs.declared.costs.WeightDurLen.{WeightDurLen}
 use Rattle.road_places.specs.Paid.{AddUpTo}
 use Rattle.road_places.specs.PaidLaws.{permitted_adds_up}
 use Rattle.metric_make.specs.RoadMetric.{RoadMetric, road_of}
@@ -26,4 +26,4 @@ nodes_along-requires-clause-in_range c =
 pub returns-clause-sums : goal.returns-clause-sums
 returns-clause-sums c = λ d h.
     let road : RoadMetric = road_of c.args.network.now c.args.base.now in
-    subst (λ (paid : List DurLen). AddUpTo road c.args.walk.now paid d) (sym c.in_ok-paid.ensures) (permitted_adds_up road c.args.from c.args.to c.args.walk.now d h)
+    subst (λ (paid : List WeightDurLen). AddUpTo road c.args.walk.now paid d) (sym c.in_ok-paid.ensures) (permitted_adds_up road c.args.from c.args.to c.args.walk.now d h)

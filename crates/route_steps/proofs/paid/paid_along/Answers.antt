@@ -1,5 +1,5 @@
 use Rattle.std.proofs.Common.{◌-◌, ◌∷◌, ◌++◌, [], List, ap, drop, get_or, length, sym, take, ◌∙◌}
-use Rattle.search_graph.specs.declared.costs.DurLen.{DurLen}
+use Rattle.search_graph.specs.declared.costs.WeightDurLen.{WeightDurLen}
 use Rattle.road_places.specs.Paid.{paid_along}
 use Rattle.route_steps.proofs.ListLemmas.{ends-apart, none-there, one-there}
 use Rattle.route_steps.proofs.WalkLemmas.{entries-pushed}
@@ -17,7 +17,7 @@ returns c =
       | in-empty b ↦ rw b.paid-is (c.in_ok-paid.ensures.items ∙ sym (ap (paid_along w p q) (none-there walk b.in-empty.len_below)))
       | in-len1+in_ok-push-in-len1 b ↦
           rw b.paid-is
-          (b.in_ok-push-in-len1.ensures.items ∙ ap (λ (l : List DurLen). l ++ b.paid_between.result ∷ []) c.in_ok-paid.ensures.items ∙ ap (λ (x : DurLen). x ∷ []) b.paid_between.ensures
+          (b.in_ok-push-in-len1.ensures.items ∙ ap (λ (l : List WeightDurLen). l ++ b.paid_between.result ∷ []) c.in_ok-paid.ensures.items ∙ ap (λ (x : WeightDurLen). x ∷ []) b.paid_between.ensures
           ∙ sym (ap (paid_along w p q) (one-there walk b.in-len1.len_at_least b.in-len1.len_below)))
       | in-len2-up+in_ok-push-in-len2-up+in_ok-push_whole-in-len2-up+in_ok-push-in-len2-up-2 b ↦
           rw b.paid-is

@@ -1,6 +1,6 @@
 use Rattle.std.proofs.Common.{◌≡◌, ℕ, ◌<◌, length, arith, sym, ap, subst, ◌∙◌}
 use Rattle.std.specs.Option.{ForSome}
-use Rattle.search_graph.specs.Durations.{durlen_ops}
+use Rattle.search_graph.specs.RoadCosts.{road_cost_ops}
 use Rattle.search_graph.specs.Weighted.{AreSmall}
 use Rattle.edge_graph.specs.NetworkView.{graph_of}
 use Rattle.metric_make.specs.Avoiding.{avoided}
@@ -23,4 +23,4 @@ returns-clause-value c =
 pub returns-clause-small : goal.returns-clause-small
 returns-clause-small c =
     let own = c.self.inside in
-    subst (λ (m : Customized). AreSmall durlen_ops (graph_of m.road.network) (avoided m.road.network c.args.set m.road.weights)) c.self.view_is (small-under (customized_on own.roads own.bases.plain) c.args.set own.cliques c.self.invariant.exact)
+    subst (λ (m : Customized). AreSmall road_cost_ops (graph_of m.road.network) (avoided m.road.network c.args.set m.road.weights)) c.self.view_is (small-under (customized_on own.roads own.bases.plain) c.args.set own.cliques c.self.invariant.exact)

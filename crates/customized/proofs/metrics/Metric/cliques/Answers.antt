@@ -1,7 +1,7 @@
 use Rattle.std.proofs.Common.{◌≡◌, ℕ, ◌<◌, Some, length, sym, subst}
 use Rattle.std.specs.List.{slice_get}
 use Rattle.std.specs.Option.{ForSome}
-use Rattle.search_graph.specs.Durations.{durlen_ops}
+use Rattle.search_graph.specs.RoadCosts.{road_cost_ops}
 use Rattle.cell_frame.specs.Cliqued.{AreExact}
 use Rattle.metric_make.specs.Avoiding.{avoided}
 use Rattle.customized.specs.Exact.{Customized, customized_on}
@@ -20,4 +20,4 @@ returns c =
     let among : ForSome c.args.set (λ k. k < length own.roads.network.profile.excludable) = subst (λ (m : Customized). ForSome c.args.set (λ k. k < length m.road.network.profile.excludable)) (sym c.self.view_is) c.requires in
     let at = subst (λ (place : ℕ). slice_get own.cliques place ≡ Some c.get.result.now) c.place_of.ensures c.get.ensures in
     let exact = cliques-at (customized_on own.roads own.bases.plain) c.args.set own.cliques c.get.result.now among c.self.invariant.exact at in
-    subst (λ (m : Customized). AreExact durlen_ops m.frame (avoided m.road.network c.args.set m.road.weights) c.get.result.now (length m.frame.cells.levels)) c.self.view_is exact.exact
+    subst (λ (m : Customized). AreExact road_cost_ops m.frame (avoided m.road.network c.args.set m.road.weights) c.get.result.now (length m.frame.cells.levels)) c.self.view_is exact.exact

@@ -1,6 +1,6 @@
 use Rattle.std.proofs.Common.{◌≡◌, All, sym, ap, subst, ◌∙◌}
 use Rattle.search_graph.specs.Digraph.{Digraph}
-use Rattle.search_graph.specs.Durations.{durlen_ops}
+use Rattle.search_graph.specs.RoadCosts.{road_cost_ops}
 use Rattle.search_graph.specs.Weighted.{AreSmall}
 use Rattle.edge_graph.specs.NetworkView.{NetworkView, graph_of}
 use Rattle.cell_frame.specs.Borders.{Framed}
@@ -15,7 +15,7 @@ customize_all-requires-after_bounds g c κs within =
     let listed : c.deref.result.now ≡ weights_under network base.weights =
     c.deref.ensures.value ∙ c.in_ok-weights.ensures ∙ c.in_ok-bases.ensures.weights ∙ ap (λ (n : NetworkView). weights_under n base.weights) c.network.ensures in
     let graphs : c.frame.result.now.graph ≡ graph_of network = ap (λ (f : Framed). f.graph) c.frame.ensures.value ∙ c.frame.ensures.graph in
-    subst (λ (g : Digraph). All (AreSmall durlen_ops g) c.deref.result.now) (sym graphs) (subst (All (AreSmall durlen_ops (graph_of network))) (sym listed) (weights_under-small network base.weights c.known_small.ensures.network))
+    subst (λ (g : Digraph). All (AreSmall road_cost_ops g) c.deref.result.now) (sym graphs) (subst (All (AreSmall road_cost_ops (graph_of network))) (sym listed) (weights_under-small network base.weights c.known_small.ensures.network))
 
 -- the cliques are those of the metric's own frame and costs
 pub invariant_of-result : goal.invariant_of-result

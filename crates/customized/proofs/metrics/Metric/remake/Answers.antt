@@ -3,7 +3,7 @@
 use Rattle.std.proofs.Common.{◌≡◌, All, sym, ap, subst, ◌∙◌}
 use Rattle.std.specs.List.{AllZip}
 use Rattle.search_graph.specs.Digraph.{Digraph}
-use Rattle.search_graph.specs.Durations.{durlen_ops}
+use Rattle.search_graph.specs.RoadCosts.{road_cost_ops}
 use Rattle.search_graph.specs.Weighted.{AreSmall}
 use Rattle.edge_graph.specs.NetworkView.{NetworkView, graph_of}
 use Rattle.cell_frame.specs.Borders.{Framed}
@@ -40,7 +40,7 @@ recustomize_all-requires-clause-small g c κs within =
     ap (λ (f : Framed). f.graph) c.frame-frame.ensures.value ∙ c.frame-frame.ensures.graph ∙ sym (ap (λ (m : Customized). graph_of m.road.network) c.old.view_is) ∙ sym (ap (λ (r : RoadsView). graph_of r.network) c.in_ok-roads.ensures) in
     let listed : c.deref-3.result.now ≡ weights_under network c.args.base.weights =
     c.deref-3.ensures.value ∙ c.in_ok-after.ensures ∙ c.in_ok-bases.ensures.weights ∙ ap (λ (n : NetworkView). weights_under n c.args.base.weights) c.network.ensures in
-    subst (λ (h : Digraph). All (AreSmall durlen_ops h) c.deref-3.result.now) (sym graphs) (subst (All (AreSmall durlen_ops (graph_of network))) (sym listed) (weights_under-small network c.args.base.weights c.known_small.ensures.network))
+    subst (λ (h : Digraph). All (AreSmall road_cost_ops h) c.deref-3.result.now) (sym graphs) (subst (All (AreSmall road_cost_ops (graph_of network))) (sym listed) (weights_under-small network c.args.base.weights c.known_small.ensures.network))
 
 pub recustomize_all-requires-clause-kept : goal.recustomize_all-requires-clause-kept
 recustomize_all-requires-clause-kept g c κs within =
