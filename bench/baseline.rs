@@ -26,8 +26,27 @@ use std::io::{BufRead, Write};
 use std::ops::Deref;
 use std::sync::OnceLock;
 
-/// Deciseconds, then decimetres.
-type Cost = (u64, u64);
+/// A weight in tenths, then deciseconds, then decimetres.
+type Cost = (u64, u64, u64);
+
+/// What a turn costs.
+#[derive(Clone, Copy)]
+struct TurnCost {
+    weight: u32,
+    /// deciseconds
+    penalty: u32,
+}
+
+impl TurnCost {
+    /// By the settings or a row, the latter perhaps with a weight of its own.
+    fn of(by_distance: bool, penalty: u32, own: Option<u32>) -> TurnCost {
+        TurnCost { weight: own.unwrap_or(if by_distance { 0 } else { penalty }), penalty }
+    }
+
+    fn cost(self) -> Cost {
+        (self.weight.into(), self.penalty.into(), 0)
+    }
+}
 
 #[derive(Clone, Copy)]
 struct Point {
@@ -53,6 +72,7 @@ struct Settings {
     u_turn: u64,
     signal: u64,
     left_side: bool,
+    by_distance: bool,
     maxspeed: bool,
     /// Thousandths by the value of `surface`.
     surfaces: HashMap<String, u64>,
@@ -125,6 +145,7 @@ struct Network {
     applied: usize,
     ignored: usize,
     left_side: bool,
+    by_distance: bool,
     class_names: Vec<String>,
     excludable: Vec<Classes>,
     /// What the settings alone say, and what holds now.
@@ -140,7 +161,7 @@ struct Metric {
     /// By vertex; None where it is closed.
     costs: Vec<Option<Cost>>,
     /// By turn.
-    penalties: Vec<u32>,
+    turns: Vec<TurnCost>,
     /// The costs without the ways of each excludable set; not kept of the profile.
     avoiding: Vec<Vec<Option<Cost>>>,
 }
@@ -222,6 +243,7 @@ fn set(settings: &mut Settings, table: &str, key: &str, value: &str) {
             settings.penalties[place] = number();
         }
         (_, "vehicle") => settings.vehicle = text(),
+        (_, "weight_name") => settings.by_distance = text() == "distance",
         (_, "access_keys") => settings.access_keys = texts(),
         (_, "denied") => settings.denied = texts(),
         (_, "barriers") => settings.barriers = texts(),
@@ -538,7 +560,8 @@ fn build(mut map: Map, settings: &Settings) -> Network {
         }
     }
     map.locations = HashMap::new();
-    let costs = vertex_costs(&map.ways, &segments);
+    let (left_side, by_distance) = (settings.left_side, settings.by_distance);
+    let costs = vertex_costs(&map.ways, &segments, by_distance);
     let read = map.restrictions.len();
     let rules = applying(&mut map, &segments);
     let applied = rules.values().map(Vec::len).sum();
@@ -546,16 +569,16 @@ fn build(mut map: Map, settings: &Settings) -> Network {
     for v in (0..costs.len()).filter(|v| costs[*v].is_some()) {
         leaving.entry(ends(&segments, v).0).or_default().push(v as u32);
     }
-    let (first, turns, penalties) = turns_of(&map, settings, &segments, &leaving, &costs, &rules);
-    let (ignored, left_side) = (map.ignored + read - applied, settings.left_side);
+    let (first, turns, turn_costs) = turns_of(&map, settings, &segments, &leaving, &costs, &rules);
+    let ignored = map.ignored + read - applied;
     let class_names: Vec<String> = settings.classes.iter().map(|(name, _)| name.clone()).collect();
     let set = |names: &Vec<String>| set_of(&class_names, names).expect("names of classes");
     let excludable = settings.excludable.iter().map(set).collect();
-    let profile = Metric { number: 0, costs, penalties, avoiding: Vec::new() };
+    let profile = Metric { number: 0, costs, turns: turn_costs, avoiding: Vec::new() };
     let (metric, around) = (profile.clone(), OnceLock::new());
     let ways = map.ways;
     let mut network =
-        Network { ways, segments, leaving, first, turns, applied, ignored, left_side, class_names, excludable, profile, metric, around };
+        Network { ways, segments, leaving, first, turns, applied, ignored, left_side, by_distance, class_names, excludable, profile, metric, around };
     network.metric.avoiding = avoiding(&network, &network.metric.costs);
     network
 }
@@ -603,12 +626,12 @@ fn forbids(rule: &Restriction, from: i64, to: i64, back: bool) -> bool {
         }
 }
 
-fn vertex_costs(ways: &[Way], segments: &[Segment]) -> Vec<Option<Cost>> {
+fn vertex_costs(ways: &[Way], segments: &[Segment], by_distance: bool) -> Vec<Option<Cost>> {
     let mut costs = Vec::with_capacity(2 * segments.len());
     for segment in segments {
         let way = &ways[segment.way as usize];
         let length = distance(segment.from, segment.to).max(1);
-        let cost = ((length * 3600 / way.speed).max(1), length);
+        let cost = cost_at(way.speed, length, by_distance, None);
         costs.push(way.forward.then_some(cost));
         costs.push(way.backward.then_some(cost));
     }
@@ -622,10 +645,10 @@ fn turns_of(
     leaving: &HashMap<i64, Vec<u32>>,
     costs: &[Option<Cost>],
     rules: &HashMap<i64, Vec<Restriction>>,
-) -> (Vec<u32>, Vec<u32>, Vec<u32>) {
+) -> (Vec<u32>, Vec<u32>, Vec<TurnCost>) {
     let bearings: Vec<u32> = (0..costs.len()).map(|v| vertex_bearing(segments, v)).collect();
     let way_of = |v: u32| map.ways[segments[v as usize / 2].way as usize].id;
-    let (mut first, mut turns, mut penalties) = (vec![0], Vec::new(), Vec::new());
+    let (mut first, mut turns, mut turn_costs) = (vec![0], Vec::new(), Vec::new());
     for v in 0..costs.len() {
         let node = ends(segments, v).1;
         if let (Some(_), Some(list)) = (costs[v], leaving.get(&node)) {
@@ -647,12 +670,12 @@ fn turns_of(
                     0
                 };
                 turns.push(*e);
-                penalties.push((turn + signal) as u32);
+                turn_costs.push(TurnCost::of(settings.by_distance, (turn + signal) as u32, None));
             }
         }
         first.push(turns.len() as u32);
     }
-    (first, turns, penalties)
+    (first, turns, turn_costs)
 }
 
 /// The nodes where a vertex begins and ends.
@@ -699,15 +722,15 @@ fn snap(network: &View, p: Point, wish: Wish) -> Option<Place> {
 }
 
 fn plus(a: Cost, b: Cost) -> Cost {
-    (a.0 + b.0, a.1 + b.1)
+    (a.0 + b.0, a.1 + b.1, a.2 + b.2)
 }
 
 fn minus(a: Cost, b: Cost) -> Cost {
-    (a.0 - b.0, a.1 - b.1)
+    (a.0 - b.0, a.1 - b.1, a.2 - b.2)
 }
 
 fn before(cost: Cost, parts: u64) -> Cost {
-    (cost.0 * parts / 1024, cost.1 * parts / 1024)
+    (cost.0 * parts / 1024, cost.1 * parts / 1024, cost.2 * parts / 1024)
 }
 
 /// The open directions of a place's segment, with their costs and how far along each it lies.
@@ -741,7 +764,7 @@ impl Labels {
         Labels {
             stamp: 0,
             stamps: vec![0; vertices],
-            costs: vec![(0, 0); vertices],
+            costs: vec![(0, 0, 0); vertices],
             parents: vec![0; vertices],
             settled: vec![false; vertices],
             heap: BinaryHeap::new(),
@@ -763,8 +786,8 @@ impl Labels {
         for turn in network.first[v as usize]..network.first[v as usize + 1] {
             let e = network.turns[turn as usize];
             if let Some(cost) = network.costs[e as usize] {
-                let penalty = u64::from(network.metric.penalties[turn as usize]);
-                self.offer(e, plus(paid, plus((penalty, 0), cost)), v | mark);
+                let turned = network.metric.turns[turn as usize].cost();
+                self.offer(e, plus(paid, plus(turned, cost)), v | mark);
             }
         }
     }
@@ -922,19 +945,21 @@ impl Records<'_> {
     }
 }
 
-/// Thousandths of km/h.
+/// Thousandths of km/h, and of metres for a unit of weight.
 struct SpeedRow {
     from: i64,
     to: i64,
     speed: u64,
+    rate: Option<u64>,
 }
 
-/// Deciseconds.
+/// Deciseconds, and tenths of a unit of weight.
 struct TurnRow {
     from: i64,
     via: i64,
     to: i64,
     penalty: u32,
+    weight: Option<u32>,
 }
 
 /// The rows of a file, or the number of the first faulty one, from 1, and what is wrong with it.
@@ -956,14 +981,18 @@ fn speed_row(record: &Record) -> Result<SpeedRow, &'static str> {
     if negative {
         return Err("BadNumber");
     }
-    if record.ends.len() == 4 {
-        number_in(record.field(3), 0)?;
-    }
-    match speed {
-        0 => Ok(SpeedRow { from, to, speed: 0 }),
-        1..=1_000_000 => Ok(SpeedRow { from, to, speed: speed.max(1000) }),
-        _ => Err("OutOfRange"),
-    }
+    let rate = if record.ends.len() == 4 { Some(number_in(record.field(3), 3)?) } else { None };
+    let speed = match speed {
+        0 => 0,
+        1..=1_000_000 => speed.max(1000),
+        _ => return Err("OutOfRange"),
+    };
+    let rate = match rate {
+        None => None,
+        Some((false, rate @ 1..=1_000_000)) => Some(rate.max(278)),
+        Some(_) => return Err("OutOfRange"),
+    };
+    Ok(SpeedRow { from, to, speed, rate })
 }
 
 fn turn_row(record: &Record) -> Result<TurnRow, &'static str> {
@@ -971,12 +1000,17 @@ fn turn_row(record: &Record) -> Result<TurnRow, &'static str> {
         return Err("BadCount");
     }
     let (from, via, to) = (id_in(record.field(0))?, id_in(record.field(1))?, id_in(record.field(2))?);
-    let (negative, penalty) = number_in(record.field(3), 1)?;
-    if record.ends.len() == 5 {
-        number_in(record.field(4), 0)?;
-    }
-    match if negative { 0 } else { penalty } {
-        penalty @ 0..=1_000_000 => Ok(TurnRow { from, via, to, penalty: penalty as u32 }),
+    let penalty = number_in(record.field(3), 1)?;
+    let weight = if record.ends.len() == 5 { Some(number_in(record.field(4), 1)?) } else { None };
+    let penalty = tenths_of(penalty)?;
+    let weight = weight.map(tenths_of).transpose()?;
+    Ok(TurnRow { from, via, to, penalty, weight })
+}
+
+/// A number of tenths; one below 0 counts as 0.
+fn tenths_of((negative, tenths): (bool, u64)) -> Result<u32, &'static str> {
+    match if negative { 0 } else { tenths } {
+        tenths @ 0..=1_000_000 => Ok(tenths as u32),
         _ => Err("OutOfRange"),
     }
 }
@@ -1023,8 +1057,20 @@ fn take_traffic(network: &mut Network, applying: Applying, speeds: &str, turns: 
 /// How rows are applied.
 type Applying = fn(&Network, &[SpeedRow], &[TurnRow]) -> (Metric, usize);
 
-fn paid_at(speed: u64, length: u64) -> Option<Cost> {
-    (speed > 0).then(|| ((length * 3600 / speed).max(1), length))
+/// What so many decimetres cost at a speed above 0, and at a rate where there is one.
+fn cost_at(speed: u64, length: u64, by_distance: bool, rate: Option<u64>) -> Cost {
+    let duration = (length * 3600 / speed).max(1);
+    let weight = match rate {
+        Some(rate) => (length * 1000 / rate).max(1),
+        None if by_distance => length,
+        None => duration,
+    };
+    (weight, duration, length)
+}
+
+/// The same under a row, whose speed of 0 closes.
+fn cost_under(row: &SpeedRow, length: u64, by_distance: bool) -> Option<Cost> {
+    (row.speed > 0).then(|| cost_at(row.speed, length, by_distance, row.rate))
 }
 
 /// The metric of the settings and these rows, and how many rows match nothing.
@@ -1038,8 +1084,8 @@ fn metric_of(network: &Network, speeds: &[SpeedRow], turns: &[TurnRow]) -> (Metr
     for row in speeds {
         let mut matched = false;
         for v in between(row.from, row.to) {
-            let length = network.profile.costs[v].expect("permitted").1;
-            metric.costs[v] = paid_at(row.speed, length);
+            let length = network.profile.costs[v].expect("permitted").2;
+            metric.costs[v] = cost_under(row, length, network.by_distance);
             matched = true;
         }
         unmatched += usize::from(!matched);
@@ -1049,7 +1095,7 @@ fn metric_of(network: &Network, speeds: &[SpeedRow], turns: &[TurnRow]) -> (Metr
         for d in between(row.from, row.via) {
             for turn in network.first[d] as usize..network.first[d + 1] as usize {
                 if ends(&network.segments, network.turns[turn] as usize).1 == row.to {
-                    metric.penalties[turn] = row.penalty;
+                    metric.turns[turn] = TurnCost::of(network.by_distance, row.penalty, row.weight);
                     matched = true;
                 }
             }
@@ -1070,7 +1116,7 @@ fn mirrored_metric_of(network: &Network, speeds: &[SpeedRow], turns: &[TurnRow])
     for v in 0..metric.costs.len() {
         if let (Some(cost), Some(last)) = (metric.costs[v], last_speeds.get_mut(&ends(&network.segments, v))) {
             last.1 = true;
-            metric.costs[v] = paid_at(speeds[last.0].speed, cost.1);
+            metric.costs[v] = cost_under(&speeds[last.0], cost.2, network.by_distance);
         }
     }
     let mut last_turns: HashMap<(i64, i64, i64), (usize, bool)> = HashMap::new();
@@ -1083,7 +1129,8 @@ fn mirrored_metric_of(network: &Network, speeds: &[SpeedRow], turns: &[TurnRow])
             let head = ends(&network.segments, network.turns[turn] as usize).1;
             if let Some(last) = last_turns.get_mut(&(tail, via, head)) {
                 last.1 = true;
-                metric.penalties[turn] = turns[last.0].penalty;
+                let row = &turns[last.0];
+                metric.turns[turn] = TurnCost::of(network.by_distance, row.penalty, row.weight);
             }
         }
     }
@@ -1282,9 +1329,9 @@ fn table(network: &View, labels: &mut Labels, request: &Request) -> Result<Strin
     let ends: Vec<Place> = to.iter().map(|i| places[*i]).collect();
     let rows: Vec<Vec<Option<Cost>>> = from.iter().map(|i| row(network, labels, places[*i], &ends)).collect();
     let mut members = Vec::new();
-    for (name, asked, part) in [("durations", "duration", 0), ("distances", "distance", 1)] {
+    for (name, asked, part) in [("durations", "duration", 1), ("distances", "distance", 2)] {
         if request.annotations.iter().any(|annotation| annotation == asked) {
-            let cell = |cell: &Option<Cost>| cell.map_or(String::from("null"), |cost| tenths([cost.0, cost.1][part]));
+            let cell = |cell: &Option<Cost>| cell.map_or(String::from("null"), |cost| tenths([cost.0, cost.1, cost.2][part]));
             let row = |row: &Vec<Option<Cost>>| format!("[{}]", row.iter().map(cell).collect::<Vec<_>>().join(","));
             members.push(format!("\"{name}\":[{}]", rows.iter().map(row).collect::<Vec<_>>().join(",")));
         }
@@ -1348,7 +1395,7 @@ fn best_order(rows: &[Vec<Option<Cost>>], request: &Request) -> Option<Vec<usize
 
 /// What the legs of an order cost together, None where one is lacking.
 fn cost_along(rows: &[Vec<Option<Cost>>], order: &[usize], roundtrip: bool) -> Option<Cost> {
-    stops(order, roundtrip).zip(stops(order, roundtrip).skip(1)).try_fold((0, 0), |paid, (from, to)| Some(plus(paid, rows[from][to]?)))
+    stops(order, roundtrip).zip(stops(order, roundtrip).skip(1)).try_fold((0, 0, 0), |paid, (from, to)| Some(plus(paid, rows[from][to]?)))
 }
 
 /// Makes the next order of one, in the order of their numbers; false where it was the last.
@@ -1367,7 +1414,7 @@ fn waypoints_text(request: &Request, waypoints: Vec<String>) -> String {
 
 /// A route through places in their order; the number of the first leg that has no walk where one has none.
 fn route_text(network: &View, labels: &mut Labels, request: &Request, places: &[Place]) -> Result<String, usize> {
-    let (mut whole, mut legs, mut line) = ((0, 0), Vec::new(), Vec::new());
+    let (mut whole, mut legs, mut line) = ((0, 0, 0), Vec::new(), Vec::new());
     for (number, pair) in places.windows(2).enumerate() {
         let route = least_route(network, labels, pair[0], pair[1]).ok_or(number)?;
         whole = plus(whole, route.cost);
@@ -1383,7 +1430,8 @@ fn route_text(network: &View, labels: &mut Labels, request: &Request, places: &[
         _ => format!("\"geometry\":{},", line_text(&line, &request.geometries)),
     };
     let (totals, legs) = (totals(whole), legs.join(","));
-    Ok(format!("{{{totals},\"weight_name\":\"duration\",{geometry}\"legs\":[{legs}]}}"))
+    let weight_name = if network.by_distance { "distance" } else { "duration" };
+    Ok(format!("{{{totals},\"weight_name\":\"{weight_name}\",{geometry}\"legs\":[{legs}]}}"))
 }
 
 fn leg_text(network: &View, request: &Request, route: &Route, points: &[Point], from: Place, to: Place) -> String {
@@ -1394,8 +1442,9 @@ fn leg_text(network: &View, request: &Request, route: &Route, points: &[Point], 
     for name in ["distance", "duration", "weight", "nodes", "speed"] {
         if request.annotations.iter().any(|asked| asked == name || asked == "true") {
             let entries = match name {
-                "distance" => list(&|cost| cost.1),
-                "speed" => list(&|cost| (10 * cost.1).checked_div(cost.0).unwrap_or(0)),
+                "distance" => list(&|cost| cost.2),
+                "duration" => list(&|cost| cost.1),
+                "speed" => list(&|cost| (10 * cost.2).checked_div(cost.1).unwrap_or(0)),
                 "nodes" => {
                     let first = ends(&network.segments, route.walk[0] as usize).0;
                     let heads = route.walk.iter().map(|v| ends(&network.segments, *v as usize).1);
@@ -1421,21 +1470,21 @@ fn steps_text(network: &Network, request: &Request, walk: &[u32], paid: &[Cost],
     let mut told = String::new();
     for (number, (from, kind, modifier)) in begins.iter().enumerate() {
         let (from, to) = (*from, begins.get(number + 1).map_or(walk.len(), |next| next.0));
-        let whole = paid[from..to].iter().fold((0, 0), |sum, part| plus(sum, *part));
-        let turned: u64 = (from.max(1)..to).map(|at| penalty(network, walk[at - 1], walk[at])).sum();
+        let whole = paid[from..to].iter().fold((0, 0, 0), |sum, part| plus(sum, *part));
+        let turned = (from.max(1)..to).fold((0, 0, 0), |sum, at| plus(sum, turn_cost(network, walk[at - 1], walk[at])));
         let before = if from == 0 { 0 } else { vertex_bearing(&network.segments, walk[from - 1] as usize) };
         let after = vertex_bearing(&network.segments, walk[from] as usize);
         let modifier = modifier.map_or(String::new(), |modifier| format!(",\"modifier\":\"{}\"", MODIFIERS[modifier].replace('_', " ")));
         let maneuver = format!("\"bearing_before\":{before},\"bearing_after\":{after},\"type\":\"{kind}\"{modifier}");
         let met: Vec<String> = (from..to).map(|at| intersection(network, walk, points[at], at)).collect();
-        told += &step_text(network, request, walk[from], plus(whole, (turned, 0)), &points[from..=to], &maneuver, &met.join(","));
+        told += &step_text(network, request, walk[from], plus(whole, turned), &points[from..=to], &maneuver, &met.join(","));
         told.push(',');
     }
     let (last, end) = (walk[walk.len() - 1], points[points.len() - 1]);
     let before = vertex_bearing(&network.segments, last as usize);
     let maneuver = format!("\"bearing_before\":{before},\"bearing_after\":0,\"type\":\"arrive\"");
     let met = format!("{{{},\"bearings\":[{}],\"entry\":[true],\"in\":0}}", location(end), (before + 180) % 360);
-    told + &step_text(network, request, last, (0, 0), &[end, end], &maneuver, &met)
+    told + &step_text(network, request, last, (0, 0, 0), &[end, end], &maneuver, &met)
 }
 
 /// What leaves the node where a vertex of a walk begins, by bearings, and what may be entered of it; where the walk
@@ -1488,10 +1537,10 @@ fn name_of(network: &Network, v: u32) -> &str {
 }
 
 /// What a turn costs.
-fn penalty(network: &Network, d: u32, e: u32) -> u64 {
+fn turn_cost(network: &Network, d: u32, e: u32) -> Cost {
     let turns = network.first[d as usize] as usize..network.first[d as usize + 1] as usize;
     let turn = turns.clone().find(|turn| network.turns[*turn] == e).expect("a turn");
-    u64::from(network.metric.penalties[turn])
+    network.metric.turns[turn].cost()
 }
 
 /// What the driver is to do at a turn, and the place in `MODIFIERS` of how it bends; None where he just goes on.
@@ -1511,9 +1560,9 @@ fn maneuver(network: &Network, d: u32, e: u32) -> Option<(&'static str, usize)> 
     }
 }
 
-fn totals((duration, length): Cost) -> String {
-    let (metres, seconds) = (tenths(length), tenths(duration));
-    format!("\"distance\":{metres},\"duration\":{seconds},\"weight\":{seconds}")
+fn totals((weight, duration, length): Cost) -> String {
+    let (metres, seconds, weight) = (tenths(length), tenths(duration), tenths(weight));
+    format!("\"distance\":{metres},\"duration\":{seconds},\"weight\":{weight}")
 }
 
 /// What a target asks for; of the options those that the scripts here use.

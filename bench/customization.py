@@ -5,7 +5,8 @@
 
 A line of TRAFFIC makes the costs of the settings and its rows, and customizes the cells that hold a change from the
 metric before. So a file with a row for each segment of the map, both ways, and then none, customizes every cell each
-time; a file of a thousand drawn rows and then none only those that the rows touch. Both take the reading of rows and
+time, and one whose rows have a rate each does so with costs whose weight is neither their duration nor their length; a
+file of a thousand drawn rows and then none only those that the rows touch. Both take the reading of rows and
 the making of the costs in; a line without a change, which is asked for between, takes that alone but for the rows.
 
 The program makes a thread for each processor that it may run on, so it is held to as many as are named. Told are, for
@@ -45,10 +46,11 @@ def pairs_of(opl):
     return pairs
 
 
-def write_rows(name, pairs):
+def write_rows(name, pairs, rate=""):
+    """Rows of one speed for both directions of these pairs, and of this rate, if it is one."""
     with open(name, "w", encoding="ascii") as file:
         for a, b in pairs:
-            file.write(f"{a},{b},13\n{b},{a},13\n")
+            file.write(f"{a},{b},13{rate}\n{b},{a},13{rate}\n")
     return name
 
 
@@ -78,7 +80,8 @@ def measure_all(given, program, overlays):
         print(f"== {os.path.basename(opl)}")
         pairs = pairs_of(opl)
         with tempfile.TemporaryDirectory() as folder:
-            files = [("a row for each segment", write_rows(f"{folder}/all.csv", pairs))]
+            files = [("a row for each segment", write_rows(f"{folder}/all.csv", pairs)),
+                     ("the same with a rate in each", write_rows(f"{folder}/rated.csv", pairs, ",7"))]
             for count in map(int, given.rows.split(",")):
                 drawn = random.Random(1).sample(pairs, min(count // 2, len(pairs)))
                 files.append((f"{count} rows", write_rows(f"{folder}/{count}.csv", drawn)))

@@ -1,7 +1,7 @@
 #!/usr/bin/env python3
 """Measures routes and tables between pairs of places that a baseline of overlays draws, beside what it takes for them.
 
-    bench/queries.py [--pairs N] [--repeats N] SETTINGS OPL [OPL ..]
+    bench/queries.py [--rated] [--pairs N] [--repeats N] SETTINGS OPL [OPL ..]
 
 The baseline (overlays/, or the program that OVERLAYS names: segments, turns, costs of two words, cells, cliques,
 queries, unpacking, rows of a table, in Rust without proofs) draws pairs of segments, answers a query with its walk for
@@ -13,7 +13,8 @@ the same questions.
 Told is the processor time of a whole reply, with reading, snapping and text, the start taken away, beside the
 baseline's time for its query with its walk, and for its rows of the table; the least of the repeats of each, with
 their ratio. Threads of the program are counted, so rows in threads cost what they cost in all; under `taskset -c 0`
-they share one processor.
+they share one processor. With --rated the program has a traffic file first that gives each way a rate, so that what each
+weighs is neither its duration nor its length; the baseline has none, and is asked other questions then.
 """
 import argparse
 import os
@@ -21,6 +22,7 @@ import re
 import tempfile
 
 import common
+from customization import pairs_of, write_rows
 
 
 def of_overlays(overlays, settings, opl, pairs, repeats, folder):
@@ -52,18 +54,25 @@ def measure(given, program, overlays):
             ("a row of the table of the first hundred", row, min(100, len(pairs)), table),
         ]
         print(f"== {os.path.basename(opl)}, {len(pairs)} pairs")
-        words = [program, "ask", opl, given.settings]
-        start = common.start_of(words, given.repeats)
-        print(f"  start {start:.3f} s")
-        for kind, other, count, lines in kinds:
-            times, replies = zip(*(common.asked(words, lines) for _ in range(given.repeats)))
-            one = (min(times) - start) / count * 1000
-            ok = sum('"code":"Ok"' in reply for reply in replies[0])
-            print(f"  {kind}: {one:.3f} ms, {other:.3f} ms, ratio {one / other:.2f}; {ok} of {len(lines)} replies Ok")
+        with tempfile.TemporaryDirectory() as folder:
+            first = [f"TRAFFIC {write_rows(f'{folder}/rated.csv', pairs_of(opl), ',7')} -"] if given.rated else []
+            times_of(given, [program, "ask", opl, given.settings], first, kinds)
+
+
+def times_of(given, words, first, kinds):
+    """What the program takes for the lines of each kind, behind these."""
+    start = min(common.asked(words, first)[0] for _ in range(given.repeats))
+    print(f"  start {start:.3f} s")
+    for kind, other, count, lines in kinds:
+        times, replies = zip(*(common.asked(words, first + lines) for _ in range(given.repeats)))
+        one = (min(times) - start) / count * 1000
+        ok = sum('"code":"Ok"' in reply for reply in replies[0][len(first):])
+        print(f"  {kind}: {one:.3f} ms, {other:.3f} ms, ratio {one / other:.2f}; {ok} of {len(lines)} replies Ok")
 
 
 def main():
     parser = argparse.ArgumentParser(usage=__doc__.split("\n\n")[1])
+    parser.add_argument("--rated", action="store_true")
     parser.add_argument("--pairs", type=int, default=1000)
     parser.add_argument("--repeats", type=int, default=3)
     parser.add_argument("settings")

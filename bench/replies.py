@@ -13,7 +13,8 @@ names, whose steps are asked for. SETTINGS are those of car.toml where none are 
 Then traffic: on each map, and on N small maps made to be hard (20), lines of TRAFFIC with drawn files, good ones in
 all forms of CSV and faulty ones, and with the files that are named, stand between requests of all services. What is
 wrong with a faulty file is known from the drawing, so both have to tell that. All this is done twice, under SETTINGS
-and under the same as version 2 with `maxspeed`, surfaces, classes and sets of them that are drawn for each map. Where
+and under the same as version 2 with `maxspeed`, `weight_name`, surfaces, classes and sets of them that are drawn for each
+map. Of the rows of a file one in a hundred, half or all have a rate or a weight. Where
 settings have such sets, half of the requests exclude one, its names in any order and some of them doubled, or what is no
 set, and some do so twice.
 
@@ -216,7 +217,8 @@ def second_version(chance, settings, path):
         surfaces = {key: chance.choice([1, 20, 500, 999, 1000]) for key in chance.sample(["asphalt", "gravel", "fine_gravel", "ground", "paved", "sand"], 4)}
         tables = ["[surfaces]", *(f"{key} = {factor}" for key, factor in surfaces.items())]
         tables += ["[classes]", *(f"{name} = {json.dumps(chance.sample(tags, chance.randint(0, 4)))}" for name in names)]
-        front = ["version = 2", chance.choice(["maxspeed = true", "maxspeed = true", "maxspeed = false", ""]), f"excludable = {json.dumps(sets)}"]
+        front = ["version = 2", chance.choice(["maxspeed = true", "maxspeed = true", "maxspeed = false", ""])]
+        front += [chance.choice(['weight_name = "distance"', 'weight_name = "duration"', ""]), f"excludable = {json.dumps(sets)}"]
         first = "\n".join([*front, first, *tables, ""])
     with open(path, "w", encoding="utf-8") as out:
         out.write(first)
@@ -286,8 +288,9 @@ def traffic_lines(chance, opl, rows, folder, named):
     pairs, around = traffic_rows.meetings(opl)
     lines = [(f"TRAFFIC {' '.join(files)}", b'."code":"Ok","data_version":"\\d+","unmatched":\\d+.') for files in named]
     for number in range(12):
-        speeds = traffic_rows.speed_rows(chance, pairs, chance.choice([0, 1, rows, rows])) + chance.sample(traffic_rows.SPEED_EDGES, 2)
-        turns = traffic_rows.turn_rows(chance, around, chance.choice([0, 1, rows, rows])) + chance.sample(traffic_rows.TURN_EDGES, 2)
+        share = chance.choice([0.01, 0.5, 1])
+        speeds = traffic_rows.speed_rows(chance, pairs, chance.choice([0, 1, rows, rows]), share) + chance.sample(traffic_rows.SPEED_EDGES, 2)
+        turns = traffic_rows.turn_rows(chance, around, chance.choice([0, 1, rows, rows]), share) + chance.sample(traffic_rows.TURN_EDGES, 2)
         wrong = chance.choice(["", "", "speeds", "turns", "both"])
         texts = [traffic_rows.dressed(chance, speeds), traffic_rows.dressed(chance, turns)]
         told = b'."code":"Ok","data_version":"\\d+","unmatched":\\d+.'

@@ -1,11 +1,13 @@
 #!/usr/bin/env python3
 """Draws traffic files for a map: the rows of the speeds and of the turns, good ones and faulty ones.
 
-    bench/traffic_rows.py OPL SPEED_ROWS TURN_ROWS [SEED]       writes speeds.csv and turns.csv
+    bench/traffic_rows.py [--weighed SHARE] OPL SPEED_ROWS TURN_ROWS [SEED]     writes speeds.csv and turns.csv
 
 The same map, numbers and seed give the same bytes. About one speed row in 200 closes a road, one in 5 has fraction
-digits, one in 100 a rate, one in 100 matches nothing; of the turns one in 5 is negative, one in 10 has a weight.
+digits, one in 100 matches nothing; of the turns one in 5 is negative. Of the speed rows SHARE have a rate and of the turns
+SHARE a weight: 0.01, where it isn't named.
 """
+import argparse
 import random
 import re
 import sys
@@ -33,7 +35,14 @@ def meetings(opl):
     return pairs, {node: (sorted(before), sorted(behind)) for node, (before, behind) in around.items() if before and behind}
 
 
-def speed_row(chance, pairs):
+def weighed(chance, share, least, most):
+    """What a row has behind its last column: in this share of the rows a number between these, of up to four digits behind
+    the point."""
+    number = f"{chance.uniform(least, most):.{chance.randrange(5)}f}"
+    return [number] if chance.random() < share else []
+
+
+def speed_row(chance, pairs, share=0.01):
     a, b = chance.choice(pairs)
     if chance.random() < 0.01:
         a, b = chance.choice([(b, a), (a, a), (-a, b), (a, b + 7), (9223372036854775807, -9223372036854775808)])
@@ -41,10 +50,10 @@ def speed_row(chance, pairs):
     speed = "0" if draw < 0.005 else str(chance.randrange(3, 130))
     if draw > 0.8:
         speed += "." + str(chance.randrange(1, 100000))
-    return [str(a), str(b), speed] + (["0.8"] if 0.8 > draw > 0.79 else [])
+    return [str(a), str(b), speed] + weighed(chance, share, 1, 30)
 
 
-def turn_row(chance, around, nodes):
+def turn_row(chance, around, nodes, share=0.01):
     via = chance.choice(nodes)
     a, b = chance.choice(around[via][0]), chance.choice(around[via][1])
     if a == b and chance.random() < 0.9:
@@ -52,16 +61,16 @@ def turn_row(chance, around, nodes):
     if chance.random() < 0.01:
         b += 7
     penalty = str(chance.randrange(0, 90)) + chance.choice(["", "", f".{chance.randrange(10)}", f".{chance.randrange(1000)}"])
-    return [str(a), str(via), str(b), chance.choice(["", "", "", "", "-"]) + penalty] + (["1.5"] if chance.random() < 0.1 else [])
+    return [str(a), str(via), str(b), chance.choice(["", "", "", "", "-"]) + penalty] + weighed(chance, share, -10, 90)
 
 
-def speed_rows(chance, pairs, count):
-    return [speed_row(chance, pairs) for _ in range(count)] if pairs else []
+def speed_rows(chance, pairs, count, share=0.01):
+    return [speed_row(chance, pairs, share) for _ in range(count)] if pairs else []
 
 
-def turn_rows(chance, around, count):
+def turn_rows(chance, around, count, share=0.01):
     crossings = [node for node, (_, behind) in around.items() if len(behind) > 2] or list(around)
-    return [turn_row(chance, around, crossings) for _ in range(count)] if crossings else []
+    return [turn_row(chance, around, crossings, share) for _ in range(count)] if crossings else []
 
 
 def plain(rows):
@@ -86,11 +95,13 @@ SPEED_FAULTS = [
     ("x,2,3", "BadId"), ("1,,3", "BadId"), ("9223372036854775808,2,3", "BadId"), ("1,00000000000000000002,3", "BadId"), ("1,+2,3", "BadId"), ("1,\t2,3", "BadId"), ("1,--2,x", "BadId"),
     ("1,2,", "BadNumber"), ("1,2,-3", "BadNumber"), ("1,2,-0", "BadNumber"), ("1,2,3.", "BadNumber"), ("1,2,.5", "BadNumber"), ("1,2,1e3", "BadNumber"), ("1,2,2000,x", "BadNumber"), ("1,2,3,", "BadNumber"),
     ('1,2,"3"x', "BadNumber"), ("1,2,\udcff3", "BadNumber"), ("1,2\0,3", "BadId"), ("1,2,1000.001", "OutOfRange"), ("1,2,99999999999999999999999999,-1", "OutOfRange"),
+    ("1,2,3,0", "OutOfRange"), ("1,2,3,-0", "OutOfRange"), ("1,2,3,0.0009", "OutOfRange"), ("1,2,0,-2.5", "OutOfRange"), ("1,2,3,1000.001", "OutOfRange"), ("1,2,2000,+1", "BadNumber"), ("1,2,-3,0", "BadNumber"),
 ]
 TURN_FAULTS = [
     ("1,2,3", "BadCount"), ("1,2,3,4,5,6", "BadCount"), ("1,2,3x,4", "BadId"), ("1, ,3,4", "BadId"), ("1,2,-9223372036854775809,4", "BadId"),
     ("1,2,3,-", "BadNumber"), ("1,2,3,4..5", "BadNumber"), ("1,2,3,200000,1.", "BadNumber"), ("1,2,3,+4", "BadNumber"), ('1,2,3,"4""5"', "BadNumber"), ("1,2,3,4 5", "BadNumber"),
     ("1,2,3,100000.1", "OutOfRange"), ("1,2,3,340282366920938463463374607431768211456", "OutOfRange"),
+    ("1,2,3,4,100000.1", "OutOfRange"), ("1,2,3,-4,99999999999999999999", "OutOfRange"), ("1,2,3,4,", "BadNumber"), ("1,2,3,4,1e5", "BadNumber"), ("1,2,3,x,200000", "BadNumber"),
 ]
 
 
@@ -105,16 +116,22 @@ def faulty(chance, rows, faults):
 
 
 # Rows at the very edge of what is allowed.
-SPEED_EDGES = [["1", "2", "1000"], ["1", "2", "1000.0009"], ["1", "2", "0.0009"], ["1", "2", "0.001"], ["0001", "-2", "000000000000000000000000000007.5", "-3.25"], ["9223372036854775807", "-9223372036854775808", "0"]]
-TURN_EDGES = [["1", "2", "3", "100000"], ["1", "2", "3", "100000.09"], ["1", "2", "3", "-99999999999999999999"], ["1", "2", "3", "-0.0", "-1"], ["1", "2", "3", "0.09", "0"]]
+SPEED_EDGES = [["1", "2", "1000"], ["1", "2", "1000.0009"], ["1", "2", "0.0009"], ["1", "2", "0.001"], ["0001", "-2", "000000000000000000000000000007.5", "00.001"], ["1", "2", "7", "0.2779"], ["1", "2", "7", "1000.0009"], ["1", "2", "0", "1"], ["9223372036854775807", "-9223372036854775808", "0"]]
+TURN_EDGES = [["1", "2", "3", "100000"], ["1", "2", "3", "100000.09"], ["1", "2", "3", "-99999999999999999999"], ["1", "2", "3", "-0.0", "-1"], ["1", "2", "3", "0.09", "0"], ["1", "2", "3", "7", "100000.09"], ["1", "2", "3", "7", "-99999999999999999999"]]
 
 
 def main():
-    if len(sys.argv) not in (4, 5):
-        sys.exit(__doc__)
-    chance = random.Random(int(sys.argv[4]) if len(sys.argv) == 5 else 1)
-    pairs, around = meetings(sys.argv[1])
-    for name, rows in (("speeds.csv", speed_rows(chance, pairs, int(sys.argv[2]))), ("turns.csv", turn_rows(chance, around, int(sys.argv[3])))):
+    parser = argparse.ArgumentParser(usage=__doc__.split("\n\n")[1])
+    parser.add_argument("--weighed", type=float, default=0.01)
+    parser.add_argument("map")
+    parser.add_argument("speeds", type=int)
+    parser.add_argument("turns", type=int)
+    parser.add_argument("seed", type=int, nargs="?", default=1)
+    given = parser.parse_args()
+    chance = random.Random(given.seed)
+    pairs, around = meetings(given.map)
+    files = [("speeds.csv", speed_rows(chance, pairs, given.speeds, given.weighed)), ("turns.csv", turn_rows(chance, around, given.turns, given.weighed))]
+    for name, rows in files:
         with open(name, "wb") as out:
             out.write(plain(rows))
 
