@@ -63,6 +63,6 @@ fn less_weight_is_cheaper_though_it_lasts_longer(rt: HostRuntime) -> Result<(), 
     let graph = graph(&rt, alloc, &WEIGHED)?;
     let weights = weights(&rt, alloc, &graph, &WEIGHED)?;
     let told = least_told(&rt, alloc, &graph, &weights, "0:10/100", "3:0/0")?;
-    assert_eq!(rt; told.as_str(), "21/219/1311 0 2 3 | ");
+    assert_eq!(rt; told.as_str(), "11/209/1211 0 2 3 | ");
     Ok(())
 }
