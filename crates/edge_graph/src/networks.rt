@@ -285,6 +285,14 @@ impl Network {
         self.roads.speed(v)
     }
 
+    /// Whether the way of vertex `v` is a roundabout.
+    pub fn round(&self, v: u32) -> bool
+        requires { v < 2 * length self.now.segments }
+        ensures { option_map (λ x. x.round) (slice_get (vertices_of self.now) v) ≡ Some result }
+    {
+        self.roads.round(v)
+    }
+
     /// How many permitted vertices leave the head of vertex `v`, the other direction of its own segment
     /// not counted.
     pub fn exits(&self, v: u32) -> u32

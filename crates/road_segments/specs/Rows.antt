@@ -11,7 +11,7 @@ use Rattle.road_segments.specs.declared.streets.Street.{Street}
 
 -- a street that may not be used
 abbrev pub no_street : Street
-no_street = record { way = pos 0; name = []; classes = []; speed = 0; forward = false; backward = false }
+no_street = record { way = pos 0; name = []; classes = []; speed = 0; forward = false; backward = false; round = false }
 
 -- the street of a number; one that may not be used stands past the end
 abbrev pub street_at : List Street → ℕ → Street

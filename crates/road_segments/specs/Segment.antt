@@ -68,6 +68,7 @@ street_of profile usage way = record {
   speed = usage.speed;
   forward = usage.forward;
   backward = usage.backward;
+  round = usage.round;
 }
 
 -- the segments of a way that may be used so: none where it may be used in neither direction

@@ -5,7 +5,7 @@ use Rattle.road_base.specs.declared.coordinates.Point.{Point}
 use Rattle.road_segments.specs.Segment.{Segment}
 
 -- a segment in one direction, from its tail to its head: the vehicle may not pass a head that is closed, and
--- a traffic signal stands at one that is a signal
+-- a traffic signal stands at one that is a signal; round is what is a piece of a roundabout
 pub record Vertex : Type 0 where
   pub tail : ℤ
   pub head : ℤ
@@ -18,6 +18,7 @@ pub record Vertex : Type 0 where
   pub name : List ℕ
   pub classes : List (List ℕ)
   pub speed : ℕ
+  pub round : Bool
 
 -- a segment in the order of its way, and against it
 abbrev pub along : Segment → Vertex
@@ -33,6 +34,7 @@ along s = record {
   name = s.street.name;
   classes = s.street.classes;
   speed = s.street.speed;
+  round = s.street.round;
 }
 
 abbrev pub against : Segment → Vertex
@@ -48,6 +50,7 @@ against s = record {
   name = s.street.name;
   classes = s.street.classes;
   speed = s.street.speed;
+  round = s.street.round;
 }
 
 -- all vertices

@@ -254,4 +254,12 @@ impl Roads {
     {
         self.streets[self.rows[v as usize / 2].street as usize].speed
     }
+
+    /// Whether the way of vertex `v` is a roundabout.
+    pub fn round(&self, v: u32) -> bool
+        requires { v < 2 * length self.now }
+        ensures { option_map (λ x. x.round) (slice_get (vertices self.now) v) ≡ Some result }
+    {
+        self.streets[self.rows[v as usize / 2].street as usize].round
+    }
 }

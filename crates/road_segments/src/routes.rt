@@ -57,6 +57,7 @@ fn street(alloc: Global, profile: &Profile, usage: WayUse, way: &Way) -> Result<
         speed: usage.speed,
         forward: usage.forward,
         backward: usage.backward,
+        round: usage.round,
     })
 }
 

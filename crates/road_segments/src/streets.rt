@@ -16,6 +16,8 @@ pub struct Street {
     pub forward: bool,
     /// against it
     pub backward: bool,
+    /// whether the way is a roundabout
+    pub round: bool,
 }
 
 impl Drop for Street {
@@ -27,6 +29,7 @@ impl Drop for Street {
             speed: _speed,
             forward: _forward,
             backward: _backward,
+            round: _round,
         } = self;
     }
 }

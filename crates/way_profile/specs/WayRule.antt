@@ -8,7 +8,7 @@ use Rattle.std.specs.Str.{byte}
 use Rattle.std.specs.Str.Parse.{digits_value}
 use Rattle.road_base.specs.TagValue.{value_of}
 use Rattle.way_profile.specs.Vehicle.{ProfileView}
-use Rattle.way_profile.specs.WayTags.{is_backward_only, is_denied, is_forward_only, number_by, values_at}
+use Rattle.way_profile.specs.WayTags.{is_backward_only, is_denied, is_forward_only, is_round, number_by, values_at}
 use Rattle.way_profile.specs.declared.way_uses.WayUse.{WayUse}
 
 -- one to three digits
@@ -54,8 +54,8 @@ speed_by_tags profile tags speed = surfaced profile tags (limited_speed profile 
 
 -- the use of a way where the vehicle has a speed, and where it has none
 abbrev pub use_at : Option ℕ → List (List ℕ × List ℕ) → WayUse
-use_at (Some speed) tags = record { forward = not (is_backward_only tags); backward = not (is_forward_only tags); speed = speed }
-use_at None tags = record { forward = false; backward = false; speed = 0 }
+use_at (Some speed) tags = record { forward = not (is_backward_only tags); backward = not (is_forward_only tags); speed = speed; round = is_round tags }
+use_at None tags = record { forward = false; backward = false; speed = 0; round = false }
 
 -- the speed of the kind of a way, None where the vehicle may not use it: its kind has no speed, or it is
 -- closed to the vehicle

@@ -31,10 +31,13 @@ is_oneway tags = says tags (codes "oneway") (codes "yes" ∷ codes "true" ∷ co
 abbrev pub has_other_oneway : List (List ℕ × List ℕ) → Bool
 has_other_oneway tags = says tags (codes "oneway") (codes "-1" ∷ codes "reverse" ∷ codes "no" ∷ [])
 
+-- the way is a roundabout, or a piece of one
+abbrev pub is_round : List (List ℕ × List ℕ) → Bool
+is_round tags = says tags (codes "junction") (codes "roundabout" ∷ [])
+
 -- a roundabout or a motorway
 abbrev pub is_forward_by_kind : List (List ℕ × List ℕ) → Bool
-is_forward_by_kind tags =
-    says tags (codes "junction") (codes "roundabout" ∷ []) || says tags (codes "highway") (codes "motorway" ∷ [])
+is_forward_by_kind tags = is_round tags || says tags (codes "highway") (codes "motorway" ∷ [])
 
 -- the way is used in its own direction only: `oneway` says so, or says nothing that is known and the
 -- kind of the way does

@@ -17,7 +17,7 @@ use crate::settings_values::{
 use crate::turn_penalties::TurnPenalties;
 use crate::way_classes::Class;
 use crate::way_speeds::{kmh_of, limit_or, slowed_by};
-use crate::way_uses::{WayUse, is_backward_only, is_denied, is_forward_only, number_by};
+use crate::way_uses::{WayUse, is_backward_only, is_denied, is_forward_only, is_round, number_by};
 use road_base::{Modifier, Tags, Text, Words};
 use std::alloc::{AllocError, Global};
 use std::marker::Model;
@@ -138,11 +138,13 @@ impl Profile {
                 forward: !is_backward_only(tags),
                 backward: !is_forward_only(tags),
                 speed: self.speed_by_tags(tags, speed),
+                round: is_round(tags),
             },
             None => WayUse {
                 forward: false,
                 backward: false,
                 speed: 0,
+                round: false,
             },
         }
     }

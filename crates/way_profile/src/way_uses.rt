@@ -1,12 +1,12 @@
 //! How a vehicle may use a way.
 
 ghost use Rattle.std.specs.Prelude.{◌≡◌, ◌∷◌, []};
-ghost use Rattle.way_profile.specs.WayTags.{is_denied, values_at, number_of, number_by, says, is_backward_only, is_forward_only, is_oneway, has_other_oneway, is_forward_by_kind};
+ghost use Rattle.way_profile.specs.WayTags.{is_denied, values_at, number_of, number_by, says, is_backward_only, is_forward_only, is_oneway, is_round, has_other_oneway, is_forward_by_kind};
 
 use road_base::{Tags, Text, Words};
 
-/// The directions of a way that a vehicle may use, and its speed there. Where the way is not routable for
-/// the vehicle both directions are false, and the speed is 0.
+/// The directions of a way that a vehicle may use, its speed there, and whether the way is a roundabout. Where the
+/// way is not routable for the vehicle all three are false, and the speed is 0.
 #[derive(Clone, Copy, Debug, PartialEq, Eq)]
 pub struct WayUse {
     /// Along the way's own direction.
@@ -15,6 +15,8 @@ pub struct WayUse {
     pub backward: bool,
     /// In thousandths of km/h.
     pub speed: u32,
+    /// Whether the way is a roundabout, or a piece of one.
+    pub round: bool,
 }
 
 // Whether the first of these keys that a way carries has a value that is denied.
@@ -91,7 +93,14 @@ fn has_other_oneway(tags: &Tags) -> bool
 fn is_forward_by_kind(tags: &Tags) -> bool
     ensures { result ≡ is_forward_by_kind tags.now }
 {
-    has_value(tags, "junction", "roundabout") || has_value(tags, "highway", "motorway")
+    is_round(tags) || has_value(tags, "highway", "motorway")
+}
+
+// Whether a way is a roundabout.
+pub(crate) fn is_round(tags: &Tags) -> bool
+    ensures { result ≡ is_round tags.now }
+{
+    has_value(tags, "junction", "roundabout")
 }
 
 // Whether the value at a key is this word.

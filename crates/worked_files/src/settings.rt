@@ -215,7 +215,8 @@ fn each_modifier_has_its_penalty(rt: HostRuntime) -> Result<(), AllocError> {
     assert_penalties(&rt, rt.alloc(), &profile)
 }
 
-// Tags, with a semicolon between each two, and how a way with them is used: forward, backward, and its speed in metres an hour.
+// Tags, with a semicolon between each two, and how a way with them is used: forward, backward, its speed in metres an hour,
+// and whether it is a roundabout.
 const WAYS: &str = "highway=residential|true true 40000
 highway=footway|false false 0
 name=Main Street|false false 0
@@ -223,7 +224,10 @@ highway=residential;oneway=yes|true false 40000
 oneway=-1;highway=residential|false true 40000
 highway=motorway|true false 130000
 highway=motorway;oneway=no|true true 130000
-highway=residential;junction=roundabout;oneway=maybe|true false 40000
+highway=residential;junction=roundabout;oneway=maybe|true false 40000 round
+highway=residential;junction=roundabout;oneway=no|true true 40000 round
+highway=residential;junction=circular|true true 40000
+highway=footway;junction=roundabout|false false 0
 highway=motorway;oneway=reverse|false true 130000
 highway=residential;access=no|false false 0
 highway=residential;access=destination|true true 40000
@@ -251,7 +255,11 @@ pub(crate) fn use_told(
     pairs: &str,
 ) -> Result<String, AllocError> {
     let found = profile.way(&tags(rt, alloc, pairs)?);
-    format!(in alloc; "{} {} {}", found.forward, found.backward, found.speed)
+    let kind = if found.round { " round" } else { "" };
+    format!(in alloc;
+        "{} {} {}{kind}",
+        found.forward, found.backward, found.speed
+    )
 }
 
 fn assert_used(rt: &impl Abort, alloc: Global, profile: &Profile) -> Result<(), AllocError> {
