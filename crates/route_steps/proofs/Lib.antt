@@ -2,6 +2,7 @@ mod CutLemmas
 mod IntersectionLemmas
 mod ListLemmas
 mod PointLemmas
+mod RoundLemmas
 mod SortLemmas
 mod StepLemmas
 mod SumLemmas

@@ -55,7 +55,7 @@ pub length-vertices_from : (network : NetworkView) (node : ℤ) → length (vert
 length-vertices_from network node = omega (arith, from-count node 0 (vertices_of network), length-vertices network.segments)
 
 -- what is told of an element is told with it
-some-told : {X Y : Type 0} (f : X → Y) (o : Option X) (y : Y) → option_map f o ≡ Some y → (x : X) × (o ≡ Some x) × (f x ≡ y)
+pub some-told : {X Y : Type 0} (f : X → Y) (o : Option X) (y : Y) → option_map f o ≡ Some y → (x : X) × (o ≡ Some x) × (f x ≡ y)
 some-told f None y e = cc
 some-told f (Some x) y e = (x, refl, same_Some (f x) y e)
 

@@ -4,6 +4,7 @@ pub mod Intersections
 pub mod LineLaws
 pub mod Maneuvers
 pub mod Points
+pub mod Roundabouts
 pub mod StepLaws
 pub mod StepParts
 pub mod StepSums

@@ -22,6 +22,7 @@ use Rattle.road_places.specs.Places.{IsPlaceOn}
 use Rattle.metric_make.specs.RoadMetric.{RoadMetric}
 use Rattle.route_steps.specs.CutLaws.{cost_of, cuts-ahead, pieces-cost, pieces-line, points_of}
 use Rattle.route_steps.specs.Points.{point_in, points_along}
+use Rattle.route_steps.specs.Roundabouts.{exit_at}
 use Rattle.route_steps.specs.StepSums.{AddUp, IsLineCut}
 use Rattle.route_steps.specs.Steps.{AreAhead, arrival_at, begin_at, begins_along, cost_between, departure, joined, pieces, step_between, steps_along}
 use Rattle.route_steps.specs.Turnings.{maneuver_at, turn_paid, turns_paid}
@@ -46,14 +47,14 @@ length-paid_along w p q (v ∷ u ∷ more) = omega (arith, length-paid_to w q u 
 pub length-turns_paid : (road : RoadMetric) (walk : List ℕ) → 0 < length walk → length (turns_paid road walk) + 1 ≡ length walk
 length-turns_paid road walk h = omega (arith, length-map {A = ℕ × ℕ} {B = WeightDurLen} (steps_of walk) (turn_paid road), length-steps_of walk h)
 
-begin-there : (k : ℕ) (o : Option (ManeuverKind × Modifier)) (c : Begin) → option_map {U = Begin} (λ m. record { place = k; kind = m.0; modifier = Some m.1 }) o ≡ Some c → c.place ≡ k
-begin-there k None c e = cc
-begin-there k (Some m) c e = sym (ap (λ (x : Begin). x.place) (same_Some {A = Begin} (record { place = k; kind = m.0; modifier = Some m.1 }) c e))
+begin-there : (k : ℕ) (exit : Option ℕ) (o : Option (ManeuverKind × Modifier)) (c : Begin) → option_map {U = Begin} (λ m. record { place = k; kind = m.0; modifier = Some m.1; exit = exit }) o ≡ Some c → c.place ≡ k
+begin-there k exit None c e = cc
+begin-there k exit (Some m) c e = sym (ap (λ (x : Begin). x.place) (same_Some {A = Begin} (record { place = k; kind = m.0; modifier = Some m.1; exit = exit }) c e))
 
 -- the begins of a walk's steps lead ahead
 pub begins-ahead : (network : NetworkView) (walk : List ℕ) → 0 < length walk → AreAhead (length walk) (pieces (begins_along network walk) (length walk))
 begins-ahead network walk some =
-    cuts-ahead (begin_at network walk) (λ k c e. begin-there k (maneuver_at network walk k) c e) (length walk) departure 1 (length walk - 1) (omega arith) (omega arith)
+    cuts-ahead (begin_at network walk) (λ k c e. begin-there k (exit_at network walk k) (maneuver_at network walk k) c e) (length walk) departure 1 (length walk - 1) (omega arith) (omega arith)
 
 -- all but the last of a list
 front-of : {X : Type 0} (xs : List X) (x : X) → take (length (xs ++ x ∷ []) - 1) (xs ++ x ∷ []) ≡ xs

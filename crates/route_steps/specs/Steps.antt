@@ -12,6 +12,7 @@ use Rattle.road_places.specs.Paid.{paid_along, total_of}
 use Rattle.metric_make.specs.RoadMetric.{RoadMetric}
 use Rattle.route_steps.specs.Intersections.{arrival_on, intersections_between}
 use Rattle.route_steps.specs.Points.{point_in, points_along}
+use Rattle.route_steps.specs.Roundabouts.{exit_at}
 use Rattle.route_steps.specs.Turnings.{bearing_on, maneuver_at, name_on, turns_paid}
 use Rattle.route_steps.specs.declared.begins.Begin.{Begin}
 use Rattle.route_steps.specs.declared.maneuvers.Maneuver.{Maneuver}
@@ -20,11 +21,11 @@ use Rattle.route_steps.specs.declared.step_lists.Step.{Step}
 
 -- a walk begins with the departure
 abbrev pub departure : Begin
-departure = record { place = 0; kind = Depart; modifier = None }
+departure = record { place = 0; kind = Depart; modifier = None; exit = None }
 
 -- a step begins at place k of a walk, if something is told there
 abbrev pub begin_at : NetworkView → List ℕ → ℕ → Option Begin
-begin_at network walk k = option_map (λ m. record { place = k; kind = m.0; modifier = Some m.1 }) (maneuver_at network walk k)
+begin_at network walk k = option_map (λ m. record { place = k; kind = m.0; modifier = Some m.1; exit = exit_at network walk k }) (maneuver_at network walk k)
 
 -- where the steps of a walk begin: at its first vertex, and at each turn that is told
 abbrev pub begins_along : NetworkView → List ℕ → List Begin
@@ -62,6 +63,7 @@ begin_told network walk points begin = record {
   after = bearing_on network (slice_index walk begin.place);
   kind = begin.kind;
   modifier = begin.modifier;
+  exit = begin.exit;
 }
 
 -- the step from a begin to the place where it ends, of a walk with these points, paying this at its vertices and
@@ -81,7 +83,7 @@ arrival_at network last point = record {
   cost = road_cost_ops.zero;
   points = point ∷ point ∷ [];
   name = name_on network last;
-  maneuver = record { location = point; before = bearing_on network last; after = 0; kind = Arrive; modifier = None };
+  maneuver = record { location = point; before = bearing_on network last; after = 0; kind = Arrive; modifier = None; exit = None };
   intersections = arrival_on network point last ∷ [];
 }
 

@@ -13,7 +13,8 @@ use Rattle.road_segments.specs.Vertex.{opposite}
 use Rattle.metric_make.specs.MetricOf.{bearing_along}
 use Rattle.road_places.specs.Paid.{steps_of}
 use Rattle.metric_make.specs.RoadMetric.{RoadMetric}
-use Rattle.route_steps.specs.Maneuvers.{told}
+use Rattle.route_steps.specs.Maneuvers.{told, told_round}
+use Rattle.route_steps.specs.Roundabouts.{is_round}
 use Rattle.route_steps.specs.declared.maneuvers.ManeuverKind.{ManeuverKind}
 
 -- the bearing of vertex v, from where it begins to where it ends; 0 where there is no such vertex
@@ -24,11 +25,18 @@ bearing_on network v = option_map_or bearing_along (slice_get (vertices_of netwo
 abbrev pub name_on : NetworkView → ℕ → List ℕ
 name_on network v = option_map_or (λ x. x.name) (slice_get (vertices_of network) v) []
 
--- what is told of the turn from vertex d onto vertex e
+-- how the turn from vertex d onto vertex e bends
+abbrev pub bend_between : NetworkView → ℕ → ℕ → Modifier
+bend_between network d e = modifier_of (bearing_on network d) (bearing_on network e) (e == opposite d)
+
+-- what the table says of the turn from vertex d onto vertex e
+abbrev pub told_by_table : NetworkView → ℕ → ℕ → Option (ManeuverKind × Modifier)
+told_by_table network d e =
+    told (e == opposite d) (nat_le 2 (exits (vertices_of network) d)) (bytes_eq (name_on network d) (name_on network e)) (bend_between network d e)
+
+-- what is told of it
 abbrev pub turn_told : NetworkView → ℕ → ℕ → Option (ManeuverKind × Modifier)
-turn_told network d e =
-    told (e == opposite d) (nat_le 2 (exits (vertices_of network) d)) (bytes_eq (name_on network d) (name_on network e))
-    (modifier_of (bearing_on network d) (bearing_on network e) (e == opposite d))
+turn_told network d e = told_round (e == opposite d) (is_round network d) (is_round network e) (told_by_table network d e) (bend_between network d e)
 
 -- what is told at place k of a walk, behind its first vertex
 unfoldable pub maneuver_at : NetworkView → List ℕ → ℕ → Option (ManeuverKind × Modifier)

@@ -4,6 +4,7 @@ ghost use Rattle.std.specs.Prelude.{◌≡◌, ◌*◌, ◌<◌, All, IfOk, leng
 ghost use Rattle.route_steps.specs.Steps.{begins_along};
 
 use crate::maneuvers::ManeuverKind;
+use crate::roundabouts::exit_at;
 use crate::turnings::turn_told;
 use edge_graph::Network;
 use road_base::Modifier;
@@ -15,6 +16,7 @@ pub(crate) struct Begin {
     pub(crate) place: usize,
     pub(crate) kind: ManeuverKind,
     pub(crate) modifier: Option<Modifier>,
+    pub(crate) exit: Option<u32>,
 }
 
 /// Where the steps of a walk begin: at its first vertex, and at each turn of which the driver is told. It answers an
@@ -33,14 +35,17 @@ pub(crate) fn begins_along(
         place: 0,
         kind: ManeuverKind::Depart,
         modifier: None,
+        exit: None,
     })?;
     for place in 1..walk.len() {
         if let Some((kind, bend)) = turn_told(network, walk[place - 1], walk[place]) {
             let modifier = Some(bend);
+            let exit = exit_at(network, walk, place);
             begins.push(Begin {
                 place,
                 kind,
                 modifier,
+                exit,
             })?;
         }
     }

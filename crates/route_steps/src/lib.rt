@@ -4,8 +4,8 @@
 //!
 //! [`leg_points`] gives the points of a walk, [`annotate`] what it pays and where it passes, [`speed`] how fast
 //! a part of it is, [`steps`] its steps. `specs/` is to be read in this order: `Points` (where a walk leads),
-//! `Annotations` (the nodes along it, and speeds), `Maneuvers` (the table of turns), `Turnings` (what a walk meets at
-//! its turns), `Ways` (what leaves its nodes), `Intersections` (what is told of these), `Steps` (the pieces into which
+//! `Annotations` (the nodes along it, and speeds), `Maneuvers` (the table of turns), `Roundabouts` (what a walk meets on
+//! them), `Turnings` (what it meets at its turns), `Ways` (what leaves its nodes), `Intersections` (what is told of these), `Steps` (the pieces into which
 //! it is cut) and `StepSums` (that these are the whole of it). What it pays at its vertices is told by `road_places`,
 //! in `Paid`. `CutLaws` has what holds however a walk is cut, `StepLaws` what holds of the steps of a permitted walk.
 //!
@@ -18,6 +18,7 @@ mod intersection_lists;
 mod intersections;
 mod maneuvers;
 mod paid;
+mod roundabouts;
 mod speeds;
 mod step_lists;
 mod turnings;

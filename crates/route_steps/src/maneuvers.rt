@@ -1,7 +1,7 @@
 //! What drivers are told at turns.
 
 ghost use Rattle.std.specs.Prelude.{◌≡◌};
-ghost use Rattle.route_steps.specs.Maneuvers.{told};
+ghost use Rattle.route_steps.specs.Maneuvers.{told, told_round};
 
 use road_base::{Modifier, Point};
 
@@ -18,11 +18,16 @@ pub enum ManeuverKind {
     Continue,
     /// goes on, while the road's name changes
     NewName,
+    /// comes into a roundabout
+    Roundabout,
+    /// leaves a roundabout
+    ExitRoundabout,
 }
 
 /// What a driver is told where a step begins: the point, by which bearings the walk comes to it and leaves it (in
 /// whole degrees clockwise from north, below 360; 0 before the departure and after the arrival), what to do
-/// there, and how the turn bends, if there is one.
+/// there, how the turn bends, if there is one, and by which exit a roundabout is left, if one is entered or left there:
+/// its number in the order in which they are passed, None where the walk ends before.
 #[derive(Clone, Copy)]
 pub struct Maneuver {
     pub location: Point,
@@ -30,6 +35,7 @@ pub struct Maneuver {
     pub after: u32,
     pub kind: ManeuverKind,
     pub modifier: Option<Modifier>,
+    pub exit: Option<u32>,
 }
 
 /// What a driver is told of a turn, or None where nothing: by whether it leads back onto its own segment, whether
@@ -53,5 +59,24 @@ pub(crate) fn told(
             Some((ManeuverKind::NewName, bend))
         }
         (true, false, _) => Some((ManeuverKind::Turn, bend)),
+    }
+}
+
+/// The same with roundabouts: by whether a turn leads back onto its own segment, whether the vertices before and behind
+/// it are round, what the table says of it, and how it bends.
+pub(crate) fn told_round(
+    back: bool,
+    before: bool,
+    behind: bool,
+    by_table: Option<(ManeuverKind, Modifier)>,
+    bend: Modifier,
+) -> Option<(ManeuverKind, Modifier)>
+    ensures { result ≡ told_round back before behind by_table bend }
+{
+    match (back, before, behind) {
+        (true, _, _) | (false, false, false) => by_table,
+        (false, true, true) => None,
+        (false, false, true) => Some((ManeuverKind::Roundabout, bend)),
+        (false, true, false) => Some((ManeuverKind::ExitRoundabout, bend)),
     }
 }

@@ -7,7 +7,8 @@ ghost use Rattle.road_places.specs.Paid.{AreTurnsAlong, IsTurnCosting};
 ghost use Rattle.metric_make.specs.RoadMetric.{road_of};
 ghost use Rattle.route_steps.specs.Turnings.{bearing_on, turn_paid, turn_told, turns_paid};
 
-use crate::maneuvers::{ManeuverKind, told};
+use crate::maneuvers::{ManeuverKind, told, told_round};
+use crate::roundabouts::is_round;
 use edge_graph::Network;
 use geo_integer::{bearing, modifier};
 use metric_make::BaseMetric;
@@ -45,7 +46,14 @@ pub(crate) fn turn_told(network: &Network, d: u32, e: u32) -> Option<(ManeuverKi
     let back = e == other_way(d);
     let bend = modifier(bearing_on(network, d), bearing_on(network, e), back);
     let same_name = network.name(d) == network.name(e);
-    told(back, network.exits(d) >= 2, same_name, bend)
+    let by_table = told(back, network.exits(d) >= 2, same_name, bend);
+    told_round(
+        back,
+        is_round(network, d),
+        is_round(network, e),
+        by_table,
+        bend,
+    )
 }
 
 // What the turn from one vertex onto another costs.

@@ -98,6 +98,7 @@ fn begin_told(network: &Network, walk: &[u32], points: &[Point], begin: Begin) -
         after: bearing_on(network, walk[begin.place]),
         kind: begin.kind,
         modifier: begin.modifier,
+        exit: begin.exit,
     }
 }
 
@@ -148,6 +149,7 @@ fn arrival_at(alloc: Global, network: &Network, last: u32, point: Point) -> Resu
             after: 0,
             kind: ManeuverKind::Arrive,
             modifier: None,
+            exit: None,
         },
         intersections: Intersections::of(intersections),
     })

@@ -1,6 +1,6 @@
 -- The steps of a leg, and what a driver is told where each begins (OSRM's HTTP API, version 1; that a mode is
 -- always `driving` is this project's rule).
-use Rattle.std.specs.Prelude.{ℕ, Bool, pos, List, [], ◌∷◌, ◌++◌, codes, map, option_map, if◌then◌else◌}
+use Rattle.std.specs.Prelude.{ℕ, Bool, pos, List, [], ◌∷◌, ◌++◌, codes, map, Option, option_map, if◌then◌else◌}
 use Rattle.road_base.specs.declared.directions.Modifier.{Modifier}
 use Rattle.road_base.specs.declared.directions.Modifier.TheVariants as bend
 use Rattle.way_profile.specs.Vehicle.{ProfileView}
@@ -24,6 +24,8 @@ kind_text kind.Arrive = codes "arrive"
 kind_text kind.Turn = codes "turn"
 kind_text kind.Continue = codes "continue"
 kind_text kind.NewName = codes "new name"
+kind_text kind.Roundabout = codes "roundabout"
+kind_text kind.ExitRoundabout = codes "exit roundabout"
 
 -- how a turn bends
 abbrev pub modifier_text : Modifier → List ℕ
@@ -44,6 +46,11 @@ abbrev pub side_text : DrivingSide → List ℕ
 side_text side.Right = codes "right"
 side_text side.Left = codes "left"
 
+-- how the turn bends, where there is one, and by which exit a roundabout is left, where that is told
+abbrev pub turn_members : Option Modifier → Option ℕ → List (List ℕ × JsonValue)
+turn_members modifier exit =
+    optional_member (codes "modifier") (option_map (λ bend. text (modifier_text bend)) modifier) ++ optional_member (codes "exit") (option_map (λ number. whole (pos number)) exit)
+
 -- bearings are whole degrees; a maneuver that is no turn has no modifier
 unfoldable pub maneuver_value : Maneuver → JsonValue
 maneuver_value maneuver = object_of (
@@ -51,7 +58,7 @@ maneuver_value maneuver = object_of (
     ∷ (codes "bearing_before", whole (pos maneuver.before))
     ∷ (codes "bearing_after", whole (pos maneuver.after))
     ∷ (codes "type", text (kind_text maneuver.kind))
-    ∷ optional_member (codes "modifier") (option_map (λ bend. text (modifier_text bend)) maneuver.modifier)
+    ∷ turn_members maneuver.modifier maneuver.exit
     )
 
 -- a step of a vehicle that drives on this side, with its line in the form that is asked for

@@ -1,7 +1,7 @@
 //! The steps of legs.
 
-ghost use Rattle.std.specs.Prelude.{◌≡◌, OnOk, codes, map, option_map};
-ghost use Rattle.json_text.specs.Values.{text};
+ghost use Rattle.std.specs.Prelude.{◌≡◌, OnOk, codes, map, option_map, pos};
+ghost use Rattle.json_text.specs.Values.{text, whole};
 ghost use Rattle.json_text.specs.Drafts.{TakesKey, TakesValue, with_value};
 ghost use Rattle.json_text.specs.Wholes.{array_of, optional_member, with_members};
 ghost use Rattle.step_texts.specs.Steps.{kind_text, maneuver_value, modifier_text, step_value};
@@ -26,6 +26,8 @@ fn kind_text(kind: ManeuverKind) -> &'static str
         ManeuverKind::Turn => "turn",
         ManeuverKind::Continue => "continue",
         ManeuverKind::NewName => "new name",
+        ManeuverKind::Roundabout => "roundabout",
+        ManeuverKind::ExitRoundabout => "exit roundabout",
     }
 }
 
@@ -57,6 +59,18 @@ fn push_modifier(json: &mut Json, bend: Option<Modifier>) -> Result<(), AllocErr
     }
 }
 
+// By which exit a roundabout is left, where that is told.
+fn push_exit(json: &mut Json, exit: Option<u32>) -> Result<(), AllocError>
+    requires { TakesKey json.old }
+    ensures ok { OnOk result (json.new ≡ with_members (optional_member (codes "exit") (option_map (λ number. whole (pos number)) exit)) json.old) }
+    ensures more { OnOk result (TakesKey json.new) }
+{
+    match exit {
+        Some(number) => json.count_member("exit", u128::from(number)),
+        None => Ok(()),
+    }
+}
+
 // What a driver is told where a step begins.
 fn push_maneuver(json: &mut Json, maneuver: &Maneuver) -> Result<(), AllocError>
     requires { TakesValue json.old }
@@ -69,6 +83,7 @@ fn push_maneuver(json: &mut Json, maneuver: &Maneuver) -> Result<(), AllocError>
     json.count_member("bearing_after", u128::from(maneuver.after))?;
     json.text_member("type", kind_text(maneuver.kind))?;
     push_modifier(json, maneuver.modifier)?;
+    push_exit(json, maneuver.exit)?;
     json.end_object()?;
     Ok(())
 }

@@ -9,6 +9,8 @@ mod cases;
 #[cfg(test)]
 mod exclusions;
 #[cfg(test)]
+mod roundabouts;
+#[cfg(test)]
 mod steps;
 #[cfg(test)]
 mod texts;

@@ -167,6 +167,38 @@ r1 Ttype=restriction,restriction=no_left_turn Mw14@from,n5@via,w10@to",
     settings: BARRED_SETTINGS,
 };
 
+// A roundabout where three streets meet: one from the west, and two to the east.
+const ROUNDABOUT: Town<'static> = Town {
+    map: "n1 x0 y0
+n2 x0.001 y0
+n3 x0.001 y0.001
+n4 x0 y0.001
+n5 x-0.001 y0
+n6 x0.002 y0
+n7 x0.002 y0.001
+w20 Thighway=residential,junction=roundabout Nn1,n2,n3,n4,n1
+w21 Thighway=residential Nn5,n1
+w22 Thighway=residential Nn2,n6
+w23 Thighway=residential Nn3,n7",
+    settings: SETTINGS,
+};
+
+// The same, where one of the streets only leads to the roundabout.
+const JOINED_ROUNDABOUT: Town<'static> = Town {
+    map: "n1 x0 y0
+n2 x0.001 y0
+n3 x0.001 y0.001
+n4 x0 y0.001
+n5 x-0.001 y0
+n6 x0.002 y0
+n7 x0.002 y0.001
+w20 Thighway=residential,junction=roundabout Nn1,n2,n3,n4,n1
+w21 Thighway=residential Nn5,n1
+w22 Thighway=residential,oneway=yes Nn6,n2
+w23 Thighway=residential Nn3,n7",
+    settings: SETTINGS,
+};
+
 /// A map, and the settings of the vehicle.
 #[derive(Clone, Copy)]
 pub(crate) struct Town<'a> {
@@ -189,6 +221,8 @@ pub(crate) fn town_named(rt: &impl Abort, name: &str) -> Town<'static> {
         "gravel" => GRAVEL,
         "limited gravel" => LIMITED_GRAVEL,
         "unheeded" => UNHEEDED,
+        "roundabout" => ROUNDABOUT,
+        "joined roundabout" => JOINED_ROUNDABOUT,
         _ => panic!(rt; "a town"),
     }
 }
