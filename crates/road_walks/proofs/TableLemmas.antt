@@ -28,7 +28,7 @@ use Rattle.road_walks.specs.WalkLaws.{stands_for_cells}
 use Rattle.road_walks.proofs.TurnLemmas.{by_turns-from, by_turns-to}
 
 -- what holds of each pair of two lists, and of each pair of the second and a third, gives what holds of the first and the third
-all_zip-through : {A B D : Type 0} (R : A → B → Type 0) (S : B → D → Type 0) (T : A → D → Type 0) → ((a : A) (b : B) (d : D) → R a b → S b d → T a d) →
+pub all_zip-through : {A B D : Type 0} (R : A → B → Type 0) (S : B → D → Type 0) (T : A → D → Type 0) → ((a : A) (b : B) (d : D) → R a b → S b d → T a d) →
     (xs : List A) (ys : List B) (zs : List D) → AllZip R xs ys → AllZip S ys zs → AllZip T xs zs
 all_zip-through R S T f [] [] [] h k = tt
 all_zip-through R S T f [] [] (d ∷ zs) h k = absurd k

@@ -6,6 +6,7 @@ use Rattle.road_base.specs.declared.segments.Place.{Place}
 use Rattle.search_graph.specs.declared.costs.WeightDurLen.{WeightDurLen}
 use Rattle.search_graph.specs.declared.ends.Start.{Start}
 use Rattle.search_graph.specs.declared.ends.Target.{Target}
+use Rattle.search_graph.specs.Digraph.{Digraph, Weighting}
 use Rattle.search_graph.specs.RoadCosts.{road_cost_ops, road_cost_laws}
 use Rattle.search_graph.specs.WeightLaws.{least_walk_units}
 use Rattle.search_graph.specs.Weighted.{AreSmall}
@@ -25,8 +26,43 @@ use Rattle.road_walks.specs.Choosing.{IsLeastOf, route_of}
 use Rattle.road_walks.specs.Least.{most_units}
 
 -- a list of one has that one alone
-only : (x y : Start WeightDurLen) → Contains (x ∷ []) y → x ≡ y
+pub only : (x y : Start WeightDurLen) → Contains (x ∷ []) y → x ≡ y
 only x y h = elim (Contains-push_cases [] x y h) [ inl n ↦ absurd (omega (arith, n.1)) | inr e ↦ e ]
+
+module _ (g : Digraph) (w : Weighting WeightDurLen) (starts : List (Start WeightDurLen)) (t : Target WeightDurLen) (walk : List ℕ) (d : WeightDurLen) where
+  -- a walk from one of several starts is one from that start alone
+  pub from-its_start : (b : IsBetween road_cost_ops g w starts t walk d) → IsBetween road_cost_ops g w (b.start ∷ []) t walk d
+  from-its_start b = record {
+    start = b.start;
+    among = Contains-push [] b.start;
+    start_open = b.start_open;
+    middle = b.middle;
+    last = b.last;
+    paid = b.paid;
+    goes = b.goes;
+    arc = b.arc;
+    joins = b.joins;
+    target_open = b.target_open;
+    is_walk = b.is_walk;
+    is_cost = b.is_cost;
+  }
+
+  -- and the other way round
+  pub from-all_starts : (s : Start WeightDurLen) → Contains starts s → IsBetween road_cost_ops g w (s ∷ []) t walk d → IsBetween road_cost_ops g w starts t walk d
+  from-all_starts s has b = record {
+    start = b.start;
+    among = subst (λ (x : Start WeightDurLen). Contains starts x) (only s b.start b.among) has;
+    start_open = b.start_open;
+    middle = b.middle;
+    last = b.last;
+    paid = b.paid;
+    goes = b.goes;
+    arc = b.arc;
+    joins = b.joins;
+    target_open = b.target_open;
+    is_walk = b.is_walk;
+    is_cost = b.is_cost;
+  }
 
 module _ (road : RoadMetric) (p q : Place) (starts : List (Start WeightDurLen)) (targets : List (Target WeightDurLen)) (are_starts : AreAll (IsStart road.weights p) starts) (are_targets : AreAll (IsTarget road.weights q) targets) where
   -- a walk from one of the starts to one of the targets goes by turns
@@ -36,40 +72,11 @@ module _ (road : RoadMetric) (p q : Place) (starts : List (Start WeightDurLen)) 
     last = t;
     begins = are_starts.each b.start b.among;
     ends = are_targets.each t h;
-    runs = record {
-      start = b.start;
-      among = Contains-push [] b.start;
-      start_open = b.start_open;
-      middle = b.middle;
-      last = b.last;
-      paid = b.paid;
-      goes = b.goes;
-      arc = b.arc;
-      joins = b.joins;
-      target_open = b.target_open;
-      is_walk = b.is_walk;
-      is_cost = b.is_cost;
-    };
+    runs = from-its_start (turn_graph road.network) road.weights starts t walk d b;
   }
 
   pub by_turns-to : (walk : List ℕ) (d : WeightDurLen) → (b : IsByTurns road p q walk d) → IsBetween road_cost_ops (turn_graph road.network) road.weights starts b.last walk d
-  by_turns-to walk d b =
-      let r = b.runs in
-      let first = only b.first r.start r.among in
-      record {
-        start = r.start;
-        among = are_starts.every r.start (subst (λ (x : Start WeightDurLen). IsStart road.weights p x) first b.begins);
-        start_open = r.start_open;
-        middle = r.middle;
-        last = r.last;
-        paid = r.paid;
-        goes = r.goes;
-        arc = r.arc;
-        joins = r.joins;
-        target_open = r.target_open;
-        is_walk = r.is_walk;
-        is_cost = r.is_cost;
-      }
+  by_turns-to walk d b = from-all_starts (turn_graph road.network) road.weights starts b.last walk d b.first (are_starts.every b.first b.begins) b.runs
 
   -- the cheapest walk to the targets is the least walk by turns
   pub cheapest-least : (found : Option (Found WeightDurLen)) → IsCheapest road_cost_ops (turn_graph road.network) road.weights starts targets found → IsLeastOf (IsByTurns road p q) (option_map route_of found)

@@ -1,3 +1,5 @@
+pub mod Between
+pub mod BetweenParts
 pub mod Choosing
 pub mod FirstFailure
 pub mod Least

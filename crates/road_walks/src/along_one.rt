@@ -4,6 +4,7 @@ ghost use Rattle.std.specs.Prelude.{◌≡◌, ◌+◌, ◌*◌, ◌^◌, ◌<�
 ghost use Rattle.search_graph.specs.RoadCosts.{road_cost_ops};
 ghost use Rattle.road_places.specs.Permitted.{IsAlong, IsAlongOne};
 ghost use Rattle.road_places.specs.Places.{IsDirection, before};
+ghost use Rattle.road_walks.specs.BetweenParts.{IsAlongBetween};
 ghost use Rattle.road_walks.specs.Choosing.{IsLeastOf};
 
 use crate::cheapest::cheaper;
@@ -33,6 +34,29 @@ pub(crate) fn along_one(
     let forward = along(alloc, base, from, to, 2 * from.segment)?;
     let backward = along(alloc, base, from, to, 2 * from.segment + 1)?;
     Ok(cheaper(forward, backward))
+}
+
+/// The walk of one vertex that begins with the one of these and ends with the other, or None where there is none.
+pub(crate) fn along_between(
+    alloc: Global,
+    base: &BaseMetric,
+    from: Place,
+    to: Place,
+    ends: (u32, u32),
+) -> Result<Option<Route>, AllocError>
+    requires in_range { ends.0 < length base.now.weights.vertex }
+    requires first { IsDirection from.segment ends.0 }
+    requires last { IsDirection to.segment ends.1 }
+    requires from { from.at ≤ 1024 }
+    requires to { to.at ≤ 1024 }
+    ensures least { IfOk result (IsLeastOf (IsAlongBetween base.now.weights from to ends.0 ends.1)) }
+    ensures unit { IfOk result (λ found. IfSome found (λ route. road_cost_ops.units route.cost 1)) }
+{
+    if ends.0 != ends.1 {
+        return Ok(None);
+    }
+    let alone = along(alloc, base, from, to, ends.0)?;
+    Ok(alone)
 }
 
 // The walk of this vertex alone, where there is one.

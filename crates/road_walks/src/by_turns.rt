@@ -55,8 +55,8 @@ pub(crate) fn targets_to(
     Ok(targets)
 }
 
-// The least walk over the network's graph from one of the starts to one of the targets, or none.
-fn over_graph(
+/// The least walk over the network's graph from one of the starts to one of the targets, or none.
+pub(crate) fn over_graph(
     alloc: Global,
     under: &Under<'_>,
     starts: &[Start<WeightDurLen>],

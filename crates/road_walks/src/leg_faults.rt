@@ -8,7 +8,8 @@ use std::alloc::{AllocError, AllocFailed};
 /// Why not each leg got a route.
 #[derive(Clone, Copy, Debug, PartialEq, Eq)]
 pub enum LegFault {
-    /// No permitted walk leads along the leg of this number, from 0; it is the first such leg.
+    /// No permitted walk leads along the leg of this number, from 0, and it is the first such leg; of legs that are to be
+    /// one walk, it is the first to whose end none leads.
     NoWalk(u32),
     /// Memory ran out.
     Memory,

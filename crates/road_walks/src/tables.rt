@@ -22,8 +22,8 @@ use std::alloc::{AllocError, Global};
 use std::thread::Threads;
 use table_query::{Row, Starts, Targets, lesser, table};
 
-// What the least walks over the network's graph cost from each list of starts to each list of targets.
-fn over_graph(
+/// What the least walks over the network's graph cost from each list of starts to each list of targets.
+pub(crate) fn over_graph(
     rt: &(impl Threads + Sync),
     alloc: Global,
     under: &Under<'_>,
@@ -62,8 +62,8 @@ fn rows_by_turns(
     Ok(rows)
 }
 
-// What a route costs, where there is one.
-fn cost_of(route: Option<Route>) -> Option<WeightDurLen>
+/// What a route costs, where there is one.
+pub(crate) fn cost_of(route: Option<Route>) -> Option<WeightDurLen>
     ensures { result ≡ option_map (λ r. r.cost) route }
 {
     let route = route?;

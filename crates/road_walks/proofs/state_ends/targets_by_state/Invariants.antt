@@ -1,0 +1,8 @@
+use Rattle.std.proofs.Common.{take}
+use Rattle.std.specs.List.{AllZip}
+use Rattle.road_walks.specs.BetweenParts.{AreTargetsAt, states_of}
+use Rattle.road_walks.proofs.state_ends.targets_by_state.Given as goal
+
+-- each state so far has its list
+abbrev pub invariant-loop-state : goal.invariant-loop-state
+invariant-loop-state l = AllZip (AreTargetsAt l.under.frame.graph.vertices l.under.road.weights l.to) (take l.state (states_of l.to)) l.lists.items
