@@ -1,0 +1,4 @@
+pub mod BridgeLemmas
+pub mod EndLemmas
+pub mod LegLemmas
+pub mod TableLemmas

@@ -1,0 +1,53 @@
+//! Least routes along legs between given states of their places.
+
+ghost use Rattle.std.specs.Prelude.{◌≡◌, ℕ, ◌+◌, ◌^◌, ◌<◌, Some, IfOk, length};
+ghost use Rattle.std.specs.List.{slice_get};
+ghost use Rattle.road_places.specs.Places.{IsPlaceOn};
+ghost use Rattle.road_walks.specs.Between.{state_of};
+ghost use Rattle.road_walks.specs.Least.{most_units};
+ghost use Rattle.road_walks.specs.Legs.{AreWithinUnits};
+ghost use Rattle.road_through.specs.States.{AreRoutesBy, HasRoutesBy};
+
+use customized::Under;
+use road_base::Place;
+use road_places::Route;
+use road_walks::least_route_between;
+use std::alloc::{AllocError, Global};
+
+// The vertex of a state: the segment of the place in one direction.
+fn vertex_of(place: Place, state: u32) -> u32
+    requires few { place.segment < 2 ^ 30 }
+    requires two { state < 2 }
+    ensures { result ≡ state_of place state }
+{
+    2 * place.segment + state
+}
+
+/// A least route along each leg of those that begin and end in the states of its places.
+pub(crate) fn routes_by(
+    alloc: Global,
+    under: &Under<'_>,
+    places: &[Place],
+    states: &[u32],
+) -> Result<Vec<Route>, AllocError>
+    requires some { 0 < length places.now }
+    requires placed { (k : ℕ) (place : _) → slice_get places.now k ≡ Some place → IsPlaceOn under.now.road.network place }
+    requires one_each { length states.now ≡ length places.now }
+    requires reach { HasRoutesBy under.now.road places.now states.now }
+    ensures routes { IfOk result (λ routes. AreRoutesBy under.now.road places.now states.now routes.items) }
+    ensures bound { IfOk result (λ routes. AreWithinUnits (most_units under.now.road.network) routes.items) }
+{
+    let _small = under.base();
+    let mut routes = Vec::with_capacity(alloc, places.len() - 1)?;
+    for leg in 0..places.len() - 1 {
+        let (from, to) = (places[leg], places[leg + 1]);
+        let first = vertex_of(from, states[leg]);
+        let last = vertex_of(to, states[leg + 1]);
+        let found = least_route_between(alloc, under, from, to, (first, last))?;
+        match found {
+            Some(route) => routes.push(route)?,
+            None => unreachable!(),
+        }
+    }
+    Ok(routes)
+}
