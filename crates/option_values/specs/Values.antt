@@ -155,7 +155,8 @@ overview_of text =
 abbrev pub continue_straight_of : List ℕ → Option ContinueStraight
 continue_straight_of text =
     if bytes_eq text (codes "default") then Some straight.Default
-    else (if bytes_eq text (codes "false") then Some straight.Off else None)
+    else (if bytes_eq text (codes "true") then Some straight.On
+    else (if bytes_eq text (codes "false") then Some straight.Off else None))
 
 -- a trip begins anywhere or at the first coordinate
 abbrev pub source_of : List ℕ → Option Source

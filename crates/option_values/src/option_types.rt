@@ -67,13 +67,15 @@ pub enum Overview {
     Off,
 }
 
-/// Whether a route has to go straight on at its inner coordinates.
+/// Whether a route goes straight on at its inner coordinates, or may turn round there.
 #[derive(Clone, Copy, Debug, PartialEq, Eq)]
 pub enum ContinueStraight {
-    /// As the settings have it.
+    /// `default`, which stands for `false`.
     Default,
-    /// `false`.
+    /// `false`: it may turn round.
     Off,
+    /// `true`: it goes straight on.
+    On,
 }
 
 /// At which coordinate a trip begins.

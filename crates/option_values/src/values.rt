@@ -84,12 +84,13 @@ pub fn overview_of(text: &str) -> Option<Overview>
     }
 }
 
-/// `default` or `false`.
+/// `default`, `true` or `false`.
 pub fn continue_straight_of(text: &str) -> Option<ContinueStraight>
     ensures { result ≡ continue_straight_of text.now }
 {
     match text {
         "default" => Some(ContinueStraight::Default),
+        "true" => Some(ContinueStraight::On),
         "false" => Some(ContinueStraight::Off),
         _ => None,
     }

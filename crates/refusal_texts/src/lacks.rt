@@ -13,7 +13,7 @@ pub enum Lack {
     Ahead(u32),
     /// The coordinate of this number, from 0, has no place.
     Segment(u32),
-    /// The leg of this number, from 0, has no permitted walk.
+    /// The leg of this number, from 0, has no permitted walk; or, where all legs are to be one walk, none reaches its end.
     Route(u32),
     /// In each order of the places that is admitted a leg has no permitted walk.
     Trips,

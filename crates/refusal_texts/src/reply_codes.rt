@@ -26,7 +26,7 @@ pub enum Code {
     AheadOfData,
     /// A coordinate has no place, since no segment that may be driven along is of its bearing and in its radius.
     NoSegment,
-    /// No permitted walk leads along a leg.
+    /// No permitted walk leads along a leg; or, where all legs are to be one walk, none reaches its end.
     NoRoute,
     /// No trip leads through all places.
     NoTrips,

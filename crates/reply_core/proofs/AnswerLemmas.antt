@@ -27,13 +27,15 @@ use Rattle.reply_texts.specs.LegLaws.{IsToldInSteps, legs_told-steps}
 use Rattle.reply_texts.specs.RouteLegs.{ArePermitted, AreSmall, legs_told}
 use Rattle.reply_texts.specs.Waypoints.{waypoints_of}
 use Rattle.road_walks.specs.Least.{most_units}
-use Rattle.road_walks.specs.Legs.{AreAlong, AreWithinUnits, IsLegFault}
+use Rattle.road_walks.specs.Legs.{AreAlong, AreWithinUnits}
 use Rattle.road_walks.specs.declared.leg_faults.LegFault.{LegFault}
 use Rattle.road_walks.specs.declared.leg_faults.LegFault.TheVariants as leg
 use Rattle.snap_index.specs.Firsts.{AreFirsts}
 use Rattle.snap_index.specs.declared.filters.Filter.{Filter}
 use Rattle.snap_index.specs.declared.snapping.Snapped.{Snapped}
 use Rattle.option_values.specs.declared.option_types.Bearing.{Bearing}
+use Rattle.option_values.specs.declared.option_types.ContinueStraight.{ContinueStraight}
+use Rattle.option_values.specs.declared.option_types.ContinueStraight.TheVariants as straight
 use Rattle.url_read.specs.Request.{IsFitting, fewest, most, name_of_service}
 use Rattle.url_read.specs.declared.requests.NearestOptions.{NearestOptions}
 use Rattle.url_read.specs.declared.requests.Request.{Request}
@@ -42,8 +44,9 @@ use Rattle.url_read.specs.declared.requests.Service.{Service}
 use Rattle.url_read.specs.declared.requests.Service.TheVariants as service
 use Rattle.url_read.specs.declared.requests.Telling.{Telling}
 use Rattle.reply_core.specs.Asked.{asked_in, filter_of, filters_of}
-use Rattle.reply_core.specs.Faults.{IsFoundFault, IsPlaceFault, leg_fault, place_fault}
-use Rattle.reply_core.specs.Lacks.{HasLegs, IsRecent, IsStray, LacksPlace, StandsFor}
+use Rattle.reply_core.specs.Faults.{IsFoundFault, IsLegFaultBy, IsPlaceFault, leg_fault, place_fault}
+use Rattle.reply_core.specs.Lacks.{IsRecent, IsStray, LacksPlace, StandsFor}
+use Rattle.reply_core.specs.RouteAsked.{IsBrokenBy}
 use Rattle.reply_core.specs.declared.lacks.PlaceFault.{PlaceFault}
 use Rattle.reply_core.specs.declared.lacks.PlaceFault.TheVariants as place
 
@@ -97,18 +100,16 @@ first-stray road asked one at lacks = record {
   before = λ k other lt there. absurd (omega (arith, lt));
 }
 
--- a request that fits its service has a coordinate, and not too many
-pub some-of : (asked : Service) (count : ℕ) → fewest (name_of_service asked) ≤ count → 0 < count
-some-of (service.Route own) count h = omega (arith, h)
-some-of (service.Table own) count h = omega (arith, h)
-some-of (service.Nearest own) count h = omega (arith, h)
-some-of (service.Trip own) count h = omega (arith, h)
-
+-- a request that fits its service has not too many coordinates
 pub few-of : (asked : Service) (count : ℕ) → count ≤ most (name_of_service asked) → count < 2 ^ 32
 few-of (service.Route own) count h = omega (arith, h)
 few-of (service.Table own) count h = omega (arith, h)
 few-of (service.Nearest own) count h = omega (arith, h)
 few-of (service.Trip own) count h = omega (arith, h)
+
+-- one for a route has two at least
+pub two-of : (request : Request) (own : RouteOptions) → request.service ≡ service.Route own → IsFitting request → 2 ≤ length request.points
+two-of request own is fitting = subst (λ (s : Service). fewest (name_of_service s) ≤ length request.points) is fitting.least
 
 -- one for the nearest places has one
 pub one-of : (request : Request) (own : NearestOptions) → request.service ≡ service.Nearest own → IsFitting request → length request.points ≡ 1
@@ -127,10 +128,16 @@ pub place-fault : (road : RoadMetric) (number : ℕ) (request : Request) (fault 
 place-fault road number request (place.NoPlace coordinate) recent is = (recent, is)
 place-fault road number request place.Memory recent is = tt
 
--- and a fault of the legs one of a request for a route
+-- the leg that a fault names is the first that is lacking, however the legs are asked for
+broken-leg : (asked : ContinueStraight) (road : RoadMetric) (places : List Place) (n : ℕ) → IsLegFaultBy asked road places (leg.NoWalk n) → IsBrokenBy asked road places n
+broken-leg straight.Default road places n first = first
+broken-leg straight.Off road places n first = first
+broken-leg straight.On road places n first = first
+
+-- and a fault of the legs is one of a request for a route
 pub leg-fault : (road : RoadMetric) (number : ℕ) (request : Request) (own : RouteOptions) (places : List Place) (fault : LegFault) → request.service ≡ service.Route own → IsRecent number request
-    → AllZip (StandsFor road) (asked_in request) places → IsLegFault road places fault → IsFoundFault road number request (leg_fault fault)
-leg-fault road number request own places (leg.NoWalk n) is recent snapped first = (subst HasLegs (sym is) tt, recent, record { places = places; snapped = snapped; first = first })
+    → AllZip (StandsFor road) (asked_in request) places → IsLegFaultBy own.continue_straight road places fault → IsFoundFault road number request (leg_fault fault)
+leg-fault road number request own places (leg.NoWalk n) is recent snapped first = (recent, record { own = own; service = is; places = places; snapped = snapped; first = broken-leg own.continue_straight road places n first })
 leg-fault road number request own places leg.Memory is recent snapped first = tt
 
 -- the routes of a network of so many segments at most cost so little that their steps can be added up

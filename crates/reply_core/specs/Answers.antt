@@ -1,8 +1,9 @@
 -- What an answer to a target, or to a line, is, over a road network under one metric that was published under
 -- a number. The cases exclude each other and leave nothing out: the line is of no form; the target is refused;
 -- the classes that the request excludes are no set of the profile; and, under the metric that avoids this set, the
--- request asks for a higher number; a coordinate has no place; a leg of a route has no permitted walk, or each
--- trip has such a leg; there is what the request asks for.
+-- request asks for a higher number; a coordinate has no place; a leg of a route has no permitted walk, or
+-- no one walk leads up to its end where the legs are to be one, or each trip has a leg without a walk; there is what
+-- the request asks for.
 use Rattle.std.specs.Prelude.{◌≡◌, ℕ, ◌<◌, ◌⊎◌, List, [], ◌∷◌, All, map, Option, Some, None, Result, Ok, Err, codes, length}
 use Rattle.std.proofs.Common.{inl, inr, refl}
 use Rattle.std.specs.List.{AllZip}
@@ -46,6 +47,7 @@ use Rattle.refusal_texts.specs.declared.lacks.Lack.{Lack}
 use Rattle.reply_core.specs.Asked.{asked_in, chosen_from}
 use Rattle.reply_core.specs.Lacks.{IsLack, IsRecent, StandsFor}
 use Rattle.reply_core.specs.Request.{target_of}
+use Rattle.reply_core.specs.RouteAsked.{AreLeastBy}
 use Rattle.reply_core.specs.TripAsked.{rule_of}
 use Rattle.reply_core.specs.declared.answers.Answer.{Answer}
 
@@ -78,14 +80,15 @@ pub record SaysLack (road : RoadMetric) (number : ℕ) (request : Request) (answ
   pub refuses : Refuses answer (lack_code what) (lack_value number what)
 
 -- the metric is recent enough; the places of the coordinates, a permitted walk along each leg, of which none
--- could cost less, and the text of exactly these, for the vehicle of the profile: a leg's line, its annotation and its
--- steps are of its one walk, and the steps cost together what the leg costs
+-- could cost less, or all of which are one walk that could not cost less, and the text of exactly these, for the vehicle of
+-- the profile: a leg's line, its annotation and its steps are of its one walk, and the steps cost together what the leg
+-- costs
 pub record SaysRoute (road : RoadMetric) (number : ℕ) (request : Request) (own : RouteOptions) (answer : Answer) : Type 0 where
   pub recent : IsRecent number request
   pub snapped : AllZip (StandsFor road) (asked_in request) answer.places
   pub routes : List Route
   pub along : AreAlong road answer.places routes
-  pub least : AreLeastRoutes road answer.places routes
+  pub least : AreLeastBy own.continue_straight road answer.places routes
   pub walks : answer.walks ≡ map (λ route. route.walk) routes
   pub in_steps : All IsToldInSteps (legs_told road answer.places routes)
   pub tells : Tells answer code.Ok (route_reply number request.skip_waypoints own.telling road.network.profile (legs_told road answer.places routes) (waypoints_of road.network.segments request.points answer.places))

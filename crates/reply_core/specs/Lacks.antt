@@ -6,16 +6,16 @@ use Rattle.road_base.specs.declared.coordinates.Point.{Point}
 use Rattle.road_base.specs.declared.segments.Place.{Place}
 use Rattle.geo_integer.specs.Position.{position_of}
 use Rattle.url_read.specs.declared.requests.Request.{Request}
-use Rattle.url_read.specs.declared.requests.Service.{Service}
+use Rattle.url_read.specs.declared.requests.RouteOptions.{RouteOptions}
 use Rattle.url_read.specs.declared.requests.Service.TheVariants as service
 use Rattle.url_read.specs.declared.requests.TripOptions.{TripOptions}
 use Rattle.metric_make.specs.RoadMetric.{RoadMetric}
 use Rattle.road_walks.specs.FirstFailure.{IsFirstFailure}
-use Rattle.road_walks.specs.Legs.{IsBrokenLeg}
 use Rattle.road_trips.specs.Trips.{IsBestThrough}
 use Rattle.snap_index.specs.Snapped.{IsSnapped, HasNoPlace}
 use Rattle.snap_index.specs.declared.filters.Filter.{Filter}
 use Rattle.reply_core.specs.Asked.{asked_in}
+use Rattle.reply_core.specs.RouteAsked.{IsBrokenBy}
 use Rattle.reply_core.specs.TripAsked.{rule_of}
 use Rattle.refusal_texts.specs.declared.lacks.Lack.{Lack}
 use Rattle.refusal_texts.specs.declared.lacks.Lack.TheVariants as lack
@@ -44,18 +44,14 @@ LacksPlace road asked = HasNoPlace road.network.segments road.weights asked.1 (p
 abbrev pub IsStray : RoadMetric → List (Point × Filter) → ℕ → Type 0
 IsStray road asked number = IsFirstFailure (HasPlace road) (LacksPlace road) asked number
 
--- each coordinate has a place, and the leg of this number between these is the first without a permitted walk
-pub record IsBroken (road : RoadMetric) (asked : List (Point × Filter)) (number : ℕ) : Type 0 where
+-- the service is `route`, which alone has legs, each coordinate has a place, and the leg of this number between these is
+-- the first that is lacking, as the request asks for its legs
+pub record LacksRoute (road : RoadMetric) (request : Request) (leg : ℕ) : Type 0 where
+  pub own : RouteOptions
+  pub service : request.service ≡ service.Route own
   pub places : List Place
-  pub snapped : AllZip (StandsFor road) asked places
-  pub first : IsBrokenLeg road places number
-
--- the service is `route`, which alone has legs
-abbrev pub HasLegs : Service → Type 0
-HasLegs (service.Route own) = Unit {0}
-HasLegs (service.Table own) = ⊥
-HasLegs (service.Nearest own) = ⊥
-HasLegs (service.Trip own) = ⊥
+  pub snapped : AllZip (StandsFor road) (asked_in request) places
+  pub first : IsBrokenBy own.continue_straight road places leg
 
 -- the service is `trip`, each coordinate has a place, and each order of these that is admitted has a leg without a
 -- permitted walk
@@ -70,5 +66,5 @@ pub record LacksTrips (road : RoadMetric) (request : Request) : Type 0 where
 abbrev pub IsLack : RoadMetric → ℕ → Request → Lack → Type 0
 IsLack road number request (lack.Ahead since) = IsAhead number request since
 IsLack road number request (lack.Segment coordinate) = IsRecent number request × IsStray road (asked_in request) coordinate
-IsLack road number request (lack.Route leg) = HasLegs request.service × IsRecent number request × IsBroken road (asked_in request) leg
+IsLack road number request (lack.Route leg) = IsRecent number request × LacksRoute road request leg
 IsLack road number request lack.Trips = IsRecent number request × LacksTrips road request

@@ -24,9 +24,9 @@ const LONGEST_LINE: usize = 8192;
 /// The answer to a target under what was published: a refusal with status 400 for a target that is no request,
 /// for a request that excludes classes of ways which are no set of the profile, or under the metric for those who
 /// avoid them for a request that asks for a higher number, for the first coordinate that has no place, for the first leg of a
-/// route that has no permitted walk, or where each trip has such a leg, the first that applies; else, with status
-/// 200, a least route, a table of what least walks cost, its rows side by side in threads, the nearest places, or the
-/// best trip. The grid is that of the metric's network.
+/// route that has no permitted walk or, where its legs are to be one walk, behind which none reaches, or where each trip has
+/// such a leg, the first that applies; else, with status 200, a least route, a table of what least walks cost, its rows side
+/// by side in threads, the nearest places, or the best trip. The grid is that of the metric's network.
 ///
 /// It answers `Memory` only where memory runs out.
 pub fn answer(

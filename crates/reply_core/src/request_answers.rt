@@ -84,7 +84,7 @@ fn found_answer(
     ensures err { IfErr result (IsFoundFault under.now.road number request.now) }
 {
     match &request.service {
-        Service::Route(own) => route_answer(alloc, under, number, grid, request, own),
+        Service::Route(own) => route_answer(rt, alloc, under, number, grid, request, own),
         Service::Table(own) => table_answer(rt, alloc, under, number, grid, request, own),
         Service::Nearest(own) => nearest_answer(alloc, under, number, grid, request, own),
         Service::Trip(own) => trip_answer(rt, alloc, under, number, grid, request, own),

@@ -18,20 +18,22 @@ ghost use Rattle.reply_core.specs.Lacks.{IsRecent};
 
 use crate::answers::{Answer, Places, Walks};
 use crate::asked_places::places_of;
+use crate::asked_routes::routes_of;
 use crate::lacks::FoundFault;
 use customized::Under;
 use refusal_texts::Code;
 use reply_texts::route_text;
 use road_base::{Place, Text};
 use road_places::{Route, Walk};
-use road_walks::least_routes;
 use snap_index::Grid;
 use std::alloc::{AllocError, Global};
+use std::thread::Threads;
 use url_read::{Request, RouteOptions};
 
-// The answer with a least route along each leg, or the first coordinate that has no place, or the first leg that has
-// no permitted walk.
+// The answer with a least route along each leg, or with one least walk through all places, or the first coordinate that
+// has no place, or the first leg that is lacking.
 pub(crate) fn route_answer(
+    rt: &(impl Threads + Sync),
     alloc: Global,
     under: &Under<'_>,
     number: u32,
@@ -51,7 +53,7 @@ pub(crate) fn route_answer(
     let network = under.network();
     prove!(network.segments() < 1 << 30);
     let places = places_of(alloc, under, grid, request)?;
-    let routes = least_routes(alloc, under, &places)?;
+    let routes = routes_of(rt, alloc, under, own.continue_straight, &places)?;
     Ok(told(alloc, under, number, request, own, places, routes)?)
 }
 

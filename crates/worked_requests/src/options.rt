@@ -74,6 +74,7 @@ const TAKEN: &[u8] = b"/route/v1/car/0,0;0,1?radiuses=;$\
 /route/v1/car/0,0;0,1?geometries=polyline6$\
 /route/v1/car/0,0;0,1?overview=simplified$\
 /route/v1/car/0,0;0,1?continue_straight=default$\
+/route/v1/car/0,0;0,1?continue_straight=true$\
 /table/v1/car/0,0;0,1?sources=all$\
 /table/v1/car/0,0;0,1?sources=1;0;1$\
 /table/v1/car/0,0;0,1?destinations=000000001$\
@@ -144,7 +145,7 @@ const OF_ANOTHER_FORM: &[u8] = b"/route/v1/car/0,0;0,1?radiuses=|InvalidOptions|
 /route/v1/car/0,0;0,1?annotations=true,nodes|InvalidOptions|option annotations$\
 /route/v1/car/0,0;0,1?geometries=polyline5|InvalidOptions|option geometries$\
 /route/v1/car/0,0;0,1?overview=true|InvalidOptions|option overview$\
-/route/v1/car/0,0;0,1?continue_straight=true|InvalidOptions|option continue_straight$\
+/route/v1/car/0,0;0,1?continue_straight=True|InvalidOptions|option continue_straight$\
 /trip/v1/car/0,0;0,1?roundtrip=|InvalidOptions|option roundtrip$\
 /trip/v1/car/0,0;0,1?roundtrip=no|InvalidOptions|option roundtrip$\
 /trip/v1/car/0,0;0,1?source=|InvalidOptions|option source$\

@@ -22,6 +22,7 @@ fn each_name_is_read(rt: HostRuntime) {
             Some(ContinueStraight::Default)
         )
     );
+    assert!(rt; matches!(continue_straight_of("true"), Some(ContinueStraight::On)));
 }
 
 #[test]

@@ -29,6 +29,8 @@ mod steady;
 #[cfg(test)]
 mod steps;
 #[cfg(test)]
+mod through;
+#[cfg(test)]
 mod traffic;
 #[cfg(test)]
 mod typed;

@@ -4,21 +4,21 @@ use Rattle.road_base.specs.declared.segments.Place.{Place}
 use Rattle.edge_graph.specs.NetworkView.{NetworkView}
 use Rattle.reply_core.specs.Asked.{asked_in}
 use Rattle.reply_core.specs.Lacks.{StandsFor}
-use Rattle.reply_core.proofs.AnswerLemmas.{asked-count, few-of, few-units, some-of}
+use Rattle.reply_core.proofs.AnswerLemmas.{asked-count, few-of, few-units, two-of}
 use Rattle.reply_core.proofs.route_answers.route_answer.Goals as goal
 
 -- there are as many places as coordinates
-pub least_routes-requires-clause-some : goal.least_routes-requires-clause-some
-least_routes-requires-clause-some c =
+pub routes_of-requires-clause-some : goal.routes_of-requires-clause-some
+routes_of-requires-clause-some g c =
     let request = c.args.request.now in
     let asked = asked-count request c.requires.fitting.radiuses c.requires.fitting.bearings in
     let as_many = all_zip-length (StandsFor c.args.under.now.road) (asked_in request) c.in_ok-places.places.items c.in_ok-places.ensures.snapped in
     let same = ap (length {A = Place}) c.deref.ensures.value in
-    let some = some-of request.service (length request.points) c.requires.fitting.least in
+    let some = two-of request c.args.own.now c.requires.service c.requires.fitting in
     omega (arith, asked, as_many, same, some)
 
-pub least_routes-requires-clause-few : goal.least_routes-requires-clause-few
-least_routes-requires-clause-few c =
+pub routes_of-requires-clause-few : goal.routes_of-requires-clause-few
+routes_of-requires-clause-few g c =
     let request = c.args.request.now in
     let asked = asked-count request c.requires.fitting.radiuses c.requires.fitting.bearings in
     let as_many = all_zip-length (StandsFor c.args.under.now.road) (asked_in request) c.in_ok-places.places.items c.in_ok-places.ensures.snapped in
@@ -27,7 +27,7 @@ least_routes-requires-clause-few c =
     omega (arith, asked, as_many, same, few)
 
 pub told-requires-clause-as_many : goal.told-requires-clause-as_many
-told-requires-clause-as_many c =
+told-requires-clause-as_many g c =
     let request = c.args.request.now in
     let asked = asked-count request c.requires.fitting.radiuses c.requires.fitting.bearings in
     let as_many = all_zip-length (StandsFor c.args.under.now.road) (asked_in request) c.in_ok-places.places.items c.in_ok-places.ensures.snapped in
@@ -35,7 +35,7 @@ told-requires-clause-as_many c =
 
 -- and fewer routes
 pub told-requires-clause-legs : goal.told-requires-clause-legs
-told-requires-clause-legs c =
+told-requires-clause-legs g c =
     let request = c.args.request.now in
     let asked = asked-count request c.requires.fitting.radiuses c.requires.fitting.bearings in
     let as_many = all_zip-length (StandsFor c.args.under.now.road) (asked_in request) c.in_ok-places.places.items c.in_ok-places.ensures.snapped in
@@ -46,7 +46,7 @@ told-requires-clause-legs c =
 
 -- none of them costs too much
 pub told-requires-clause-small : goal.told-requires-clause-small
-told-requires-clause-small c =
+told-requires-clause-small g c =
     let network = c.args.under.now.road.network in
     let same = ap (λ (n : NetworkView). length n.segments) c.network-network.ensures in
     few-units network c.in_ok-routes.routes.items (omega (arith, c.segments.ensures.value, c.segments.ensures.fits, same)) c.in_ok-routes.ensures.bound
