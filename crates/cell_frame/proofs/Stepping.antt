@@ -1,18 +1,18 @@
 -- What the rows of a search over parts cost.
-use Rattle.std.proofs.Common.{◌≡◌, ℕ, ◌+◌, ◌*◌, ◌<◌, ◌≤◌, inl, inr, cond, Option, Some, List, [], length, nat_eq, refl, sym, ◌∙◌, ap, subst, arith}
+use Rattle.std.proofs.Common.{◌≡◌, ◌≢◌, ℕ, ◌+◌, ◌*◌, ◌<◌, ◌≤◌, inl, inr, cond, Option, Some, List, [], length, nat_eq, refl, sym, ◌∙◌, ap, subst, arith}
 use Rattle.std.specs.List.{slice_get, slice_range, Contains}
 use Rattle.std.proofs.lemmas.Option.{same_Some, slice_get_within}
 use Rattle.std.proofs.lemmas.Bool.Decides.{eqb_tells}
 use Rattle.list_lemmas.proofs.Gets.{Contains_get, get_some}
 use Rattle.search_graph.specs.Costs.{CostOps, CostLaws}
 use Rattle.search_graph.specs.Digraph.{Weighting}
-use Rattle.cell_partition.specs.Partition.{Partition}
+use Rattle.cell_partition.specs.Partition.{Partition, level_at, number_of}
 use Rattle.cell_frame.specs.declared.cells.Cell.{Cell}
 use Rattle.cell_frame.specs.Borders.{Framed, IsFramed, Holds, IsCell, IsEntry, IsExit, at_cell, cell_of}
 use Rattle.cell_frame.specs.Cliqued.{Rows, HasRow, HasCellRow, IsRow, AreExact}
 use Rattle.cell_frame.specs.Inside.{IsInsideValue, IsLeastInside}
-use Rattle.cell_frame.specs.Parts.{whole_at, AreParts, part_cut}
-use Rattle.cell_frame.specs.PartSpace.{row_heads, part_space}
+use Rattle.cell_frame.specs.Parts.{whole_at, AreParts, ShareCell, part_cut}
+use Rattle.cell_frame.specs.PartSpace.{row_heads, row_name, part_space}
 use Rattle.search_graph.specs.Weighted.{AreSmall}
 use Rattle.cell_frame.proofs.Spacing.{value_is, whole_is_cell, heads_are}
 
@@ -20,9 +20,46 @@ use Rattle.cell_frame.proofs.Spacing.{value_is, whole_is_cell, heads_are}
 pub whole_from_level : (p : Partition) (level : ℕ → ℕ) (u n : ℕ) (k : Cell) → n ≡ level u → k ≡ cell_of p n u → k ≡ whole_at p level u
 whole_from_level p level u n k e h = h ∙ ap (λ (l : ℕ). cell_of p l u) e
 
+-- a row of level 0 is that of a vertex alone, and any other is named by the part
+module _ (f : Framed) (level : ℕ → ℕ) (u : ℕ) (row : ℕ × ℕ) (is : row ≡ row_name f level u) where
+  whole : ℕ × ℕ
+  whole = (level u, (whole_at f.cells level u).number)
+
+  pub named_alone : row.0 ≡ 0 → level u ≡ 0
+  unfolding whole
+  named_alone zero = elim (eqb_tells (level u) 0) [
+    | inl p ↦ p.1
+    | inr p ↦ let same : row ≡ whole = is ∙ ap (λ b. cond b (0, 0) whole) p.0 in sym (ap (λ (r : ℕ × ℕ). r.0) same) ∙ zero
+  ]
+
+  pub named_whole : row.0 ≢ 0 → (whole_at f.cells level u ≡ record { level = row.0; number = row.1 }) × (1 ≤ level u)
+  unfolding whole
+  named_whole some = elim (eqb_tells (level u) 0) [
+    | inl p ↦ absurd (some (ap (λ (r : ℕ × ℕ). r.0) is ∙ ap (λ b. (cond b (0, 0) whole).0) p.0))
+    | inr p ↦
+        let same : row ≡ whole = is ∙ ap (λ b. cond b (0, 0) whole) p.0 in
+        let ne : level u ≢ 0 = p.1 in
+        (subst (λ (r : ℕ × ℕ). whole_at f.cells level u ≡ record { level = r.0; number = r.1 }) (sym same) refl, omega arith)
+  ]
+
+-- what shares a part that is a cell has the cell's number at its level
+module _ (p : Partition) (level : ℕ → ℕ) (u v : ℕ) (k : Cell) (is : k ≡ whole_at p level u) where
+  pub share_from_number : 1 ≤ level u → u < p.vertices → v < p.vertices → number_of (level_at p k.level) v ≡ k.number → ShareCell p level u v
+  share_from_number some lu lv e = (some, (lu, refl), (lv, subst (λ (x : Cell). number_of (level_at p x.level) v ≡ x.number) is e))
+
+  pub number_from_share : ShareCell p level u v → number_of (level_at p k.level) v ≡ k.number
+  number_from_share h = subst (λ (x : Cell). number_of (level_at p x.level) v ≡ x.number) (sym is) h.2.1
+
 -- where u is alone its row leads nowhere
 pub heads_alone : (f : Framed) (level : ℕ → ℕ) (u : ℕ) → level u ≡ 0 → row_heads f level u ≡ []
 heads_alone f level u e = ap (λ (n : ℕ). cond (nat_eq n 0) [] (at_cell f.exits (whole_at f.cells level u))) e
+
+-- and elsewhere to the exits of the part
+pub heads_whole : (f : Framed) (level : ℕ → ℕ) (u : ℕ) → 1 ≤ level u → row_heads f level u ≡ at_cell f.exits (whole_at f.cells level u)
+heads_whole f level u some = elim (eqb_tells (level u) 0) [
+  | inl p ↦ let zero : level u ≡ 0 = p.1 in absurd (omega arith)
+  | inr p ↦ ap (λ b. cond b [] (at_cell f.exits (whole_at f.cells level u))) p.0
+]
 
 get_nothing : {A : Type 0} (xs : List A) (j : ℕ) (x : A) → xs ≡ [] → ¬ (slice_get xs j ≡ Some x)
 get_nothing {A} xs j x e h = let lt : j < length {A = A} [] = slice_get_within [] j x (ap (λ (ys : List A). slice_get ys j) (sym e) ∙ h) in omega arith

@@ -1,14 +1,15 @@
 //! The steps of a search over parts.
 
-ghost use Rattle.std.specs.Prelude.{◌≡◌, ℕ, ◌<◌, ◌≤◌, ◌⊎◌, length, IfSome, Some};
+ghost use Rattle.std.specs.Prelude.{◌≡◌, ℕ, ◌<◌, ◌≤◌, ◌⊎◌, length, IfSome, IfNone, Some};
 ghost use Rattle.std.specs.Bool.{OnTrue, OnFalse};
 ghost use Rattle.search_graph.specs.Digraph.{IsOpen};
-ghost use Rattle.cell_frame.specs.Borders.{IsFramed, IsEntry};
+ghost use Rattle.cell_frame.specs.Borders.{IsFramed, IsCell, IsEntry};
 ghost use Rattle.cell_frame.specs.Cliqued.{AreExact};
 ghost use Rattle.cell_frame.specs.Parts.{ShareCell, whole_at};
-ghost use Rattle.cell_frame.specs.PartSpace.{part_space, IsLawful};
+ghost use Rattle.cell_frame.specs.PartSpace.{part_space, row_name, IsLawful};
 ghost use Rattle.search_graph.specs.Weighted.{AreSmall};
 
+use crate::cells::Cell;
 use crate::cliques::Cliques;
 use crate::frame::Frame;
 use crate::parts::Parts;
@@ -38,15 +39,42 @@ impl<'a, C: Cost, P: Parts> Over<'a, C, P> {
         self.parts.known(self.frame);
     }
 
-    // Whether two vertices are in one part that is a cell.
-    fn share(&self, u: u32, v: u32) -> bool
+    // The part of `v` where that is a cell, by the name of the row out of `v`.
+    #[inline(always)]
+    fn part_named(&self, v: u32, row: (u32, u32)) -> Option<Cell>
         requires ready { P.ready self.now.parts.now self.now.frame.now }
-        requires one { u < self.now.frame.now.graph.vertices }
-        requires other { v < self.now.frame.now.graph.vertices }
-        ensures yes { OnTrue result (ShareCell self.now.frame.now.cells (P.level self.now.parts.now self.now.frame.now) u v) }
-        ensures no { OnFalse result (¬ ShareCell self.now.frame.now.cells (P.level self.now.parts.now self.now.frame.now) u v) }
+        requires vertex { v < self.now.frame.now.graph.vertices }
+        requires row { row ≡ row_name self.now.frame.now (P.level self.now.parts.now self.now.frame.now) v }
+        ensures some { IfSome result (λ k. k ≡ whole_at self.now.frame.now.cells (P.level self.now.parts.now self.now.frame.now) v) }
+        ensures whole { IfSome result (λ k. 1 ≤ P.level self.now.parts.now self.now.frame.now v) }
+        ensures cell { IfSome result (IsCell self.now.frame.now.cells) }
+        ensures none { IfNone result (P.level self.now.parts.now self.now.frame.now v ≡ 0) }
     {
-        self.parts.share(self.frame, u, v)
+        self.frame.known();
+        self.parts.known(self.frame);
+        let _ = v;
+        let (level, number) = row;
+        if level == 0 {
+            return None;
+        }
+        Some(Cell { level, number })
+    }
+
+    // Whether `head` is in the part of `v`, which has this name, and that is a cell.
+    #[inline(always)]
+    fn shares(&self, v: u32, row: (u32, u32), head: u32) -> bool
+        requires ready { P.ready self.now.parts.now self.now.frame.now }
+        requires vertex { v < self.now.frame.now.graph.vertices }
+        requires row { row ≡ row_name self.now.frame.now (P.level self.now.parts.now self.now.frame.now) v }
+        requires head { head < self.now.frame.now.graph.vertices }
+        ensures yes { OnTrue result (ShareCell self.now.frame.now.cells (P.level self.now.parts.now self.now.frame.now) v head) }
+        ensures no { OnFalse result (¬ ShareCell self.now.frame.now.cells (P.level self.now.parts.now self.now.frame.now) v head) }
+    {
+        self.frame.known();
+        match self.part_named(v, row) {
+            None => false,
+            Some(part) => self.frame.cell(part.level, head).number == part.number,
+        }
     }
 }
 
@@ -100,12 +128,35 @@ impl<'a, C: Cost, P: Parts> Steps<C> for Over<'a, C, P> {
     }
 
     fn by_arc(&self, v: u32, i: u32) -> Option<Hop<C>> {
+        self.by_arc_named(v, self.row(v), i)
+    }
+
+    fn heads(&self, v: u32) -> &[u32] {
+        self.heads_named(v, self.row(v))
+    }
+
+    fn costs(&self, v: u32) -> CostRow<'_, C> {
+        self.costs_named(v, self.row(v))
+    }
+
+    fn row(&self, v: u32) -> (u32, u32) {
+        self.frame.known();
+        self.parts.known(self.frame);
+        let level = self.parts.level(self.frame, v);
+        if level == 0 {
+            return (0, 0);
+        }
+        (level, self.frame.cell(level, v).number)
+    }
+
+    #[inline(always)]
+    fn by_arc_named(&self, v: u32, row: (u32, u32), i: u32) -> Option<Hop<C>> {
         self.frame.known();
         let head = self.frame.graph().arc(i).1;
         if !self.parts.within(self.frame, head) {
             return None;
         }
-        if self.share(v, head) {
+        if self.shares(v, row, head) {
             return None;
         }
         match self.weights.vertex(head) {
@@ -117,37 +168,25 @@ impl<'a, C: Cost, P: Parts> Steps<C> for Over<'a, C, P> {
         }
     }
 
-    fn heads(&self, v: u32) -> &[u32] {
-        self.frame.known();
-        self.parts.known(self.frame);
-        let level = self.parts.level(self.frame, v);
-        if level == 0 {
-            return &[];
+    fn heads_named(&self, v: u32, row: (u32, u32)) -> &[u32] {
+        match self.part_named(v, row) {
+            None => &[],
+            Some(part) => self.frame.exits(part),
         }
-        self.frame.exits(self.frame.cell(level, v))
     }
 
-    fn costs(&self, v: u32) -> CostRow<'_, C> {
+    fn costs_named(&self, v: u32, row: (u32, u32)) -> CostRow<'_, C> {
         self.frame.known();
         self.parts.known(self.frame);
-        let level = self.parts.level(self.frame, v);
-        if level == 0 || !self.parts.within(self.frame, v) {
-            return CostRow::empty();
-        }
-        let cell = self.frame.cell(level, v);
-        let Some(i) = self.frame.entry(cell, v) else {
+        let Some(part) = self.part_named(v, row) else {
             return CostRow::empty();
         };
-        self.cliques.row(self.frame, cell, i)
-    }
-
-    fn row(&self, v: u32) -> (u32, u32) {
-        self.frame.known();
-        self.parts.known(self.frame);
-        let level = self.parts.level(self.frame, v);
-        if level == 0 {
-            return (0, 0);
+        if !self.parts.within(self.frame, v) {
+            return CostRow::empty();
         }
-        (level, self.frame.cell(level, v).number)
+        let Some(i) = self.frame.entry(part, v) else {
+            return CostRow::empty();
+        };
+        self.cliques.row(self.frame, part, i)
     }
 }

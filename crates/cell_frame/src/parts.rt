@@ -5,7 +5,7 @@ ghost use Rattle.std.specs.Bool.{OnTrue, OnFalse};
 ghost use Rattle.std.specs.List.{Contains};
 ghost use Rattle.cell_frame.specs.Borders.{Framed, IsFramed, IsCell, Holds};
 ghost use Rattle.cell_frame.specs.Free.{free_level};
-ghost use Rattle.cell_frame.specs.Parts.{AreParts, AreBordersBelow, ShareCell};
+ghost use Rattle.cell_frame.specs.Parts.{AreParts, AreBordersBelow};
 
 use crate::cells::Cell;
 use crate::frame::Frame;
@@ -33,14 +33,6 @@ pub trait Parts {
         requires ready { ready self.now frame.now }
         requires vertex { v < frame.now.graph.vertices }
         ensures { result ≡ level self.now frame.now v };
-
-    /// Whether `u` and `v` are in one part that is a cell.
-    fn share(&self, frame: &Frame, u: u32, v: u32) -> bool
-        requires ready { ready self.now frame.now }
-        requires one { u < frame.now.graph.vertices }
-        requires other { v < frame.now.graph.vertices }
-        ensures yes { OnTrue result (ShareCell frame.now.cells (level self.now frame.now) u v) }
-        ensures no { OnFalse result (¬ ShareCell frame.now.cells (level self.now frame.now) u v) };
 
     /// Tells a proof that they are parts. It does nothing.
     fn known(&self, frame: &Frame)
@@ -91,17 +83,6 @@ impl Parts for Below {
         self.cell.level - 1
     }
 
-    fn share(&self, frame: &Frame, u: u32, v: u32) -> bool {
-        frame.known();
-        let level = self.cell.level - 1;
-        if level == 0 {
-            return false;
-        }
-        let one = frame.cell(level, u);
-        let other = frame.cell(level, v);
-        one.number == other.number
-    }
-
     fn known(&self, frame: &Frame) {
         let _ = &self.cell;
         frame.known();
@@ -142,17 +123,6 @@ impl<'a> Parts for Terminals<'a> {
 
     fn level(&self, frame: &Frame, v: u32) -> u32 {
         frame.free_level(v, self.vertices)
-    }
-
-    fn share(&self, frame: &Frame, u: u32, v: u32) -> bool {
-        frame.known();
-        let level = frame.free_level(u, self.vertices);
-        if level == 0 {
-            return false;
-        }
-        let one = frame.cell(level, u);
-        let other = frame.cell(level, v);
-        one.number == other.number
     }
 
     fn known(&self, frame: &Frame) {

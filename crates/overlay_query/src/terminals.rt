@@ -140,18 +140,6 @@ impl Parts for TerminalCells {
         0
     }
 
-    fn share(&self, frame: &Frame, u: u32, v: u32) -> bool {
-        frame.known();
-        self.known(frame);
-        let level = self.level(frame, u);
-        if level == 0 {
-            return false;
-        }
-        let one = frame.cell(level, u);
-        let other = frame.cell(level, v);
-        one.number == other.number
-    }
-
     fn known(&self, frame: &Frame) {
         let terminals = Terminals {
             vertices: self.vertices.as_slice(),

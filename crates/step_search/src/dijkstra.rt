@@ -1,22 +1,20 @@
 //! The search: a tree of walks, the labels of the vertices, and the queue.
 
-ghost use Rattle.std.specs.Prelude.{◌≡◌, ℕ, ◌<◌, ◌^◌, List, [], true, false, reverse, length, Some, IfSome, IfNone, IfOk, OnOk};
+ghost use Rattle.std.specs.Prelude.{◌≡◌, ℕ, ◌<◌, List, true, false, reverse, length, Some, IfSome, IfNone, IfOk, OnOk};
 ghost use Rattle.std.specs.Bool.{OnTrue, OnFalse};
 ghost use Rattle.std.specs.List.{Contains, slice_get};
-ghost use Rattle.step_search.specs.Spaces.{HasHop, IsSpace};
+ghost use Rattle.step_search.specs.Spaces.{IsSpace};
 ghost use Rattle.step_search.specs.Paths.{AreStarts, IsAnswer, IsBeyond, IsLeastPathCost, NoPathTo};
-ghost use Rattle.step_search.specs.Labelled.{label_of, settled_of, changed};
-ghost use Rattle.step_search.specs.Queued.{Adds};
-ghost use Rattle.step_search.specs.Progress.{LabelWithin, Expanded, IsBackward, IsFront, IsTrail, AreBounds};
-ghost use Rattle.step_search.specs.Stepping.{Begins, FewerOpen, Improves, IsAtWork, IsFresh, IsNearest, IsTaken, NoneSettled, Offers, OnlyFalls, Settles, Skips};
+ghost use Rattle.step_search.specs.Labelled.{label_of, settled_of};
+ghost use Rattle.step_search.specs.Progress.{IsBackward, IsFront, IsTrail, AreBounds};
+ghost use Rattle.step_search.specs.Stepping.{Begins, IsFresh, NoneSettled};
 ghost use Rattle.step_search.specs.UnderWay.{IsUnderWay, IsDone};
 
-use crate::hops::{Hop, Steps};
-use crate::labels::{Label, Labels};
+use crate::hops::Steps;
+use crate::labels::Labels;
 use crate::links::Link;
 use crate::queue::Queue;
 use crate::rows::RowLabels;
-use cost_lists::CostRow;
 use search_graph::{Cost, Start};
 use std::alloc::{AllocError, Global};
 
@@ -37,10 +35,10 @@ pub struct Node<C> {
 
 /// A search under way.
 pub struct Search<C: Cost> {
-    tree: Vec<Node<C>>,
-    labels: Labels<C>,
-    queue: Queue<C>,
-    rows: RowLabels<C>,
+    pub(crate) tree: Vec<Node<C>>,
+    pub(crate) labels: Labels<C>,
+    pub(crate) queue: Queue<C>,
+    pub(crate) rows: RowLabels<C>,
 }
 
 impl<C: Cost> Drop for Search<C> {
@@ -309,269 +307,6 @@ impl<C: Cost> Search<C> {
         }
         None
     }
-
-    // Settles the nearest vertex, and tells whether one was left to settle.
-    #[inline(always)]
-    fn settle_next<T: Steps<C>>(
-        &mut self,
-        steps: &T,
-        starts: &[Start<C>],
-    ) -> Result<bool, AllocError>
-        requires ready { T.ready steps.now }
-        requires under_way { IsUnderWay C.ops (T.space steps.now) starts.now self.old }
-        ensures under_way { OnOk result (IsUnderWay C.ops (T.space steps.now) starts.now self.new) }
-        ensures fewer { IfOk result (λ more. OnTrue more (FewerOpen (T.space steps.now) self.old self.new)) }
-        ensures empty { IfOk result (λ more. OnFalse more (self.new.queue ≡ [])) }
-        ensures labels { IfOk result (λ more. OnFalse more (self.new.labels ≡ self.old.labels)) }
-    {
-        let _ = starts;
-        match self.nearest() {
-            Some(v) => {
-                self.settle(steps, v)?;
-                Ok(true)
-            }
-            None => Ok(false),
-        }
-    }
-
-    // Takes the entry of the least key whose vertex isn't settled, and gives the vertex.
-    fn nearest(&mut self) -> Option<u32>
-        ensures some { IfSome result (IsNearest C.ops (settled_of self.old.labels) self.old.queue self.new.queue) }
-        ensures none { IfNone result (Skips (settled_of self.old.labels) self.old.queue self.new.queue) }
-        ensures empty { IfNone result (self.new.queue ≡ []) }
-        ensures labels { self.new.labels ≡ self.old.labels }
-        ensures tree { self.new.tree.items ≡ self.old.tree.items }
-        ensures rows { self.new.rows ≡ self.old.rows }
-    {
-        while let Some((_, v)) = self.queue.pop() {
-            if !self.labels.is_settled(v) {
-                return Some(v);
-            }
-        }
-        None
-    }
-
-    // Settles the vertex, which was taken from the queue, at its label.
-    fn settle<T: Steps<C>>(&mut self, steps: &T, v: u32) -> Result<(), AllocError>
-        requires ready { T.ready steps.now }
-        requires taken { IsTaken C.ops (T.space steps.now) self.old v }
-        requires rows { AreBounds C.ops (T.space steps.now) (label_of self.old.labels) self.old.rows.rows }
-        ensures front { OnOk result (IsFront C.ops (T.space steps.now) self.new.tree.items (label_of self.new.labels) (settled_of self.new.labels) self.new.queue) }
-        ensures settles { OnOk result (Settles C.ops self.old self.new v) }
-        ensures expanded { OnOk result ((l : _) → label_of self.old.labels v ≡ Some l → Expanded C.ops (T.space steps.now) (label_of self.new.labels) v l.cost) }
-        ensures rows { OnOk result (AreBounds C.ops (T.space steps.now) (label_of self.new.labels) self.new.rows.rows) }
-    {
-        let label = self.labels.label(v).unwrap();
-        let at = self.tree.len();
-        let node = Node {
-            cost: label.cost,
-            vertex: v,
-            before: Link::to(label.node)?,
-        };
-        self.tree.push(node)?;
-        self.labels.settle(v);
-        self.expand(steps, at, node)?;
-        Ok(())
-    }
-
-    // Offers a label along each hop out of the node.
-    fn expand<T: Steps<C>>(&mut self, steps: &T, at: usize, node: Node<C>) -> Result<(), AllocError>
-        requires ready { T.ready steps.now }
-        requires at_work { IsAtWork C.ops (T.space steps.now) self.old at node }
-        requires rows { AreBounds C.ops (T.space steps.now) (label_of self.old.labels) self.old.rows.rows }
-        ensures at_work { OnOk result (IsAtWork C.ops (T.space steps.now) self.new at node) }
-        ensures falls { OnOk result (OnlyFalls C.ops self.old self.new) }
-        ensures expanded { OnOk result (Expanded C.ops (T.space steps.now) (label_of self.new.labels) node.vertex node.cost) }
-        ensures rows { OnOk result (AreBounds C.ops (T.space steps.now) (label_of self.new.labels) self.new.rows.rows) }
-    {
-        self.expand_arcs(steps, at, node)?;
-        self.expand_row(steps, at, node)?;
-        Ok(())
-    }
-
-    // Offers a label along each arc out of the node.
-    fn expand_arcs<T: Steps<C>>(
-        &mut self,
-        steps: &T,
-        at: usize,
-        node: Node<C>,
-    ) -> Result<(), AllocError>
-        requires ready { T.ready steps.now }
-        requires at_work { IsAtWork C.ops (T.space steps.now) self.old at node }
-        ensures at_work { OnOk result (IsAtWork C.ops (T.space steps.now) self.new at node) }
-        ensures falls { OnOk result (OnlyFalls C.ops self.old self.new) }
-        ensures found { OnOk result ((i w : ℕ) (s : _) → (T.space steps.now).Arc node.vertex i w s → LabelWithin C.ops (label_of self.new.labels) w (C.ops.plus node.cost s)) }
-        ensures rows { OnOk result (self.new.rows ≡ self.old.rows) }
-    {
-        let arcs = steps.arcs(node.vertex);
-        for place in 0..arcs.len() {
-            let hop = steps.by_arc(node.vertex, arcs.get(place));
-            self.relax(steps, at, node, hop)?;
-        }
-        Ok(())
-    }
-
-    // Offers a label along each place of the node's row.
-    fn expand_row<T: Steps<C>>(
-        &mut self,
-        steps: &T,
-        at: usize,
-        node: Node<C>,
-    ) -> Result<(), AllocError>
-        requires ready { T.ready steps.now }
-        requires at_work { IsAtWork C.ops (T.space steps.now) self.old at node }
-        requires rows { AreBounds C.ops (T.space steps.now) (label_of self.old.labels) self.old.rows.rows }
-        ensures at_work { OnOk result (IsAtWork C.ops (T.space steps.now) self.new at node) }
-        ensures falls { OnOk result (OnlyFalls C.ops self.old self.new) }
-        ensures found { OnOk result ((j w : ℕ) (s : _) → slice_get ((T.space steps.now).heads node.vertex) j ≡ Some w → (T.space steps.now).Costs node.vertex j s → LabelWithin C.ops (label_of self.new.labels) w (C.ops.plus node.cost s)) }
-        ensures rows { OnOk result (AreBounds C.ops (T.space steps.now) (label_of self.new.labels) self.new.rows.rows) }
-    {
-        let costs = steps.costs(node.vertex);
-        if costs.is_empty() {
-            return Ok(());
-        }
-        let heads = steps.heads(node.vertex);
-        let name = steps.row(node.vertex);
-        self.rows.lower(name, node.cost, &costs, heads.len())?;
-        self.offer_improved(steps, at, node, heads, &costs)?;
-        Ok(())
-    }
-
-    // Offers a label along each improved place of the node's row.
-    fn offer_improved<T: Steps<C>>(
-        &mut self,
-        steps: &T,
-        at: usize,
-        node: Node<C>,
-        heads: &[u32],
-        costs: &CostRow<'_, C>,
-    ) -> Result<(), AllocError>
-        requires at_work { IsAtWork C.ops (T.space steps.now) self.old at node }
-        requires heads { heads.now ≡ (T.space steps.now).heads node.vertex }
-        requires costs { (j : ℕ) (s : _) → slice_get costs.now j ≡ Some (Some s) → (T.space steps.now).Costs node.vertex j s }
-        requires within { (j : ℕ) → Contains self.old.rows.improved.items j → j < length heads.now }
-        ensures at_work { OnOk result (IsAtWork C.ops (T.space steps.now) self.new at node) }
-        ensures falls { OnOk result (OnlyFalls C.ops self.old self.new) }
-        ensures rows { OnOk result (self.new.rows ≡ self.old.rows) }
-        ensures found { OnOk result ((j w : ℕ) (s : _) → Contains self.old.rows.improved.items j → slice_get heads.now j ≡ Some w → slice_get costs.now j ≡ Some (Some s) → LabelWithin C.ops (label_of self.new.labels) w (C.ops.plus node.cost s)) }
-    {
-        for k in 0..self.rows.improved.len() {
-            let place = self.rows.improved[k];
-            let hop = hop_at(heads, costs, place);
-            self.relax(steps, at, node, hop)?;
-        }
-        Ok(())
-    }
-
-    // Offers a label along a hop out of the node, where that way is open.
-    #[inline(always)]
-    fn relax<T: Steps<C>>(
-        &mut self,
-        steps: &T,
-        at: usize,
-        node: Node<C>,
-        hop: Option<Hop<C>>,
-    ) -> Result<(), AllocError>
-        requires at_work { IsAtWork C.ops (T.space steps.now) self.old at node }
-        requires hop { IfSome hop (λ h. HasHop (T.space steps.now) node.vertex h.head h.cost) }
-        ensures at_work { OnOk result (IsAtWork C.ops (T.space steps.now) self.new at node) }
-        ensures falls { OnOk result (OnlyFalls C.ops self.old self.new) }
-        ensures found { OnOk result ((w : ℕ) (s : _) → hop ≡ Some (record { head = w; cost = s }) → LabelWithin C.ops (label_of self.new.labels) w (C.ops.plus node.cost s)) }
-        ensures rows { OnOk result (self.new.rows ≡ self.old.rows) }
-    {
-        let _ = steps;
-        match hop {
-            Some(hop) => {
-                self.offer(at, node.cost, hop)?;
-                Ok(())
-            }
-            None => Ok(()),
-        }
-    }
-
-    // Offers to the head of a hop the label that the hop gives it, behind the node at `at` where `paid` is paid. Most
-    // offers improve nothing, so they end here, in the loops over arcs and rows.
-    #[inline(always)]
-    fn offer(&mut self, at: usize, paid: C, hop: Hop<C>) -> Result<(), AllocError>
-        requires fits { C.ops.units (C.ops.plus paid hop.cost) (2 ^ 31) }
-        requires fixed { settled_of self.old.labels hop.head ≡ true → LabelWithin C.ops (label_of self.old.labels) hop.head (C.ops.plus paid hop.cost) }
-        ensures offers { OnOk result (Offers C.ops (label_of self.old.labels) (label_of self.new.labels) (settled_of self.old.labels) self.old.queue self.new.queue hop.head (record { cost = C.ops.plus paid hop.cost; node = at })) }
-        ensures settled { OnOk result (settled_of self.new.labels ≡ settled_of self.old.labels) }
-        ensures tree { OnOk result (self.new.tree.items ≡ self.old.tree.items) }
-        ensures rows { OnOk result (self.new.rows ≡ self.old.rows) }
-    {
-        let label = Label {
-            cost: paid.plus(hop.cost),
-            node: at,
-        };
-        if !self.improves(hop.head, label.cost) {
-            return Ok(());
-        }
-        self.put(hop.head, label)?;
-        Ok(())
-    }
-
-    // Puts the label in place of a dearer one, and queues its vertex.
-    #[inline(never)]
-    fn put(&mut self, v: u32, label: Label<C>) -> Result<(), AllocError>
-        requires { settled_of self.old.labels v ≡ false }
-        ensures label { OnOk result (label_of self.new.labels ≡ changed (label_of self.old.labels) v (Some label)) }
-        ensures queue { OnOk result (Adds self.old.queue self.new.queue (label.cost, v)) }
-        ensures settled { OnOk result (settled_of self.new.labels ≡ settled_of self.old.labels) }
-        ensures tree { OnOk result (self.new.tree.items ≡ self.old.tree.items) }
-        ensures rows { OnOk result (self.new.rows ≡ self.old.rows) }
-    {
-        self.labels.put(v, label)?;
-        self.queue.push(label.cost, v)?;
-        Ok(())
-    }
-
-    // Whether the vertex has a label that costs no more than `cost`.
-    fn is_within(&self, v: u32, cost: C) -> bool
-        ensures yes { OnTrue result (LabelWithin C.ops (label_of self.now.labels) v cost) }
-    {
-        !self.improves(v, cost)
-    }
-
-    // Whether `cost` is less than what the vertex's label costs, or it has none.
-    #[inline(always)]
-    fn improves(&self, v: u32, cost: C) -> bool
-        ensures yes { OnTrue result (Improves C.ops (label_of self.now.labels) v cost) }
-        ensures no { OnFalse result (LabelWithin C.ops (label_of self.now.labels) v cost) }
-    {
-        match self.labels.label(v) {
-            Some(label) => cost.cmp(&label.cost).is_lt(),
-            None => true,
-        }
-    }
-}
-
-// The hop by a place of a row, where that has a cost.
-#[inline(always)]
-fn hop_at<C: Cost>(heads: &[u32], costs: &CostRow<'_, C>, place: usize) -> Option<Hop<C>>
-    requires { place < length heads.now }
-    ensures some { IfSome result (λ h. (slice_get heads.now place ≡ Some h.head) × (slice_get costs.now place ≡ Some (Some h.cost))) }
-    ensures all { (w : ℕ) (s : _) → slice_get heads.now place ≡ Some w → slice_get costs.now place ≡ Some (Some s) → result ≡ Some (record { head = w; cost = s }) }
-{
-    match cost_at(costs, place) {
-        Some(cost) => Some(Hop {
-            head: heads[place],
-            cost,
-        }),
-        None => None,
-    }
-}
-
-// What a place of a row costs.
-#[inline(always)]
-fn cost_at<C: Cost>(costs: &CostRow<'_, C>, place: usize) -> Option<C>
-    ensures some { IfSome result (λ s. slice_get costs.now place ≡ Some (Some s)) }
-    ensures all { (s : _) → slice_get costs.now place ≡ Some (Some s) → result ≡ Some s }
-{
-    if place >= costs.len() {
-        return None;
-    }
-    costs.get(place)
 }
 
 // The vertices of the walk that the node at `at` stands for.

@@ -19,6 +19,9 @@ pub struct Hop<C> {
 ///
 /// There are two kinds: arcs, which have names of the caller's, and the places of a row, which are counted
 /// from 0. A space may have one kind alone.
+///
+/// A search asks for the name of a vertex's row once, and then for all that leads out of the vertex by that name. So steps
+/// whose rows are those of parts can look the vertex's part up once; others needn't tell these calls from the plain ones.
 pub trait Steps<C: Narrow> {
     ghost space: { Self → Space C };
 
@@ -67,4 +70,40 @@ pub trait Steps<C: Narrow> {
         requires vertex { v < (space self.now).vertices }
         ensures name { result ≡ (space self.now).row v }
         ensures same { (u : ℕ) → (space self.now).row u ≡ (space self.now).row v → (space self.now).heads u ≡ (space self.now).heads v };
+
+    /// The hop out of `v` by its arc `i`, as `by_arc` gives it, to one who knows the name of its row.
+    fn by_arc_named(&self, v: u32, row: (u32, u32), i: u32) -> Option<Hop<C>>
+        requires ready { ready self.now }
+        requires vertex { v < (space self.now).vertices }
+        requires row { row ≡ (space self.now).row v }
+        requires named { (space self.now).Name v i }
+        ensures some { IfSome result (λ h. (space self.now).Arc v i h.head h.cost) }
+        ensures all { (w : ℕ) (s : C) → (space self.now).Arc v i w s → result ≡ Some (record { head = w; cost = s }) }
+    {
+        let _ = row;
+        self.by_arc(v, i)
+    }
+
+    /// Where the places of the row out of `v` lead, as `heads` gives it, to one who knows the row's name.
+    fn heads_named(&self, v: u32, row: (u32, u32)) -> &[u32]
+        requires ready { ready self.now }
+        requires vertex { v < (space self.now).vertices }
+        requires row { row ≡ (space self.now).row v }
+        ensures { result.now ≡ (space self.now).heads v }
+    {
+        let _ = row;
+        self.heads(v)
+    }
+
+    /// What the places of the row out of `v` cost, as `costs` gives it, to one who knows the row's name.
+    fn costs_named(&self, v: u32, row: (u32, u32)) -> CostRow<'_, C>
+        requires ready { ready self.now }
+        requires vertex { v < (space self.now).vertices }
+        requires row { row ≡ (space self.now).row v }
+        ensures some { (j : ℕ) (s : C) → slice_get result j ≡ Some (Some s) → (space self.now).Costs v j s }
+        ensures all { (j : ℕ) (s : C) → (space self.now).Costs v j s → slice_get result j ≡ Some (Some s) }
+    {
+        let _ = row;
+        self.costs(v)
+    }
 }

@@ -23,7 +23,9 @@ mod labels;
 mod links;
 mod pages;
 mod queue;
+mod rank_heap;
 mod rows;
+mod settling;
 
 pub use dijkstra::{Reached, Search, least};
 pub use hops::{Hop, Steps};

@@ -9,13 +9,14 @@ ghost use Rattle.search_graph.specs.Costs.{NoDearer};
 ghost use Rattle.step_search.specs.Queued.{Adds, TakesLeast, NoneBelow, IsRank, AreRanked};
 
 use crate::key_heap::KeyHeap;
+use crate::rank_heap::RankHeap;
 use search_graph::Cost;
 use std::alloc::{AllocError, Global};
 use std::marker::Model;
 
 /// Entries of a key and a vertex, a vertex perhaps in several of them. An entry takes 16 bytes where its key has a rank.
 pub struct Queue<C: Cost> {
-    ranked: KeyHeap<u64>,
+    ranked: RankHeap,
     others: KeyHeap<C>,
 }
 
@@ -45,7 +46,7 @@ impl<C: Cost> Queue<C> {
         ensures { result ≡ [] }
     {
         Queue {
-            ranked: KeyHeap::new(alloc),
+            ranked: RankHeap::new(alloc),
             others: KeyHeap::new(alloc),
         }
     }
@@ -91,7 +92,7 @@ impl<C: Cost> Queue<C> {
 
 // Whether no rank's cost is less than `limit`.
 #[inline(always)]
-fn are_ranks_beyond<C: Cost>(ranked: &KeyHeap<u64>, limit: C) -> bool
+fn are_ranks_beyond<C: Cost>(ranked: &RankHeap, limit: C) -> bool
     requires { AreRanked C.ranked C.unranked ranked.now }
     ensures { OnTrue result (All (λ (e : ℕ × ℕ). NoDearer C.ops limit (C.unranked e.0)) ranked.now) }
 {
@@ -127,7 +128,7 @@ fn are_keys_beyond<C: Cost>(others: &KeyHeap<C>, limit: C) -> bool
 // Whether a rank comes first: then no other key is less than the cost of the least one, and else no rank's cost is less than
 // the least key. Where there are no others, nothing is compared.
 #[inline(always)]
-fn has_rank_first<C: Cost>(ranked: &KeyHeap<u64>, others: &KeyHeap<C>) -> bool
+fn has_rank_first<C: Cost>(ranked: &RankHeap, others: &KeyHeap<C>) -> bool
     requires { AreRanked C.ranked C.unranked ranked.now }
     ensures yes { OnTrue result ((r : ℕ) → IsRank C.ranked C.unranked r → NoneBelow nat_cmp r ranked.now → All (λ e. NoDearer C.ops (C.unranked r) e.0) others.now) }
     ensures no { OnFalse result ((k : C) → NoneBelow C.cmp k others.now → All (λ (e : ℕ × ℕ). NoDearer C.ops k (C.unranked e.0)) ranked.now) }

@@ -19,7 +19,7 @@ pub relax-requires-clause-at_work : goal.relax-requires-clause-at_work
 relax-requires-clause-at_work g c = c.loop-place.invariant.at_work
 
 pub relax-requires-clause-hop : goal.relax-requires-clause-hop
-relax-requires-clause-hop g c = hop_by_arc (g.T.Steps.space c.args.steps.now) c.args.node.vertex c.get.result c.by_arc-hop.result c.by_arc-hop.ensures.some
+relax-requires-clause-hop g c = hop_by_arc (g.T.Steps.space c.args.steps.now) c.args.node.vertex c.get.result c.by_arc_named-hop.result c.by_arc_named-hop.ensures.some
 
 pub loop-place-preserved : goal.loop-place-preserved
 loop-place-preserved g c = record {
@@ -30,7 +30,7 @@ loop-place-preserved g c = record {
       (λ k lt i w s e h. LabelWithin-falls g.met.C.Cost.laws (label_of c.loop-place.self.labels) (label_of c.relax.new.self.labels) w (g.C.Cost.ops.plus c.args.node.cost s) c.in_ok-relax.ensures.falls.falls (c.loop-place.invariant.found k lt i w s e h))
       (λ i w s e h.
       let same : i ≡ c.get.result = same_Some i c.get.result (sym e ∙ c.get.ensures) in
-      c.in_ok-relax.ensures.found w s (c.by_arc-hop.ensures.all w s (subst (λ (x : ℕ). (g.T.Steps.space c.args.steps.now).Arc c.args.node.vertex x w s) same h)));
+      c.in_ok-relax.ensures.found w s (c.by_arc_named-hop.ensures.all w s (subst (λ (x : ℕ). (g.T.Steps.space c.args.steps.now).Arc c.args.node.vertex x w s) same h)));
 }
 
 pub returns-clause-at_work : goal.returns-clause-at_work

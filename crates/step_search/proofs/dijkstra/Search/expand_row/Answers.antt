@@ -12,11 +12,11 @@ pub returns-then-is_empty-clause-falls : goal.returns-then-is_empty-clause-falls
 returns-then-is_empty-clause-falls g c = OnlyFalls-refl g.met.C.Cost.laws c.args.self.now
 
 pub returns-then-is_empty-clause-found : goal.returns-then-is_empty-clause-found
-returns-then-is_empty-clause-found g c j w s h k = absurd (no_cost c.costs-costs.result j s (c.if-is_empty.ensures.0 refl) (c.costs-costs.ensures.all j s k))
+returns-then-is_empty-clause-found g c j w s h k = absurd (no_cost c.costs_named-costs.result j s (c.if-is_empty.ensures.0 refl) (c.costs_named-costs.ensures.all j s k))
 
 pub lower-requires : goal.lower-requires
 lower-requires g c = record {
-  fits = row_fits g.met.C.Cost.laws (g.T.Steps.space c.args.steps.now) c.args.self.now c.args.at c.args.node c.requires.at_work c.heads-heads.result.now c.heads-heads.ensures c.costs-costs.result c.costs-costs.ensures.some;
+  fits = row_fits g.met.C.Cost.laws (g.T.Steps.space c.args.steps.now) c.args.self.now c.args.at c.args.node c.requires.at_work c.heads_named-heads.result.now c.heads_named-heads.ensures c.costs_named-costs.result c.costs_named-costs.ensures.some;
 }
 
 pub offer_improved-requires-clause-at_work : goal.offer_improved-requires-clause-at_work
@@ -31,18 +31,18 @@ returns-clause-falls g c = let f = c.in_ok-offer_improved.ensures.falls in recor
 pub returns-clause-found : goal.returns-clause-found
 returns-clause-found g c j w s h k =
     let S = g.T.Steps.space c.args.steps.now in
-    let lt : j < length c.heads-heads.result.now = slice_get_within c.heads-heads.result.now j w (subst (λ (xs : List ℕ). slice_get xs j ≡ Some w) (sym c.heads-heads.ensures) h) in
-    row_found g.met.C.Cost.laws S (label_of c.args.self.now.labels) (label_of c.offer_improved.new.self.labels) c.in_ok-offer_improved.ensures.falls.falls c.args.node.vertex c.row-name.result c.row-name.ensures.name c.row-name.ensures.same
-    c.args.self.now.rows.rows c.lower.new.self.rows c.args.node.cost c.costs-costs.result (length c.heads-heads.result.now) c.lower.new.self.improved.items c.in_ok-lower.ensures
-    (λ i x t b e q. c.in_ok-offer_improved.ensures.found i x t b (subst (λ (xs : List ℕ). slice_get xs i ≡ Some x) (sym c.heads-heads.ensures) e) q)
-    c.requires.rows j w s lt h (c.costs-costs.ensures.all j s k)
+    let lt : j < length c.heads_named-heads.result.now = slice_get_within c.heads_named-heads.result.now j w (subst (λ (xs : List ℕ). slice_get xs j ≡ Some w) (sym c.heads_named-heads.ensures) h) in
+    row_found g.met.C.Cost.laws S (label_of c.args.self.now.labels) (label_of c.offer_improved.new.self.labels) c.in_ok-offer_improved.ensures.falls.falls c.args.node.vertex c.args.row c.requires.row c.requires.same
+    c.args.self.now.rows.rows c.lower.new.self.rows c.args.node.cost c.costs_named-costs.result (length c.heads_named-heads.result.now) c.lower.new.self.improved.items c.in_ok-lower.ensures
+    (λ i x t b e q. c.in_ok-offer_improved.ensures.found i x t b (subst (λ (xs : List ℕ). slice_get xs i ≡ Some x) (sym c.heads_named-heads.ensures) e) q)
+    c.requires.rows j w s lt h (c.costs_named-costs.ensures.all j s k)
 
 pub returns-clause-rows : goal.returns-clause-rows
 returns-clause-rows g c =
     let S = g.T.Steps.space c.args.steps.now in
     let bounds : AreBounds g.C.Cost.ops S (label_of c.offer_improved.new.self.labels) c.lower.new.self.rows =
-    AreBounds-lowered g.met.C.Cost.laws S (label_of c.args.self.now.labels) (label_of c.offer_improved.new.self.labels) c.in_ok-offer_improved.ensures.falls.falls c.args.node.vertex c.row-name.result c.row-name.ensures.name c.row-name.ensures.same
-    c.args.self.now.rows.rows c.lower.new.self.rows c.args.node.cost c.costs-costs.result (length c.heads-heads.result.now) c.lower.new.self.improved.items c.in_ok-lower.ensures
-    (λ i x t b e q. c.in_ok-offer_improved.ensures.found i x t b (subst (λ (xs : List ℕ). slice_get xs i ≡ Some x) (sym c.heads-heads.ensures) e) q)
+    AreBounds-lowered g.met.C.Cost.laws S (label_of c.args.self.now.labels) (label_of c.offer_improved.new.self.labels) c.in_ok-offer_improved.ensures.falls.falls c.args.node.vertex c.args.row c.requires.row c.requires.same
+    c.args.self.now.rows.rows c.lower.new.self.rows c.args.node.cost c.costs_named-costs.result (length c.heads_named-heads.result.now) c.lower.new.self.improved.items c.in_ok-lower.ensures
+    (λ i x t b e q. c.in_ok-offer_improved.ensures.found i x t b (subst (λ (xs : List ℕ). slice_get xs i ≡ Some x) (sym c.heads_named-heads.ensures) e) q)
     c.requires.rows in
     subst (λ x. AreBounds g.C.Cost.ops S (label_of c.offer_improved.new.self.labels) x.rows) (sym c.in_ok-offer_improved.ensures.rows) bounds

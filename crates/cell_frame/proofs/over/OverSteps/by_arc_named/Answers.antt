@@ -1,6 +1,6 @@
 -- An arc and a vertex are within a unit each.
 use Rattle.std.proofs.Common.{◌^◌, arith}
-use Rattle.cell_frame.proofs.over.OverSteps.by_arc.Goals as goal
+use Rattle.cell_frame.proofs.over.OverSteps.by_arc_named.Goals as goal
 
 pub plus-cost-requires : goal.plus-cost-requires
 plus-cost-requires g c =
