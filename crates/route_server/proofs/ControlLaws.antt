@@ -18,7 +18,7 @@ use Rattle.control_port.specs.declared.asking.ControlHead.{ControlHead}
 use Rattle.control_port.specs.declared.asking.ControlHead.TheVariants as asked
 use Rattle.route_server.specs.ControlReading.{BreaksOff, ComesRequest, ReadsRequest}
 use Rattle.route_server.specs.ControlReplying.{KeepsBody}
-use Rattle.route_server.specs.ControlRule.{ControlRule, DeskState, IsControlReply, IsPartOfBody, IsPartOfRequest, closes_by, desk_state, is_stop}
+use Rattle.route_server.specs.ControlRule.{ControlRule, ControlSays, DeskState, IsControlReply, IsPartOfBody, IsPartOfRequest, closes_by, desk_state, is_stop}
 use Rattle.route_server.specs.ControlSessions.{IsDeskSession}
 use Rattle.route_server.specs.QueryRule.{closes_at}
 use Rattle.route_server.specs.declared.control_requests.ControlRequest.{ControlRequest}
@@ -99,7 +99,7 @@ breaks_off first mid now unread held P one two = record { held = two.held; grows
 
 -- what comes behind bytes that were taken before
 pub comes_behind : (first mid now : ConnState) (unread held rest : List ℕ) (n : ℕ) (how : ControlRequest) → Grows first mid unread held → IsSteady first mid → ComesRequest how mid now held rest n → ComesRequest how first now unread rest n
-comes_behind first mid now unread held rest n (request.Whole request close kept) grows steady comes = record {
+comes_behind first mid now unread held rest n (request.Whole taken) grows steady comes = record {
   head = comes.head;
   body = comes.body;
   held = comes.held;
@@ -136,7 +136,7 @@ module _ {V : Type 0} where
   control_exchange h body close reply after stopped = record { head = h; body = body; close = close; reply = reply; after = desk_state after stopped }
 
   -- a request that was read, with its reply
-  pub control_rule_of : (Controls : List (Entry V) → ControlHead → List ℕ → ℕ → List ℕ → List (Entry V) → Type 0) (n : ℕ) (before after : List (Entry V)) (was stopped : Bool) (first now : ConnState) (unread rest : List ℕ) (request : ControlHead) (close : Bool) (kept : Option (Vec ℕ Global)) (reply : List ℕ) (read : ReadsRequest first now unread rest n request close kept) → IsControlReply Controls before after request read.body close stopped reply → ControlRule Controls n (desk_state before was) (control_exchange read.head read.body close reply after stopped)
+  pub control_rule_of : (Controls : ControlSays V) (n : ℕ) (before after : List (Entry V)) (was stopped : Bool) (first now : ConnState) (unread rest : List ℕ) (request : ControlHead) (close : Bool) (kept : Option (Vec ℕ Global)) (reply : List ℕ) (read : ReadsRequest first now unread rest n request close kept) → IsControlReply Controls before after request read.body close stopped reply → ControlRule Controls n (desk_state before was) (control_exchange read.head read.body close reply after stopped)
   control_rule_of Controls n before after was stopped first now unread rest request close kept reply read replies = record {
     whole = read.whole;
     size = read.size ∙ ap body_length read.asks;
@@ -145,12 +145,12 @@ module _ {V : Type 0} where
   }
 
   -- a stop that was answered closed the connection
-  pub stopped_closes : (Controls : List (Entry V) → ControlHead → List ℕ → ℕ → List ℕ → List (Entry V) → Type 0) (before after : List (Entry V)) (request : ControlHead) (body : List ℕ) (other close stopped : Bool) (reply : List ℕ) → IsControlReply Controls before after request body close stopped reply → stopped ≡ true → close ≡ closes_by request other → close ≡ true
+  pub stopped_closes : (Controls : ControlSays V) (before after : List (Entry V)) (request : ControlHead) (body : List ℕ) (other close stopped : Bool) (reply : List ℕ) → IsControlReply Controls before after request body close stopped reply → stopped ≡ true → close ≡ closes_by request other → close ≡ true
   stopped_closes Controls before after request body other close stopped reply (inl made) on is = stop_closes request other close is (sym made.1 ∙ on)
   stopped_closes Controls before after request body other close stopped reply (inr busy) on is = absurd (cc)
 
   -- requests that leave the connection open answer no stop
-  open_unstopped : (Controls : List (Entry V) → ControlHead → List ℕ → ℕ → List ℕ → List (Entry V) → Type 0) (n : ℕ) (first last : DeskState V) (all : List (Exchange (DeskState V))) → Follow (ControlRule Controls) n first all last → AreOpen all → first.stopped ≡ false → last.stopped ≡ false
+  open_unstopped : (Controls : ControlSays V) (n : ℕ) (first last : DeskState V) (all : List (Exchange (DeskState V))) → Follow (ControlRule Controls) n first all last → AreOpen all → first.stopped ≡ false → last.stopped ≡ false
   open_unstopped Controls n first last [] same stay none = ap (λ (s : DeskState V). s.stopped) same ∙ none
   open_unstopped Controls n first last (x ∷ more) follow stay none =
       open_unstopped Controls (n + 1) x.after last more follow.1 stay.1 (unstopped x.after.stopped refl)
@@ -162,7 +162,7 @@ module _ {V : Type 0} where
       unstopped false is = refl
 
   -- where a stop was answered and the output failed, of the reply to it a proper front was put
-  pub stop_cut : (Controls : List (Entry V) → ControlHead → List ℕ → ℕ → List ℕ → List (Entry V) → Type 0) (first last : List (Entry V)) (before after : ConnState) (stopped : Bool) (session : IsDeskSession Controls (desk_state first false) (desk_state last stopped) before after ended.SinkFault) → stopped ≡ true → CutReply before after session.exchanges
+  pub stop_cut : (Controls : ControlSays V) (first last : List (Entry V)) (before after : ConnState) (stopped : Bool) (session : IsDeskSession Controls (desk_state first false) (desk_state last stopped) before after ended.SinkFault) → stopped ≡ true → CutReply before after session.exchanges
   stop_cut Controls first last before after stopped session on = go session.ends.1
     where
       go : CutReply before after session.exchanges ⊎ (AreOpen session.exchanges × IsNoHead session.unread × CutIn before after (replies_of session.exchanges) head_bad) → CutReply before after session.exchanges

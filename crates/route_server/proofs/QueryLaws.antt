@@ -6,8 +6,7 @@ use Rattle.http_head.specs.Heads.{IsHeadOf, span_bytes}
 use Rattle.http_head.specs.declared.parts.Head.{Head}
 use Rattle.http_session.specs.Exchanges.{Exchange}
 use Rattle.route_server.specs.QueryRule.{IsUnserved, QueryRule, is_served}
-use Rattle.route_server.specs.Seats.{IsReplied, SeatState}
-use Rattle.metric_publish.specs.declared.entry.Entry.{Entry}
+use Rattle.route_server.specs.Seats.{IsReplied, QuerySays, SeatState}
 
 -- a whole head that is not served
 pub unserved : (unread : List ℕ) (head : Head) (size : ℕ) (h : RequestHead) → IsHeadOf unread head size h → is_served h ≡ false → IsUnserved unread
@@ -39,7 +38,7 @@ module _ {V : Type 0} where
   abbrev pub exchange_of : RequestHead → Bool → List ℕ → SeatState V → Exchange (SeatState V)
   exchange_of h close reply after = record { head = h; body = []; close = close; reply = reply; after = after }
 
-  pub rule_of : (Says : Entry V → List ℕ → ℕ → List ℕ → Type 0) (n : ℕ) (before after : SeatState V) (unread : List ℕ) (head : Head) (size : ℕ) (h : RequestHead) (target : List ℕ) (close : Bool) (reply : List ℕ) → IsHeadOf unread head size h → is_served h ≡ true → close ≡ (head.close || n == 99) → target ≡ span_bytes unread head.target → IsReplied Says before after target close reply → QueryRule Says n before (exchange_of h close reply after)
+  pub rule_of : (Says : QuerySays V) (n : ℕ) (before after : SeatState V) (unread : List ℕ) (head : Head) (size : ℕ) (h : RequestHead) (target : List ℕ) (close : Bool) (reply : List ℕ) → IsHeadOf unread head size h → is_served h ≡ true → close ≡ (head.close || n == 99) → target ≡ span_bytes unread head.target → IsReplied Says before after target close reply → QueryRule Says n before (exchange_of h close reply after)
   rule_of Says n before after unread head size h target close reply is served close_is target_is replies = record {
     whole = record { valid = is.front.0.0; fields = is.front.1; size = is.front.2 };
     served = served;

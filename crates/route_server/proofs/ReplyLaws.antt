@@ -10,7 +10,7 @@ use Rattle.metric_publish.specs.Calls.{EnterGives}
 use Rattle.road_io.specs.Exchanging.{Puts}
 use Rattle.road_io.specs.Views.{ConnState}
 use Rattle.route_server.specs.Replying.{Gives, PutsReply}
-use Rattle.route_server.specs.Seats.{ReadsAtMostOne, SeatState, busy_body}
+use Rattle.route_server.specs.Seats.{QuerySays, ReadsAtMostOne, SeatState, busy_body}
 use Rattle.metric_publish.specs.declared.entry.Entry.{Entry}
 use Rattle.route_server.proofs.NumberLaws.{last_number_le}
 use Rattle.route_server.specs.SeatLaws.{last_number_is}
@@ -34,7 +34,7 @@ module _ {V : Type 0} where
   below_held list after held below last = omega (arith, last_number_is after held last)
 
   -- the reply was made, or there was no memory for it
-  pub gives_of : (Says : Entry V → List ℕ → ℕ → List ℕ → Type 0) (before after : SeatState V) (held : Entry V) (target : List ℕ) (close : Bool) (status : ℕ) (body text : List ℕ) (result : Result (Vec ℕ Global) AllocError) → EnterGives before.seen before.learned after.seen before.reads after.reads (Ok held) → after.learned ≡ before.learned → IsRun after.seen → Says held target status body → text ≡ body → IfOk result (λ reply. reply.items ≡ reply_text status text close) → Gives Says before after target close result
+  pub gives_of : (Says : QuerySays V) (before after : SeatState V) (held : Entry V) (target : List ℕ) (close : Bool) (status : ℕ) (body text : List ℕ) (result : Result (Vec ℕ Global) AllocError) → EnterGives before.seen before.learned after.seen before.reads after.reads (Ok held) → after.learned ≡ before.learned → IsRun after.seen → Says held target status body → text ≡ body → IfOk result (λ reply. reply.items ≡ reply_text status text close) → Gives Says before after target close result
   gives_of Says before after held target close status body text (Ok reply) enter learned runs says same is = record {
     entry = held;
     later = enter.0;
@@ -51,15 +51,15 @@ module _ {V : Type 0} where
   }
   gives_of Says before after held target close status body text (Err e) enter learned runs says same is = reads_held before after held enter learned runs
 
-  pub puts_given : {T : Type 0} (Says : Entry V → List ℕ → ℕ → List ℕ → Type 0) (before after : SeatState V) (target : List ℕ) (close : Bool) (first now : ConnState) (reply : Vec ℕ Global) (bytes : List ℕ) (result : Result T Failed) → Gives Says before after target close (Ok reply) → bytes ≡ reply.items → Puts first now bytes result → PutsReply Says before after target close first now result
+  pub puts_given : {T : Type 0} (Says : QuerySays V) (before after : SeatState V) (target : List ℕ) (close : Bool) (first now : ConnState) (reply : Vec ℕ Global) (bytes : List ℕ) (result : Result T Failed) → Gives Says before after target close (Ok reply) → bytes ≡ reply.items → Puts first now bytes result → PutsReply Says before after target close first now result
   puts_given Says before after target close first now reply bytes result gives same puts =
       (reply.items, inl gives, subst (λ (xs : List ℕ). Puts first now xs result) same puts)
 
-  pub puts_busy : {T : Type 0} (Says : Entry V → List ℕ → ℕ → List ℕ → Type 0) (before after : SeatState V) (target : List ℕ) (close : Bool) (first now : ConnState) (e : AllocError) (bytes : List ℕ) (result : Result T Failed) → Gives Says before after target close (Err e) → bytes ≡ reply_text 503 busy_body close → Puts first now bytes result → PutsReply Says before after target close first now result
+  pub puts_busy : {T : Type 0} (Says : QuerySays V) (before after : SeatState V) (target : List ℕ) (close : Bool) (first now : ConnState) (e : AllocError) (bytes : List ℕ) (result : Result T Failed) → Gives Says before after target close (Err e) → bytes ≡ reply_text 503 busy_body close → Puts first now bytes result → PutsReply Says before after target close first now result
   puts_busy Says before after target close first now e bytes result gives same puts =
       (bytes, inr (record { reads = gives; text = same }), puts)
 
   -- there was no memory, at the exit of a `?`
-  pub gives_err : (Q : AllocError → Type 0) (Says : Entry V → List ℕ → ℕ → List ℕ → Type 0) (before after : SeatState V) (target : List ℕ) (close : Bool) (result : Result (Vec ℕ Global) AllocError) → IsErrAnd result Q → ReadsAtMostOne before after → Gives Says before after target close result
+  pub gives_err : (Q : AllocError → Type 0) (Says : QuerySays V) (before after : SeatState V) (target : List ℕ) (close : Bool) (result : Result (Vec ℕ Global) AllocError) → IsErrAnd result Q → ReadsAtMostOne before after → Gives Says before after target close result
   gives_err Q Says before after target close (Ok reply) failed reads = absurd failed
   gives_err Q Says before after target close (Err e) failed reads = reads

@@ -12,7 +12,7 @@ use Rattle.road_io.specs.Views.{ConnState}
 use Rattle.control_port.specs.Asking.{asked_of}
 use Rattle.control_port.specs.declared.asking.ControlHead.{ControlHead}
 use Rattle.control_port.specs.declared.asking.ControlHead.TheVariants as asked
-use Rattle.route_server.specs.ControlRule.{ControlRule, DeskState, IsControlReply, IsPartOfRequest, closes_by, desk_state, is_stop}
+use Rattle.route_server.specs.ControlRule.{ControlRule, ControlSays, DeskState, IsControlReply, IsPartOfRequest, closes_by, desk_state, is_stop}
 use Rattle.route_server.specs.ControlSessions.{IsControlSession, IsDeskSession}
 use Rattle.route_server.specs.CutLaws.{AreSameRequests, IsSameRequest}
 use Rattle.route_server.specs.EndLaws.{EndSame, IsFaultless, IsParsersChoice, IsUnfinished, ends_agree}
@@ -29,12 +29,12 @@ ended_of (how.Other e) = e
 
 module _ {V : Type 0} where
   -- the session, and whether a stop was answered in it
-  abbrev pub desk_session : (Controls : List (Entry V) → ControlHead → List ℕ → ℕ → List ℕ → List (Entry V) → Type 0) (first last : List (Entry V)) (before after : ConnState) (end : ControlEnded) → IsControlSession Controls first last before after end → (stopped : Bool) × IsDeskSession Controls (desk_state first false) (desk_state last stopped) before after (ended_of end)
+  abbrev pub desk_session : (Controls : ControlSays V) (first last : List (Entry V)) (before after : ConnState) (end : ControlEnded) → IsControlSession Controls first last before after end → (stopped : Bool) × IsDeskSession Controls (desk_state first false) (desk_state last stopped) before after (ended_of end)
   desk_session Controls first last before after how.Stopped session = (true, session)
   desk_session Controls first last before after (how.Other e) session = (session.0, session.1)
 
   -- a control connection whose input, told, was this, and which ended so, without a fault
-  pub record ControlRun (Controls : List (Entry V) → ControlHead → List ℕ → ℕ → List ℕ → List (Entry V) → Type 0) (input : List ℕ) (end : ControlEnded) : Type 0 where
+  pub record ControlRun (Controls : ControlSays V) (input : List ℕ) (end : ControlEnded) : Type 0 where
     pub first : List (Entry V)
     pub last : List (Entry V)
     pub before : ConnState
@@ -44,7 +44,7 @@ module _ {V : Type 0} where
     pub faultless : IsFaultless (ended_of end)
 
   -- its exchanges
-  abbrev pub exchanges_of : {Controls : List (Entry V) → ControlHead → List ℕ → ℕ → List ℕ → List (Entry V) → Type 0} {input : List ℕ} {end : ControlEnded} → ControlRun Controls input end → List (Exchange (DeskState V))
+  abbrev pub exchanges_of : {Controls : ControlSays V} {input : List ℕ} {end : ControlEnded} → ControlRun Controls input end → List (Exchange (DeskState V))
   exchanges_of {Controls} {input} {end} it = (desk_session Controls it.first it.last it.before it.after end it.run).1.exchanges
 
   -- the last of the requests is a stop, and the reply to it that for which there was no memory
@@ -102,7 +102,7 @@ module _ {S T : Type 0} where
   same_back (x ∷ xs) [] same = absurd same
   same_back (x ∷ xs) (y ∷ ys) same = (record { head = sym same.0.head; body = sym same.0.body }, same_back xs ys same.1)
 
-module _ {V : Type 0} (Controls : List (Entry V) → ControlHead → List ℕ → ℕ → List ℕ → List (Entry V) → Type 0) where
+module _ {V : Type 0} (Controls : ControlSays V) where
   -- a stop that was answered is one
   stop_answered : (n : ℕ) (before : DeskState V) (x : Exchange (DeskState V)) → ControlRule Controls n before x → x.after.stopped ≡ true → asked_of x.head ≡ asked.Stop
   stop_answered n before x rule on = go rule.reply
@@ -122,10 +122,11 @@ module _ {V : Type 0} (Controls : List (Entry V) → ControlHead → List ℕ �
       go (inl made) = absurd (true≢false (sym (ap is_stop asks) ∙ sym made.1 ∙ off))
       go (inr busy) = busy.0.bytes ∙ ap (λ (b : Bool). reply_text 503 busy_body b) closes
 
-module _ {V W : Type 0} (Controls : List (Entry V) → ControlHead → List ℕ → ℕ → List ℕ → List (Entry V) → Type 0) (Others : List (Entry W) → ControlHead → List ℕ → ℕ → List ℕ → List (Entry W) → Type 0) where
+module _ {V W : Type 0} (Controls : ControlSays V) (Others : ControlSays W) where
   -- where the last of the requests is a stop that was answered, and in the other connection none was, there was no
   -- memory for it
-  left_behind : (first last : DeskState V) (other final : DeskState W) (xs : List (Exchange (DeskState V))) (ys : List (Exchange (DeskState W))) (front : List (Exchange (DeskState V))) (x : Exchange (DeskState V)) → xs ≡ front ++ x ∷ [] → Follow (ControlRule Controls) 0 first xs last → Follow (ControlRule Others) 0 other ys final → last.stopped ≡ true → final.stopped ≡ false → AreSameRequests xs ys → HasStopLeft ys
+  left_behind : (first last : DeskState V) (other final : DeskState W) (xs : List (Exchange (DeskState V))) (ys : List (Exchange (DeskState W))) (front : List (Exchange (DeskState V))) (x : Exchange (DeskState V)) → xs ≡ front ++ x ∷ []
+      → Follow (ControlRule Controls) 0 first xs last → Follow (ControlRule Others) 0 other ys final → last.stopped ≡ true → final.stopped ≡ false → AreSameRequests xs ys → HasStopLeft ys
   left_behind first last other final xs ys front x are follow follow_other on off same = record {
     front = there.0;
     stop = there.1;
@@ -151,7 +152,7 @@ unfinished_part : (unread : List ℕ) → IsPartOfRequest unread → IsUnfinishe
 unfinished_part unread (inl head) = inl head
 unfinished_part unread (inr body) = inr (record { head = body.head; part = body.part; front = body.front; served = refl; short = body.short })
 
-module _ {V W : Type 0} (Controls : List (Entry V) → ControlHead → List ℕ → ℕ → List ℕ → List (Entry V) → Type 0) (Others : List (Entry W) → ControlHead → List ℕ → ℕ → List ℕ → List (Entry W) → Type 0) (input : List ℕ) where
+module _ {V W : Type 0} (Controls : ControlSays V) (Others : ControlSays W) (input : List ℕ) where
   equal_ends : (end other : ControlEnded) (one : ControlRun Controls input end) (two : ControlRun Others input other) → ended_of end ≡ ended_of other → AreSameRequests (exchanges_of one) (exchanges_of two) → ControlEndSame end (exchanges_of one) other (exchanges_of two)
   equal_ends how.Stopped how.Stopped one two equal same = inl refl
   equal_ends how.Stopped (how.Other e) one two equal same =

@@ -37,7 +37,7 @@ pub record BreaksOff (before after : ConnState) (unread : List ℕ) (P : List �
   pub is : P held
 
 abbrev pub ComesRequest : ControlRequest → ConnState → ConnState → List ℕ → List ℕ → ℕ → Type 0
-ComesRequest (request.Whole asked close kept) before after unread now n = ReadsRequest before after unread now n asked close kept
+ComesRequest (request.Whole taken) before after unread now n = ReadsRequest before after unread now n taken.asked taken.close taken.kept
 ComesRequest request.NoHead before after unread now n = Grows before after unread now × IsNoHead now × IsSteady before after
 ComesRequest request.End before after unread now n =
     Grows before after unread now × (now ≡ []) × IsAtEnd after.source.left × IsSteady before after

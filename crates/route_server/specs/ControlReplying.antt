@@ -7,7 +7,7 @@ use Rattle.road_io.specs.declared.failures.Failed.{Failed}
 use Rattle.metric_publish.specs.declared.entry.Entry.{Entry}
 use Rattle.control_port.specs.Asking.{IsBodyOf}
 use Rattle.control_port.specs.declared.asking.ControlHead.{ControlHead}
-use Rattle.route_server.specs.ControlRule.{IsCarriedOut, IsControlReply}
+use Rattle.route_server.specs.ControlRule.{ControlSays, IsCarriedOut, IsControlReply}
 
 -- where a body is kept, it is that of the request
 abbrev pub KeepsBody : ControlHead → Option (Vec ℕ Global) → Type 0
@@ -16,12 +16,12 @@ KeepsBody request (Some kept) = IsBodyOf request kept.items
 
 module _ {V : Type 0} where
   -- the reply was made, or there was no memory for it
-  abbrev pub MakesReply : (List (Entry V) → ControlHead → List ℕ → ℕ → List ℕ → List (Entry V) → Type 0) → List (Entry V) → List (Entry V) → ControlHead → List ℕ → Bool → Option (Vec ℕ Global) → Type 0
+  abbrev pub MakesReply : ControlSays V → List (Entry V) → List (Entry V) → ControlHead → List ℕ → Bool → Option (Vec ℕ Global) → Type 0
   MakesReply Controls before after request body close None = after ≡ before
   MakesReply Controls before after request body close (Some reply) = IsCarriedOut Controls before after request body close reply.items
 
   -- the reply was put, or a proper front of it where the output failed
-  abbrev pub PutsControl : (List (Entry V) → ControlHead → List ℕ → ℕ → List ℕ → List (Entry V) → Type 0) → List (Entry V) → List (Entry V) → ControlHead → List ℕ → Bool → ConnState → ConnState → Result Bool Failed → Type 0
+  abbrev pub PutsControl : ControlSays V → List (Entry V) → List (Entry V) → ControlHead → List ℕ → Bool → ConnState → ConnState → Result Bool Failed → Type 0
   PutsControl Controls before after request body close first now (Ok stopped) =
       (reply : List ℕ) × IsControlReply Controls before after request body close stopped reply × PutAll first now reply
   PutsControl Controls before after request body close first now (Err failed) =

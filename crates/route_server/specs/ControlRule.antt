@@ -14,6 +14,11 @@ use Rattle.control_port.specs.declared.asking.ControlHead.TheVariants as asked
 use Rattle.route_server.specs.QueryRule.{closes_at}
 use Rattle.route_server.specs.Seats.{busy_body}
 
+-- what is said of a request with its body: from the list of publications before to the status, the body of the reply
+-- and the list after
+abbrev pub ControlSays : Type 0 → Type 1
+ControlSays V = List (Entry V) → ControlHead → List ℕ → ℕ → List ℕ → List (Entry V) → Type 0
+
 -- the reply closes the connection: that to a stop and to what is no request always, else as on a query connection
 abbrev pub closes_by : ControlHead → Bool → Bool
 closes_by (asked.Metric speeds size) close = close
@@ -35,7 +40,7 @@ module _ {V : Type 0} where
   desk_state list stopped = record { list = list; stopped = stopped }
 
   -- the request was answered
-  pub record IsCarriedOut (Controls : List (Entry V) → ControlHead → List ℕ → ℕ → List ℕ → List (Entry V) → Type 0) (before after : List (Entry V)) (request : ControlHead) (body : List ℕ) (close : Bool) (reply : List ℕ) : Type 0 where
+  pub record IsCarriedOut (Controls : ControlSays V) (before after : List (Entry V)) (request : ControlHead) (body : List ℕ) (close : Bool) (reply : List ℕ) : Type 0 where
     pub status : ℕ
     pub text : List ℕ
     pub says : Controls before request body status text after
@@ -47,13 +52,13 @@ module _ {V : Type 0} where
     pub bytes : reply ≡ reply_text 503 busy_body close
 
   -- one of both; a stop was answered, or there was no memory for it
-  abbrev pub IsControlReply : (List (Entry V) → ControlHead → List ℕ → ℕ → List ℕ → List (Entry V) → Type 0) → List (Entry V) → List (Entry V) → ControlHead → List ℕ → Bool → Bool → List ℕ → Type 0
+  abbrev pub IsControlReply : ControlSays V → List (Entry V) → List (Entry V) → ControlHead → List ℕ → Bool → Bool → List ℕ → Type 0
   IsControlReply Controls before after request body close stopped reply =
       (IsCarriedOut Controls before after request body close reply × (stopped ≡ is_stop request))
       ⊎ (IsLeft before after close reply × (stopped ≡ false))
 
   -- a request with its body has one reply
-  pub record ControlRule (Controls : List (Entry V) → ControlHead → List ℕ → ℕ → List ℕ → List (Entry V) → Type 0) (n : ℕ) (before : DeskState V) (x : Exchange (DeskState V)) : Type 0 where
+  pub record ControlRule (Controls : ControlSays V) (n : ℕ) (before : DeskState V) (x : Exchange (DeskState V)) : Type 0 where
     pub whole : IsWhole x.head
     pub size : length x.body ≡ body_length (asked_of x.head)
     pub close : x.close ≡ closes_by (asked_of x.head) (closes_at n x.head)

@@ -231,7 +231,8 @@ module _ {S T : Type 0} (heads : HeadRule) where
       close : x.close ≡ y.close
       close = one.0.close ∙ ap (heads.closes n) same.0.head ∙ sym two.0.close
 
-      go : (Stops heads how xs rest → Stops heads end ys behind → EndSame how end × AreSameRequests xs ys) → ((x.close ≡ true) × (xs ≡ []) × (how ≡ ended.Closed)) ⊎ ((x.close ≡ false) × Stops heads how xs rest) → ((y.close ≡ true) × (ys ≡ []) × (end ≡ ended.Closed)) ⊎ ((y.close ≡ false) × Stops heads end ys behind) → EndSame how end × AreSameRequests (x ∷ xs) (y ∷ ys)
+      go : (Stops heads how xs rest → Stops heads end ys behind → EndSame how end × AreSameRequests xs ys)
+          → ((x.close ≡ true) × (xs ≡ []) × (how ≡ ended.Closed)) ⊎ ((x.close ≡ false) × Stops heads how xs rest) → ((y.close ≡ true) × (ys ≡ []) × (end ≡ ended.Closed)) ⊎ ((y.close ≡ false) × Stops heads end ys behind) → EndSame how end × AreSameRequests (x ∷ xs) (y ∷ ys)
       go later (inl closed) (inl closes) = (inl (closed.2 ∙ sym closes.2), (same.0, none_same xs ys closed.1 closes.1))
       go later (inl closed) (inr open_y) = absurd (true≢false (sym closed.0 ∙ close ∙ open_y.0))
       go later (inr open_x) (inl closes) = absurd (true≢false (sym closes.0 ∙ sym close ∙ open_x.0))
@@ -241,7 +242,8 @@ module _ {S T : Type 0} (heads : HeadRule) where
 -- answered, and they end the same but for the parser's choice; whatever their ports know and answer, and however their
 -- inputs are cut into pieces.
 module _ {S T : Type 0} (heads : HeadRule) (Rule : ℕ → S → Exchange S → Type 0) (Other : ℕ → T → Exchange T → Type 0) (Bad Part : List ℕ → Type 0) (goes : GoesBy Rule heads) (other_goes : GoesBy Other heads) (refused : (xs : List ℕ) → Bad xs → IsRefused heads xs) (unfinished : (xs : List ℕ) → Part xs → IsUnfinished heads xs) where
-  pub ends_agree : (input : List ℕ) (first last : S) (before after : ConnState) (how : Ended) (other final : T) (start finish : ConnState) (end : Ended) → (one : IsSession Rule Bad Part first last before after how) (two : IsSession Other Bad Part other final start finish end) → before.source.left ≡ Some input → start.source.left ≡ Some input → IsFaultless how → IsFaultless end → EndSame how end × AreSameRequests one.exchanges two.exchanges
+  pub ends_agree : (input : List ℕ) (first last : S) (before after : ConnState) (how : Ended) (other final : T) (start finish : ConnState) (end : Ended)
+      → (one : IsSession Rule Bad Part first last before after how) (two : IsSession Other Bad Part other final start finish end) → before.source.left ≡ Some input → start.source.left ≡ Some input → IsFaultless how → IsFaultless end → EndSame how end × AreSameRequests one.exchanges two.exchanges
   ends_agree input first last before after how other final start finish end one two given given_other faultless faultless_other =
       both_stop heads 0 one.exchanges two.exchanges (one.unread ++ mine.0) (two.unread ++ others.0) input how end
       (are_requests Rule heads goes 0 first last one.exchanges one.follow)

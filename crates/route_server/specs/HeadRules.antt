@@ -4,11 +4,10 @@ use Rattle.std.proofs.Common.{ap}
 use Rattle.httparse.specs.Grammar.{RequestHead}
 use Rattle.http_head.specs.Heads.{HasFront}
 use Rattle.http_session.specs.Exchanges.{Exchange, Follow, IsWhole}
-use Rattle.metric_publish.specs.declared.entry.Entry.{Entry}
 use Rattle.control_port.specs.Asking.{asked_of, body_length}
-use Rattle.control_port.specs.declared.asking.ControlHead.{ControlHead}
-use Rattle.route_server.specs.ControlRule.{ControlRule, closes_by}
+use Rattle.route_server.specs.ControlRule.{ControlRule, ControlSays, closes_by}
 use Rattle.route_server.specs.QueryRule.{QueryRule, closes_at, is_served}
+use Rattle.route_server.specs.Seats.{QuerySays}
 
 -- whether a head is served, how many bytes of a body stand behind one that is, and whether the reply to it closes the
 -- connection, where it is that of request number n from 0
@@ -56,9 +55,9 @@ module _ {S : Type 0} where
 
 module _ {V : Type 0} where
   -- query connections go by their heads, whatever is said
-  pub query_goes : (Says : Entry V → List ℕ → ℕ → List ℕ → Type 0) → GoesBy (QueryRule Says) query_heads
+  pub query_goes : (Says : QuerySays V) → GoesBy (QueryRule Says) query_heads
   query_goes Says = λ n before x rule. record { whole = rule.whole; served = rule.served; size = ap length rule.bare; close = rule.close }
 
   -- so do control connections, whatever comes of their requests
-  pub control_goes : (Controls : List (Entry V) → ControlHead → List ℕ → ℕ → List ℕ → List (Entry V) → Type 0) → GoesBy (ControlRule Controls) control_heads
+  pub control_goes : (Controls : ControlSays V) → GoesBy (ControlRule Controls) control_heads
   control_goes Controls = λ n before x rule. record { whole = rule.whole; served = refl; size = rule.size; close = rule.close }

@@ -7,8 +7,7 @@ use Rattle.http_head.specs.Fields.{fields_of, closes, announces_body}
 use Rattle.http_head.specs.Heads.{HasFront}
 use Rattle.http_session.specs.Coming.{IsNoHead}
 use Rattle.http_session.specs.Exchanges.{Exchange, IsWhole}
-use Rattle.metric_publish.specs.declared.entry.Entry.{Entry}
-use Rattle.route_server.specs.Seats.{SeatState, IsReplied}
+use Rattle.route_server.specs.Seats.{IsReplied, QuerySays, SeatState}
 
 -- a head that is served: its method is GET, and it announces no body
 abbrev pub is_served : RequestHead → Bool
@@ -19,7 +18,7 @@ abbrev pub closes_at : ℕ → RequestHead → Bool
 closes_at n h = closes h.minor (fields_of h) || n == 99
 
 -- a request that is served has one reply, under an entry that is no older than those before
-pub record QueryRule {V : Type 0} (Says : Entry V → List ℕ → ℕ → List ℕ → Type 0) (n : ℕ) (before : SeatState V) (x : Exchange (SeatState V)) : Type 0 where
+pub record QueryRule {V : Type 0} (Says : QuerySays V) (n : ℕ) (before : SeatState V) (x : Exchange (SeatState V)) : Type 0 where
   pub whole : IsWhole x.head
   pub served : is_served x.head ≡ true
   pub bare : x.body ≡ []

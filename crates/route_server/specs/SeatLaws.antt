@@ -13,7 +13,7 @@ use Rattle.metric_publish.specs.History.{last_number, last_of}
 use Rattle.metric_publish.specs.declared.entry.Entry.{Entry}
 use Rattle.road_io.specs.Views.{ConnState}
 use Rattle.route_server.specs.QueryRule.{QueryRule, IsUnserved}
-use Rattle.route_server.specs.Seats.{SeatState, IsReplied}
+use Rattle.route_server.specs.Seats.{IsReplied, QuerySays, SeatState}
 use Rattle.route_server.specs.Sessions.{IsQuerySession, NeverFall}
 
 pub prefix_same : {A : Type 0} (xs ys : List A) → ys ≡ xs → IsPrefix xs ys
@@ -27,7 +27,7 @@ module _ {V : Type 0} where
   last_number_is [] e is = absurd (subst (λ (o : Option (Entry V)). MatchOption o ⊤ (λ _. ⊥)) is tt)
   last_number_is (x ∷ xs) e is = ap (λ (u : Entry V). u.number) (same_Some _ _ is)
 
-module _ {V : Type 0} (Says : Entry V → List ℕ → ℕ → List ℕ → Type 0) where
+module _ {V : Type 0} (Says : QuerySays V) where
   reply_later : (before after : SeatState V) (target : List ℕ) (close : Bool) (reply : List ℕ) → IsReplied Says before after target close reply → IsPrefix before.seen after.seen
   reply_later before after target close reply (inl answered) = answered.later
   reply_later before after target close reply (inr busy) =

@@ -6,6 +6,10 @@ use Rattle.metric_publish.specs.Calls.{CountsOne, ReadsOne}
 use Rattle.metric_publish.specs.History.{last_number, last_of}
 use Rattle.metric_publish.specs.declared.entry.Entry.{Entry}
 
+-- what is said of a target under an entry: the status and the body of the reply
+abbrev pub QuerySays : Type 0 → Type 1
+QuerySays V = Entry V → List ℕ → ℕ → List ℕ → Type 0
+
 -- the list that it read last, the longest that it was told of, and, where told, the numbers that it read
 pub record SeatState (V : Type 0) : Type 0 where
   pub seen : List (Entry V)
@@ -22,7 +26,7 @@ module _ {V : Type 0} where
 
   -- one read, of a list that begins with all that was seen and learned, and the reply to the target under its
   -- last entry: `Says` tells which status and body are said of a target under an entry
-  pub record IsAnswered (Says : Entry V → List ℕ → ℕ → List ℕ → Type 0) (before after : SeatState V) (target : List ℕ) (close : Bool) (reply : List ℕ) : Type 0 where
+  pub record IsAnswered (Says : QuerySays V) (before after : SeatState V) (target : List ℕ) (close : Bool) (reply : List ℕ) : Type 0 where
     pub entry : Entry V
     pub later : IsPrefix before.seen after.seen
     pub told : IsPrefix before.learned after.seen
@@ -47,5 +51,5 @@ module _ {V : Type 0} where
     pub reads : ReadsAtMostOne before after
     pub text : reply ≡ reply_text 503 busy_body close
 
-  abbrev pub IsReplied : (Entry V → List ℕ → ℕ → List ℕ → Type 0) → SeatState V → SeatState V → List ℕ → Bool → List ℕ → Type 0
+  abbrev pub IsReplied : QuerySays V → SeatState V → SeatState V → List ℕ → Bool → List ℕ → Type 0
   IsReplied Says before after target close reply = IsAnswered Says before after target close reply ⊎ IsBusy before after close reply

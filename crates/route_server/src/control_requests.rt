@@ -13,16 +13,19 @@ use http_session::{Body, Coming, Unread, next_head, take_body};
 use road_io::Conn;
 use std::alloc::Global;
 
+/// A whole request with its body, which is kept unless memory ran out, and whether its reply closes the connection.
+#[derive(Drop)]
+pub struct Taken {
+    pub asked: ControlHead,
+    pub close: bool,
+    pub kept: Option<Vec<u8>>,
+}
+
 /// What comes next on a control connection.
 #[derive(Drop)]
 pub enum ControlRequest {
-    /// A whole request with its body, which is kept unless memory ran out, and whether its reply closes the
-    /// connection.
-    Whole {
-        asked: ControlHead,
-        close: bool,
-        kept: Option<Vec<u8>>,
-    },
+    /// A whole request.
+    Whole(Taken),
     /// Bytes that are no head.
     NoHead,
     /// The end of the input, and no bytes.
@@ -64,7 +67,7 @@ fn take_request<C: Conn>(
     let close = closes_by(asked, closes_at(head, replied));
     unread.consume(size);
     match take_body(alloc, conn, unread, asked.body_length()) {
-        Body::All { kept } => ControlRequest::Whole { asked, close, kept },
+        Body::All { kept } => ControlRequest::Whole(Taken { asked, close, kept }),
         Body::Ends => ControlRequest::Short,
         Body::Fails => ControlRequest::Fault,
     }

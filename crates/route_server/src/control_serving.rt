@@ -7,7 +7,7 @@ ghost use Rattle.route_server.specs.ControlReplying.{KeepsBody, MakesReply, Puts
 ghost use Rattle.route_server.specs.ControlRule.{is_stop};
 ghost use Rattle.route_server.specs.ControlSessions.{IsControlSession, IsControlTranscript};
 
-use crate::control_requests::{ControlRequest, next_request};
+use crate::control_requests::{ControlRequest, Taken, next_request};
 use crate::controlling::Controlling;
 use control_port::ControlHead;
 use http_head::busy_reply;
@@ -46,17 +46,16 @@ fn control_reply<V: Kindred, R: Threads + Sync, P: Publishing<V, R>, A: Controll
     alloc: Global,
     desk: &mut P,
     controlling: &A,
-    request: ControlHead,
-    kept: Option<Vec<u8>>,
-    close: bool,
+    taken: Taken,
 ) -> Option<Vec<u8>>
-    requires body { KeepsBody request kept }
+    requires body { KeepsBody taken.asked taken.kept }
     requires makes { (x : V) → A.makes controlling.now x → P.kin desk.old x }
-    ensures gives { (body : List ℕ) → Holds kept body → MakesReply (A.controls controlling.now) (P.list desk.old) (P.list desk.new) request body close result }
+    ensures gives { (body : List ℕ) → Holds taken.kept body → MakesReply (A.controls controlling.now) (P.list desk.old) (P.list desk.new) taken.asked body taken.close result }
     ensures kin_stays { (x : V) → P.kin desk.old x → P.kin desk.new x }
 {
+    let Taken { asked, close, kept } = taken;
     match kept {
-        Some(body) => match controlling.control(rt, alloc, desk, request, &body, close) {
+        Some(body) => match controlling.control(rt, alloc, desk, asked, &body, close) {
             Ok(reply) => Some(reply),
             Err(_) => None,
         },
@@ -71,19 +70,18 @@ fn put_control<V: Kindred, R: Threads + Sync, P: Publishing<V, R>, A: Controllin
     alloc: Global,
     desk: &mut P,
     controlling: &A,
-    request: ControlHead,
-    kept: Option<Vec<u8>>,
-    close: bool,
+    taken: Taken,
     conn: &mut C,
 ) -> Result<bool, Failed>
-    requires body { KeepsBody request kept }
+    requires body { KeepsBody taken.asked taken.kept }
     requires makes { (x : V) → A.makes controlling.now x → P.kin desk.old x }
-    ensures puts { (body : List ℕ) → Holds kept body → PutsControl (A.controls controlling.now) (P.list desk.old) (P.list desk.new) request body close (C.state conn.old) (C.state conn.new) result }
+    ensures puts { (body : List ℕ) → Holds taken.kept body → PutsControl (A.controls controlling.now) (P.list desk.old) (P.list desk.new) taken.asked body taken.close (C.state conn.old) (C.state conn.new) result }
     ensures kin_stays { (x : V) → P.kin desk.old x → P.kin desk.new x }
 {
-    match control_reply(rt, alloc, desk, controlling, request, kept, close) {
+    let (asked, close) = (taken.asked, taken.close);
+    match control_reply(rt, alloc, desk, controlling, taken) {
         Some(reply) => match put_whole(conn, &reply) {
-            Ok(()) => Ok(is_stop(request)),
+            Ok(()) => Ok(is_stop(asked)),
             Err(failed) => Err(failed),
         },
         None => match put_whole(conn, busy_reply(close)) {
@@ -109,8 +107,9 @@ fn control_requests<V: Kindred, R: Threads + Sync, P: Publishing<V, R>, A: Contr
     let mut replied: u32 = 0;
     'requests: loop {
         match next_request(alloc, conn, &mut unread, replied) {
-            ControlRequest::Whole { asked, close, kept } => {
-                match put_control(rt, alloc, desk, controlling, asked, kept, close, conn) {
+            ControlRequest::Whole(taken) => {
+                let close = taken.close;
+                match put_control(rt, alloc, desk, controlling, taken, conn) {
                     Ok(stopped) => {
                         if stopped {
                             return ControlEnded::Stopped;

@@ -1,11 +1,9 @@
 //! What carries out control requests.
 
-ghost use Rattle.std.specs.Prelude.{◌≡◌, ℕ, List, IfOk, OnErr};
+ghost use Rattle.std.specs.Prelude.{◌≡◌, IfOk, OnErr};
 ghost use Rattle.std.specs.Thread.{IsSync};
-ghost use Rattle.metric_publish.specs.declared.entry.Entry.{Entry};
 ghost use Rattle.control_port.specs.Asking.{IsBodyOf};
-ghost use Rattle.control_port.specs.declared.asking.ControlHead.{ControlHead};
-ghost use Rattle.route_server.specs.ControlRule.{IsCarriedOut};
+ghost use Rattle.route_server.specs.ControlRule.{ControlSays, IsCarriedOut};
 
 use control_port::ControlHead;
 use metric_publish::entry::Kindred;
@@ -16,7 +14,7 @@ use std::thread::Threads;
 /// What carries out control requests on a desk.
 pub trait Controlling<V: Kindred> {
     /// Which status and body are said of a request with its body, and which list of publications stands then.
-    ghost controls: { Self → List (Entry V) → ControlHead → List ℕ → ℕ → List ℕ → List (Entry V) → Type 0 };
+    ghost controls: { Self → ControlSays V };
 
     /// What it may publish.
     ghost makes: { Self → V → Type 0 };

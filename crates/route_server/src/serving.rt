@@ -38,42 +38,45 @@ pub(crate) fn closes_at(head: &Head, replied: u32) -> bool
     head.close || replied == LAST_REQUEST
 }
 
-// Enters once, and makes the reply to a target under what is held.
-fn reply_to<V: Drop, S: Reading<V>, A: Answering<V>, G: Gate>(
+/// What answers the targets of a connection, and the gate that is passed under a number before each.
+#[derive(Drop)]
+struct Service<'a, A, G> {
     alloc: Global,
     id: u32,
+    gate: &'a G,
+    answering: &'a A,
+}
+
+// Enters once, and makes the reply to a target under what is held.
+fn reply_to<V: Drop, S: Reading<V>, A: Answering<V>, G: Gate>(
+    service: &Service<'_, A, G>,
     seat: &mut S,
-    gate: &G,
-    answering: &A,
     target: &[u8],
     close: bool,
 ) -> Result<Vec<u8>, AllocError>
-    requires fits { (x : V) → S.kin seat.old x → A.fits answering.now x }
+    requires fits { (x : V) → S.kin seat.old x → A.fits service.now.answering.now x }
     ensures gives { Gives (λ e. A.says e.value e.number) (seat_state (S.seen seat.old) (S.learned seat.old) (S.reads seat.old)) (seat_state (S.seen seat.new) (S.learned seat.new) (S.reads seat.new)) target.now close result }
     ensures kin_stays { (x : V) → S.kin seat.new x → S.kin seat.old x }
 {
     let held = seat.enter()?;
-    gate.pass(id, held.number());
-    let said: Said = answering.answer(alloc, &held, target)?;
-    response(alloc, said.status, said.body.as_bytes(), close)
+    service.gate.pass(service.id, held.number());
+    let said: Said = service.answering.answer(service.alloc, &held, target)?;
+    response(service.alloc, said.status, said.body.as_bytes(), close)
 }
 
 // Puts that reply; where there was no memory for it, `BUSY` or `BUSY_CLOSE` in its place.
 fn put_reply<V: Drop, S: Reading<V>, A: Answering<V>, G: Gate, C: Conn>(
-    alloc: Global,
-    id: u32,
+    service: &Service<'_, A, G>,
     seat: &mut S,
-    gate: &G,
-    answering: &A,
     target: &[u8],
     close: bool,
     conn: &mut C,
 ) -> Result<(), Failed>
-    requires fits { (x : V) → S.kin seat.old x → A.fits answering.now x }
+    requires fits { (x : V) → S.kin seat.old x → A.fits service.now.answering.now x }
     ensures puts { PutsReply (λ e. A.says e.value e.number) (seat_state (S.seen seat.old) (S.learned seat.old) (S.reads seat.old)) (seat_state (S.seen seat.new) (S.learned seat.new) (S.reads seat.new)) target.now close (C.state conn.old) (C.state conn.new) result }
     ensures kin_stays { (x : V) → S.kin seat.new x → S.kin seat.old x }
 {
-    match reply_to(alloc, id, seat, gate, answering, target, close) {
+    match reply_to(service, seat, target, close) {
         Ok(reply) => put_whole(conn, &reply),
         Err(_) => put_whole(conn, busy_reply(close)),
     }
@@ -81,14 +84,11 @@ fn put_reply<V: Drop, S: Reading<V>, A: Answering<V>, G: Gate, C: Conn>(
 
 // Takes requests and puts replies until the connection ends.
 fn serve_requests<V: Drop, S: Reading<V>, A: Answering<V>, G: Gate, C: Conn>(
-    alloc: Global,
-    id: u32,
+    service: &Service<'_, A, G>,
     seat: &mut S,
-    gate: &G,
-    answering: &A,
     conn: &mut C,
 ) -> Ended
-    requires fits { (x : V) → S.kin seat.old x → A.fits answering.now x }
+    requires fits { (x : V) → S.kin seat.old x → A.fits service.now.answering.now x }
     ensures session { IsSession (QueryRule (λ e. A.says e.value e.number)) IsUnserved IsPartOfHead (seat_state (S.seen seat.old) (S.learned seat.old) (S.reads seat.old)) (seat_state (S.seen seat.new) (S.learned seat.new) (S.reads seat.new)) (C.state conn.old) (C.state conn.new) result }
     ensures kin_stays { (x : V) → S.kin seat.new x → S.kin seat.old x }
 {
@@ -102,7 +102,7 @@ fn serve_requests<V: Drop, S: Reading<V>, A: Answering<V>, G: Gate, C: Conn>(
                 }
                 let close = closes_at(&head, replied);
                 let target = head.target.of(unread.as_slice());
-                match put_reply(alloc, id, seat, gate, answering, target, close, conn) {
+                match put_reply(service, seat, target, close, conn) {
                     Ok(()) => {}
                     Err(_) => return Ended::SinkFault,
                 }
@@ -148,5 +148,11 @@ pub fn serve_with<V: Drop, S: Reading<V>, A: Answering<V>, G: Gate, C: Conn>(
     ensures transcript { IsFreshConn (C.state conn.old) → IsQueryTranscript (λ e. A.says e.value e.number) (S.seen seat.new) (C.state conn.new) result }
     ensures kin_stays { (x : V) → S.kin seat.new x → S.kin seat.old x }
 {
-    serve_requests(alloc, id, seat, gate, answering, conn)
+    let service = Service {
+        alloc,
+        id,
+        gate,
+        answering,
+    };
+    serve_requests(&service, seat, conn)
 }

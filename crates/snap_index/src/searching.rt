@@ -35,6 +35,16 @@ const NARROWEST: u32 = 600;
 /// The microdegrees of latitude from pole to pole.
 const WIDEST: u32 = 180_000_000;
 
+/// What a search goes by: the lines of a grid with their index, what is open, and which place and heading is asked for.
+#[derive(Clone, Copy)]
+pub(crate) struct SnapQuery<'a> {
+    pub(crate) lines: &'a [SegmentEnds],
+    pub(crate) index: &'a Index,
+    pub(crate) base: &'a BaseMetric,
+    pub(crate) from: Point,
+    pub(crate) heading: Option<Heading>,
+}
+
 // Puts the first segments with an open direction of the heading into the slots, none of which is filled yet.
 pub(crate) fn search(
     grid: &Grid,
@@ -48,9 +58,29 @@ pub(crate) fn search(
     ensures slots { AreSlots grid.now base.now.weights heading (position_of from) slots.new }
     ensures judged { (s : ℕ) → IsJudged grid.now base.now.weights heading (position_of from) None slots.new s }
 {
+    let lines = grid.ends();
+    let index = grid.index();
+    let query = SnapQuery {
+        lines,
+        index,
+        base,
+        from,
+        heading,
+    };
+    fill(&query, slots);
+}
+
+// Looks farther and farther, until the slots have the first segments.
+fn fill(query: &SnapQuery, slots: &mut [Option<Candidate>])
+    requires index { IsIndexOf query.now.lines.now query.now.index.now }
+    requires weights { 2 * length query.now.lines.now ≤ length query.now.base.now.weights.vertex }
+    requires slots { AreSlots query.now.lines.now query.now.base.now.weights query.now.heading (position_of query.now.from) slots.old }
+    ensures slots { AreSlots query.now.lines.now query.now.base.now.weights query.now.heading (position_of query.now.from) slots.new }
+    ensures judged { (s : ℕ) → IsJudged query.now.lines.now query.now.base.now.weights query.now.heading (position_of query.now.from) None slots.new s }
+{
     let mut width = NARROWEST;
     for _ in 0..20 {
-        if look_within(grid, base, from, heading, width, slots) {
+        if look_within(query, width, slots) {
             return;
         }
         width = next_width(width, last_remoteness(slots));
@@ -59,31 +89,25 @@ pub(crate) fn search(
         cosine: 0,
         reach: None,
     };
-    look(grid, base, from, heading, everywhere, slots);
+    look(query, everywhere, slots);
 }
 
 // Puts the first segments within so many microdegrees of latitude into the slots. It tells whether nothing
 // farther away can come before these.
-fn look_within(
-    grid: &Grid,
-    base: &BaseMetric,
-    from: Point,
-    heading: Option<Heading>,
-    width: u32,
-    slots: &mut [Option<Candidate>],
-) -> bool
+fn look_within(query: &SnapQuery, width: u32, slots: &mut [Option<Candidate>]) -> bool
     requires width { width ≤ 180000000 }
-    requires weights { 2 * length grid.now ≤ length base.now.weights.vertex }
-    requires slots { AreSlots grid.now base.now.weights heading (position_of from) slots.old }
-    ensures slots { AreSlots grid.now base.now.weights heading (position_of from) slots.new }
-    ensures judged { IsTrue result → (s : ℕ) → IsJudged grid.now base.now.weights heading (position_of from) None slots.new s }
+    requires index { IsIndexOf query.now.lines.now query.now.index.now }
+    requires weights { 2 * length query.now.lines.now ≤ length query.now.base.now.weights.vertex }
+    requires slots { AreSlots query.now.lines.now query.now.base.now.weights query.now.heading (position_of query.now.from) slots.old }
+    ensures slots { AreSlots query.now.lines.now query.now.base.now.weights query.now.heading (position_of query.now.from) slots.new }
+    ensures judged { IsTrue result → (s : ℕ) → IsJudged query.now.lines.now query.now.base.now.weights query.now.heading (position_of query.now.from) None slots.new s }
 {
     let reach = reach_of(width);
     let window = Window {
-        cosine: least_cosine(from, width),
+        cosine: least_cosine(query.from, width),
         reach: Some(reach),
     };
-    look(grid, base, from, heading, window, slots);
+    look(query, window, slots);
     is_enough(last_remoteness(slots), reach)
 }
 
@@ -139,85 +163,65 @@ fn last_remoteness(slots: &[Option<Candidate>]) -> Option<u128>
 }
 
 // Puts the first segments within reach into the slots: looks at all that aren't passed by.
-fn look(
-    grid: &Grid,
-    base: &BaseMetric,
-    from: Point,
-    heading: Option<Heading>,
-    window: Window,
-    slots: &mut [Option<Candidate>],
-)
-    requires weights { 2 * length grid.now ≤ length base.now.weights.vertex }
-    requires cosine { IsLeastCosine (position_of from) window.cosine window.reach }
-    requires slots { AreSlots grid.now base.now.weights heading (position_of from) slots.old }
-    ensures slots { AreSlots grid.now base.now.weights heading (position_of from) slots.new }
-    ensures judged { (s : ℕ) → IsJudged grid.now base.now.weights heading (position_of from) window.reach slots.new s }
+fn look(query: &SnapQuery, window: Window, slots: &mut [Option<Candidate>])
+    requires index { IsIndexOf query.now.lines.now query.now.index.now }
+    requires weights { 2 * length query.now.lines.now ≤ length query.now.base.now.weights.vertex }
+    requires cosine { IsLeastCosine (position_of query.now.from) window.cosine window.reach }
+    requires slots { AreSlots query.now.lines.now query.now.base.now.weights query.now.heading (position_of query.now.from) slots.old }
+    ensures slots { AreSlots query.now.lines.now query.now.base.now.weights query.now.heading (position_of query.now.from) slots.new }
+    ensures judged { (s : ℕ) → IsJudged query.now.lines.now query.now.base.now.weights query.now.heading (position_of query.now.from) window.reach slots.new s }
 {
-    let lines = grid.ends();
-    let index = grid.index();
+    let index = query.index;
     let mut at = 0;
     while at < index.order.len() {
-        at = look_at(lines, index, base, from, heading, window, at, slots);
+        at = look_at(query, window, at, slots);
     }
 }
 
 // Looks at the segment at a number of the order, or passes by it and some behind it, and gives the next number.
-fn look_at(
-    lines: &[SegmentEnds],
-    index: &Index,
-    base: &BaseMetric,
-    from: Point,
-    heading: Option<Heading>,
-    window: Window,
-    at: usize,
-    slots: &mut [Option<Candidate>],
-) -> usize
-    requires index { IsIndexOf lines.now index.now }
-    requires at { at < length index.now.order.items }
-    requires weights { 2 * length lines.now ≤ length base.now.weights.vertex }
-    requires cosine { IsLeastCosine (position_of from) window.cosine window.reach }
-    requires slots { AreSlots lines.now base.now.weights heading (position_of from) slots.old }
+fn look_at(query: &SnapQuery, window: Window, at: usize, slots: &mut [Option<Candidate>]) -> usize
+    requires index { IsIndexOf query.now.lines.now query.now.index.now }
+    requires at { at < length query.now.index.now.order.items }
+    requires weights { 2 * length query.now.lines.now ≤ length query.now.base.now.weights.vertex }
+    requires cosine { IsLeastCosine (position_of query.now.from) window.cosine window.reach }
+    requires slots { AreSlots query.now.lines.now query.now.base.now.weights query.now.heading (position_of query.now.from) slots.old }
     ensures later { at < result }
-    ensures slots { AreSlots lines.now base.now.weights heading (position_of from) slots.new }
+    ensures slots { AreSlots query.now.lines.now query.now.base.now.weights query.now.heading (position_of query.now.from) slots.new }
     ensures stay { StandsOn slots.old slots.new }
-    ensures judged { AreJudged lines.now base.now.weights heading (position_of from) window.reach index.now.order.items at result slots.new }
+    ensures judged { AreJudged query.now.lines.now query.now.base.now.weights query.now.heading (position_of query.now.from) window.reach query.now.index.now.order.items at result slots.new }
 {
+    let lines = query.lines;
+    let index = query.index;
     let far = farthest(window.reach, slots);
-    let passed = passed_by(index, from, window.cosine, far, at);
+    let passed = passed_by(index, query.from, window.cosine, far, at);
     if passed > 0 {
         return at + passed;
     }
     let segment = index.order[at];
     let line = lines[segment as usize];
-    if is_beyond(from, window.cosine, far, extent_of(line)) {
+    if is_beyond(query.from, window.cosine, far, extent_of(line)) {
         return at + 1;
     }
-    consider(lines, base, from, heading, segment, slots);
+    consider(query, segment, slots);
     at + 1
 }
 
 // Puts a segment into its slot, if it has an open direction of the heading.
-fn consider(
-    lines: &[SegmentEnds],
-    base: &BaseMetric,
-    from: Point,
-    heading: Option<Heading>,
-    segment: u32,
-    slots: &mut [Option<Candidate>],
-)
-    requires segment { segment < length lines.now }
-    requires few { length lines.now < 2 ^ 30 }
-    requires weights { 2 * length lines.now ≤ length base.now.weights.vertex }
-    requires slots { AreSlots lines.now base.now.weights heading (position_of from) slots.old }
-    ensures slots { AreSlots lines.now base.now.weights heading (position_of from) slots.new }
+fn consider(query: &SnapQuery, segment: u32, slots: &mut [Option<Candidate>])
+    requires segment { segment < length query.now.lines.now }
+    requires few { length query.now.lines.now < 2 ^ 30 }
+    requires weights { 2 * length query.now.lines.now ≤ length query.now.base.now.weights.vertex }
+    requires slots { AreSlots query.now.lines.now query.now.base.now.weights query.now.heading (position_of query.now.from) slots.old }
+    ensures slots { AreSlots query.now.lines.now query.now.base.now.weights query.now.heading (position_of query.now.from) slots.new }
     ensures stay { StandsOn slots.old slots.new }
-    ensures judged { IsJudged lines.now base.now.weights heading (position_of from) None slots.new segment }
+    ensures judged { IsJudged query.now.lines.now query.now.base.now.weights query.now.heading (position_of query.now.from) None slots.new segment }
 {
+    let lines = query.lines;
     let line = lines[segment as usize];
-    if !has_direction(base, heading, line, segment) {
+    if !has_direction(query.base, query.heading, line, segment) {
         return;
     }
-    put(candidate_on(line, from, segment), slots);
+    put(candidate_on(line, query.from, segment), slots);
 }
 
 // How remote a segment can be at most that isn't passed by: the lesser of the reach and of what the last slot has.

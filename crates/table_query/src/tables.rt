@@ -19,21 +19,36 @@ use search_graph::{Cost, Start, Target, Weights};
 use std::alloc::Global;
 use std::thread::Threads;
 
-// The row from these starts. `all` are the targets of all columns.
+// What each row of a table is made by: the costs and cliques that its searches go by, and the columns. `all` are the
+// targets of all columns.
+#[derive(Drop)]
+struct Columns<'a, C: Cost> {
+    frame: &'a Frame,
+    weights: &'a Weights<C>,
+    cliques: &'a Cliques<C>,
+    targets: &'a [Targets<C>],
+    all: &'a [Target<C>],
+}
+
+// The row from these starts.
 fn row<C: Cost>(
     alloc: Global,
-    frame: &Frame,
-    weights: &Weights<C>,
-    cliques: &Cliques<C>,
+    columns: &Columns<C>,
     starts: &[Start<C>],
-    targets: &[Targets<C>],
-    all: &[Target<C>],
 ) -> Result<Row<C>, SearchFault>
-    requires ready { AreReady C.ops frame.now weights.now cliques.now targets.now all.now }
-    requires starts { (s : Start C) → Contains starts.now s → (s.vertex < frame.now.graph.vertices) × C.ops.units s.cost 1 }
-    ensures { IfOk result (IsRow C.ops frame.now.graph weights.now targets.now starts.now) }
+    requires ready { AreReady C.ops columns.now.frame.now columns.now.weights.now columns.now.cliques.now columns.now.targets.now columns.now.all.now }
+    requires starts { (s : Start C) → Contains starts.now s → (s.vertex < columns.now.frame.now.graph.vertices) × C.ops.units s.cost 1 }
+    ensures { IfOk result (IsRow C.ops columns.now.frame.now.graph columns.now.weights.now columns.now.targets.now starts.now) }
 {
-    let costs = least_costs(alloc, frame, weights, cliques, starts, all)?;
+    let costs = least_costs(
+        alloc,
+        columns.frame,
+        columns.weights,
+        columns.cliques,
+        starts,
+        columns.all,
+    )?;
+    let targets = columns.targets;
     let mut values = Vec::with_capacity(alloc, targets.len())?;
     let mut from = 0;
     for list in targets {
@@ -48,35 +63,21 @@ fn row<C: Cost>(
 fn rows_in_threads<C: Cost + Send + Sync>(
     rt: &(impl Threads + Sync),
     alloc: Global,
-    frame: &Frame,
-    weights: &Weights<C>,
-    cliques: &Cliques<C>,
+    columns: &Columns<C>,
     sources: &[Starts<C>],
-    targets: &[Targets<C>],
-    all: &[Target<C>],
 ) -> Result<Vec<Row<C>>, SearchFault>
-    requires ready { AreReady C.ops frame.now weights.now cliques.now targets.now all.now }
-    requires sources { (list : List (Start C)) (s : Start C) → Contains sources.now list → Contains list s → (s.vertex < frame.now.graph.vertices) × C.ops.units s.cost 1 }
-    ensures { IfOk result (λ rows. IsTable C.ops frame.now.graph weights.now sources.now targets.now rows.items) }
+    requires ready { AreReady C.ops columns.now.frame.now columns.now.weights.now columns.now.cliques.now columns.now.targets.now columns.now.all.now }
+    requires sources { (list : List (Start C)) (s : Start C) → Contains sources.now list → Contains list s → (s.vertex < columns.now.frame.now.graph.vertices) × C.ops.units s.cost 1 }
+    ensures { IfOk result (λ rows. IsTable C.ops columns.now.frame.now.graph columns.now.weights.now sources.now columns.now.targets.now rows.items) }
 {
     let done: Result<Vec<Row<C>>, SearchFault> = sources
         .par_iter()
         .with_min_len(1)
         .map(
             |starts: &Starts<C>| -> Result<Row<C>, SearchFault>
-                requires { AreReady C.ops frame.now weights.now cliques.now targets.now all.now × ((s : Start C) → Contains starts.now s → (s.vertex < frame.now.graph.vertices) × C.ops.units s.cost 1) }
-                ensures { IfOk result (IsRow C.ops frame.entry.now.graph weights.entry.now targets.entry.now starts.now) }
-            {
-                row(
-                    alloc,
-                    frame,
-                    weights,
-                    cliques,
-                    starts.as_slice(),
-                    targets,
-                    all,
-                )
-            },
+                requires { AreReady C.ops columns.now.frame.now columns.now.weights.now columns.now.cliques.now columns.now.targets.now columns.now.all.now × ((s : Start C) → Contains starts.now s → (s.vertex < columns.now.frame.now.graph.vertices) × C.ops.units s.cost 1) }
+                ensures { IfOk result (IsRow C.ops columns.entry.now.frame.now.graph columns.entry.now.weights.now columns.entry.now.targets.now starts.now) }
+            { row(alloc, columns, starts.as_slice()) },
         )
         .collect(rt, alloc)?;
     done
@@ -103,6 +104,13 @@ pub fn table<C: Cost + Send + Sync>(
     ensures { IfOk result (λ rows. IsTable C.ops frame.now.graph weights.now sources.now targets.now rows.items) }
 {
     let all = all_targets(alloc, targets)?;
-    let rows = rows_in_threads(rt, alloc, frame, weights, cliques, sources, targets, &all)?;
+    let columns = Columns {
+        frame,
+        weights,
+        cliques,
+        targets,
+        all: &all,
+    };
+    let rows = rows_in_threads(rt, alloc, &columns, sources)?;
     Ok(rows)
 }

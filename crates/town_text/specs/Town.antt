@@ -28,7 +28,7 @@ next_node id = codes ",n" ++ decimal id
 unfoldable pub nodes_along : (n first step : ℕ) → List ℕ
 nodes_along n first step = (codes "n" ++ decimal first) ++ flat_map (λ k. next_node (first + k * step)) (range_with_len 1 (n - 1))
 
--- each fourth row is primary, from row 0 on
+-- each fourth row is primary, beginning with the southernmost
 unfoldable pub row_class : ℕ → List ℕ
 row_class y = if y % 4 == 0 then codes "primary" else codes "residential"
 

@@ -17,7 +17,7 @@ requests-init g c = record {
 pub put_control-requires-clause-body : goal.put_control-requires-clause-body
 put_control-requires-clause-body g c = λ lifetimes lived.
     let read = c.in-Whole.ensures in
-    keeps_body c.in-Whole.asked c.in-Whole.kept read.body read.holds read.size read.speeds
+    keeps_body c.in-Whole.taken.asked c.in-Whole.taken.kept read.body read.holds read.size read.speeds
 
 -- a stop was answered
 pub returns-then-stopped-clause-session : goal.returns-then-stopped-clause-session
@@ -37,12 +37,12 @@ returns-then-stopped-clause-session g c =
     let c3 = g.C.Conn.state c.put_control.new.conn in
     let list1 = g.P.Publishing.list c.requests.desk in
     let list2 = g.P.Publishing.list c.put_control.new.desk in
-    let asked = c.in-Whole.asked in
-    let close = c.in-Whole.close in
+    let asked = c.in-Whole.taken.asked in
+    let close = c.in-Whole.taken.close in
     let puts = c.in-Ok.ensures.puts read.body read.holds in
     let replies = subst (λ (b : Bool). IsControlReply controls list1 list2 asked read.body close b puts.0) c.if-stopped.true puts.1 in
     let x = control_exchange read.head read.body close puts.0 list2 true in
-    let follows = control_rule_of controls n list1 list2 false true c1 c2 u1 u2 asked close c.in-Whole.kept puts.0 read replies in
+    let follows = control_rule_of controls n list1 list2 false true c1 c2 u1 u2 asked close c.in-Whole.taken.kept puts.0 read replies in
     session_closed rule IsNoHead IsPartOfRequest d0 d1 c0 c2 c3 read.held u2 n x so_far read.split follows
     (stopped_closes controls list1 list2 asked read.body (closes_at n read.head) close c.in-Ok.stopped puts.0 puts.1 c.if-stopped.true read.close_is) puts.2
 
@@ -64,12 +64,12 @@ returns-then-close-clause-session g c =
     let c3 = g.C.Conn.state c.put_control.new.conn in
     let list1 = g.P.Publishing.list c.requests.desk in
     let list2 = g.P.Publishing.list c.put_control.new.desk in
-    let asked = c.in-Whole.asked in
-    let close = c.in-Whole.close in
+    let asked = c.in-Whole.taken.asked in
+    let close = c.in-Whole.taken.close in
     let puts = c.in-Ok.ensures.puts read.body read.holds in
     let replies = subst (λ (b : Bool). IsControlReply controls list1 list2 asked read.body close b puts.0) c.if-stopped.false puts.1 in
     let x = control_exchange read.head read.body close puts.0 list2 false in
-    let follows = control_rule_of controls n list1 list2 false false c1 c2 u1 u2 asked close c.in-Whole.kept puts.0 read replies in
+    let follows = control_rule_of controls n list1 list2 false false c1 c2 u1 u2 asked close c.in-Whole.taken.kept puts.0 read replies in
     (false, session_closed rule IsNoHead IsPartOfRequest d0 d1 c0 c2 c3 read.held u2 n x so_far read.split follows c.if-close.true puts.2, no_stop)
 
 -- and the next request follows
@@ -90,12 +90,12 @@ requests-preserved g c =
     let c3 = g.C.Conn.state c.put_control.new.conn in
     let list1 = g.P.Publishing.list c.requests.desk in
     let list2 = g.P.Publishing.list c.put_control.new.desk in
-    let asked = c.in-Whole.asked in
-    let close = c.in-Whole.close in
+    let asked = c.in-Whole.taken.asked in
+    let close = c.in-Whole.taken.close in
     let puts = c.in-Ok.ensures.puts read.body read.holds in
     let replies = subst (λ (b : Bool). IsControlReply controls list1 list2 asked read.body close b puts.0) c.if-stopped.false puts.1 in
     let x = control_exchange read.head read.body close puts.0 list2 false in
-    let follows = control_rule_of controls n list1 list2 false false c1 c2 u1 u2 asked close c.in-Whole.kept puts.0 read replies in
+    let follows = control_rule_of controls n list1 list2 false false c1 c2 u1 u2 asked close c.in-Whole.taken.kept puts.0 read replies in
     record {
       so_far = so_far_reply rule d0 d1 c0 c2 c3 read.held u2 n x so_far read.split follows c.if-close.false puts.2;
       kin = λ x kin. c.in-Ok.ensures.kin_stays x (c.requests.invariant.kin x kin);
@@ -120,11 +120,11 @@ returns-in-Err-clause-session g c =
     let c3 = g.C.Conn.state c.put_control.new.conn in
     let list1 = g.P.Publishing.list c.requests.desk in
     let list2 = g.P.Publishing.list c.put_control.new.desk in
-    let asked = c.in-Whole.asked in
-    let close = c.in-Whole.close in
+    let asked = c.in-Whole.taken.asked in
+    let close = c.in-Whole.taken.close in
     let puts = c.in-Err.ensures.puts read.body read.holds in
     let x = control_exchange read.head read.body close puts.1 list2 puts.0 in
-    let follows = control_rule_of controls n list1 list2 false puts.0 c1 c2 u1 u2 asked close c.in-Whole.kept puts.1 read puts.2 in
+    let follows = control_rule_of controls n list1 list2 false puts.0 c1 c2 u1 u2 asked close c.in-Whole.taken.kept puts.1 read puts.2 in
     let session = session_cut rule IsNoHead IsPartOfRequest d0 d1 c0 c2 c3 read.held u2 n x so_far read.split follows puts.3 in
     (puts.0, session, λ on. (refl, stop_cut controls (g.P.Publishing.list c.args.desk.now) list2 c0 c3 puts.0 session on))
 

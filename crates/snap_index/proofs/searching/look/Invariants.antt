@@ -6,8 +6,8 @@ use Rattle.snap_index.proofs.searching.look.Given as goal
 
 abbrev pub invariant-loop-at : goal.invariant-loop-at
 invariant-loop-at l = record {
-  slots : AreSlots l.lines l.base.weights l.heading (position_of l.from) l.slots;
-  judged : AreJudged l.lines l.base.weights l.heading (position_of l.from) l.window.reach l.index.order.items 0 l.at l.slots;
+  slots : AreSlots l.query.lines.now l.query.base.now.weights l.query.heading (position_of l.query.from) l.slots;
+  judged : AreJudged l.query.lines.now l.query.base.now.weights l.query.heading (position_of l.query.from) l.window.reach l.index.order.items 0 l.at l.slots;
 }
 
 abbrev pub decreases-loop-at : goal.decreases-loop-at

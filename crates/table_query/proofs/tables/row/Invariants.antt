@@ -6,6 +6,6 @@ use Rattle.table_query.proofs.tables.row.Given as goal
 -- each list of targets so far has its cell, and the costs of the next begin behind theirs
 abbrev pub invariant-loop-list : goal.invariant-loop-list
 invariant-loop-list g l = record {
-  from : l.from ≡ length (joined (take l.list-index l.targets));
-  cells : IsRow g.C.Cost.ops l.frame.graph l.weights (take l.list-index l.targets) l.starts l.values.items;
+  from : l.from ≡ length (joined (take l.list-index l.columns.targets.now));
+  cells : IsRow g.C.Cost.ops l.columns.frame.now.graph l.columns.weights.now (take l.list-index l.columns.targets.now) l.starts l.values.items;
 }

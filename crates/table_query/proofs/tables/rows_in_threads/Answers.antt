@@ -22,9 +22,9 @@ returns g c =
     let chain = given.1 in
     let shown = ap (λ it. it.slice.now) (ap (λ it. it.base) c.map.ensures.base ∙ c.with_min_len.ensures.base) ∙ c.par_iter.ensures in
     let f = c.map.result.f in
-    let frame : f.1.now ≡ c.args.frame.now = ap (λ f. f.1.now) c.map.ensures.f in
-    let weights : f.2.now ≡ c.args.weights.now = ap (λ f. f.2.now) c.map.ensures.f in
-    let targets : f.4.now ≡ c.args.targets.now = ap (λ f. f.4.now) c.map.ensures.f in
+    let frame : f.1.now.frame.now ≡ c.args.columns.now.frame.now = ap (λ f. f.1.now.frame.now) c.map.ensures.f in
+    let weights : f.1.now.weights.now ≡ c.args.columns.now.weights.now = ap (λ f. f.1.now.weights.now) c.map.ensures.f in
+    let targets : f.1.now.targets.now ≡ c.args.columns.now.targets.now = ap (λ f. f.1.now.targets.now) c.map.ensures.f in
     of_ok c.in_ok-done.done _ _ _ given.2 (λ v h.
-    table-same ops f.1.now c.args.frame.now f.2.now c.args.weights.now f.4.now c.args.targets.now sources v.items frame weights targets
-    (all_zip-good _ (λ starts row. IsRow ops f.1.now.graph f.2.now f.4.now starts row) chain.0 sources given.0 h.0 v.items (chain.1 ∙ shown) chain.2 h.1 h.2))
+    table-same ops f.1.now.frame.now c.args.columns.now.frame.now f.1.now.weights.now c.args.columns.now.weights.now f.1.now.targets.now c.args.columns.now.targets.now sources v.items frame weights targets
+    (all_zip-good _ (λ starts row. IsRow ops f.1.now.frame.now.graph f.1.now.weights.now f.1.now.targets.now starts row) chain.0 sources given.0 h.0 v.items (chain.1 ∙ shown) chain.2 h.1 h.2))
