@@ -64,6 +64,10 @@ try customization.py 'customization whole and of touched cells beside a baseline
     --processors 1,2 --repeats 1 --rows 10 "$car" town.opl
 try queries.py 'routes and tables beside a baseline of overlays' "$cells" --pairs 20 --repeats 1 "$car" town.opl
 try trips.py 'trips beside the table and the route of each' '' --trips 5 --repeats 1 "$car" town.opl
+try through.py 'one walk through all places beside each leg by itself' '' \
+    --routes 5 --places 2,5 --repeats 1 "$car" town.opl
+try two.py 'two programs beside each other, here one beside itself' '' \
+    --pairs 10 --repeats 1 "$ROAD_ROUTER" "$ROAD_ROUTER" "$car" town.opl
 try targets.py 'reading of targets' '' --lines 50 "$car" town.opl
 try snapping.sh 'snapping by a scan, a grid and an index' rustc town.opl 100
 try serve.sh 'serving over loopback beside a plain server' "rustc $plain" --seconds 0.1
@@ -78,6 +82,7 @@ fi
 try faults.py 'faults from outside' '' --part 10
 left_out partition.sh 'the halving into cells' 'it proves a crate'
 left_out board.sh 'reads of a board' 'it builds a crate by rt try'
+left_out unproved.py 'the program without its proof' 'it builds all crates'
 left_out gate.py 'what the gate takes' 'it runs rt ci'
 left_out bodies.py 'wrong bodies beside the gate' 'it runs rt ci'
 left_out qt_client 'replies as a client in Qt reads them' 'it is built and asked by hand'

@@ -123,6 +123,7 @@ struct Way {
     speed: u64,
     forward: bool,
     backward: bool,
+    roundabout: bool,
     nodes: Vec<i64>,
 }
 
@@ -340,18 +341,18 @@ fn read_way(line: &[u8], settings: &Settings, map: &mut Map) {
     if access.is_some_and(|value| settings.denied.contains(&value)) {
         return;
     }
-    let round = highway == "motorway" || value_of(tags, "junction").is_some_and(|value| value == "roundabout");
+    let roundabout = value_of(tags, "junction").is_some_and(|value| value == "roundabout");
     let (forward, backward) = match value_of(tags, "oneway").as_deref() {
         Some("yes" | "true" | "1") => (true, false),
         Some("-1" | "reverse") => (false, true),
         Some("no") => (true, true),
-        _ => (true, !round),
+        _ => (true, !roundabout && highway != "motorway"),
     };
     let ids = field(line, b'N').split(|b| *b == b',').filter(|entry| entry.len() > 1);
     let nodes = ids.map(|entry| integer(entry[1..].split(|b| *b == b'x').next().unwrap())).collect();
     let name = value_of(tags, "name").unwrap_or_default();
     let (speed, classes) = (speed_on(tags, *speed, settings), classes_of(tags, settings));
-    map.ways.push(Way { id: id_of(line), name, classes, speed, forward, backward, nodes });
+    map.ways.push(Way { id: id_of(line), name, classes, speed, forward, backward, roundabout, nodes });
 }
 
 /// What `maxspeed` and then `surface` make of the speed of a way's kind.
@@ -733,8 +734,11 @@ fn before(cost: Cost, parts: u64) -> Cost {
     (cost.0 * parts / 1024, cost.1 * parts / 1024, cost.2 * parts / 1024)
 }
 
-/// The open directions of a place's segment, with their costs and how far along each it lies.
-fn directions(network: &View, place: Place) -> Vec<(u32, Cost, u64)> {
+/// A direction of a place's segment: the vertex, what it costs, and how far along it the place lies.
+type Direction = (u32, Cost, u64);
+
+/// The open directions of a place's segment.
+fn directions(network: &View, place: Place) -> Vec<Direction> {
     let both = [(2 * place.segment, place.at), (2 * place.segment + 1, 1024 - place.at)];
     let open = both.iter().filter_map(|(v, parts)| Some((*v, network.costs[*v as usize]?, *parts)));
     open.collect()
@@ -794,12 +798,22 @@ impl Labels {
 }
 
 impl Labels {
-    /// Begins a search from a place.
-    fn start(&mut self, network: &View, from: Place) {
+    /// Begins a search from a place, in these of its directions.
+    fn start(&mut self, network: &View, from: &[Direction]) {
         self.stamp += 1;
         self.heap.clear();
-        for (v, cost, parts) in directions(network, from) {
-            self.expand(network, v, minus(cost, before(cost, parts)), START);
+        for (v, cost, parts) in from {
+            self.expand(network, *v, minus(*cost, before(*cost, *parts)), START);
+        }
+    }
+
+    /// Searches until the vertices of all targets are settled, or nothing is left.
+    fn reach(&mut self, network: &View, from: &[Direction], targets: &[Direction]) {
+        self.start(network, from);
+        let mut wanted = targets.len();
+        while wanted > 0 {
+            let Some((v, _)) = self.settle(network) else { break };
+            wanted -= usize::from(targets.iter().any(|target| target.0 == v));
         }
     }
 
@@ -833,9 +847,8 @@ impl Labels {
     }
 }
 
-/// What a walk of one vertex costs between two places, and the vertex.
-fn along_one(network: &View, from: Place, to: Place) -> Option<(Cost, u32)> {
-    let (starts, targets) = (directions(network, from), directions(network, to));
+/// What a walk of one vertex costs from one of these directions to one of those, and the vertex.
+fn along_one(starts: &[Direction], targets: &[Direction]) -> Option<(Cost, u32)> {
     let pairs = starts.iter().filter_map(|(v, cost, parts)| {
         let (_, _, last) = targets.iter().find(|target| target.0 == *v && target.2 >= *parts)?;
         Some((minus(before(*cost, *last), before(*cost, *parts)), *v))
@@ -843,19 +856,23 @@ fn along_one(network: &View, from: Place, to: Place) -> Option<(Cost, u32)> {
     pairs.min()
 }
 
-fn least_route(network: &View, labels: &mut Labels, from: Place, to: Place) -> Option<Route> {
-    let targets = directions(network, to);
-    labels.start(network, from);
-    let mut wanted = targets.len();
-    while wanted > 0 {
-        let Some((v, _)) = labels.settle(network) else { break };
-        wanted -= usize::from(targets.iter().any(|target| target.0 == v));
-    }
+/// What a walk with a turn costs to one of these targets by the search that has reached them, and its last vertex.
+fn by_turns(labels: &Labels, targets: &[Direction]) -> Option<(Cost, u32)> {
     let turning = targets.iter().filter_map(|(v, own, parts)| {
         let cost = labels.cost_of(*v)?;
         Some((plus(minus(cost, *own), before(*own, *parts)), *v))
     });
-    match (along_one(network, from, to), turning.min()) {
+    turning.min()
+}
+
+fn least_route(network: &View, labels: &mut Labels, from: Place, to: Place) -> Option<Route> {
+    least_between(network, labels, &directions(network, from), &directions(network, to))
+}
+
+/// A least walk that begins in one of these directions and ends in one of those.
+fn least_between(network: &View, labels: &mut Labels, starts: &[Direction], targets: &[Direction]) -> Option<Route> {
+    labels.reach(network, starts, targets);
+    match (along_one(starts, targets), by_turns(labels, targets)) {
         (None, None) => None,
         (Some((cost, v)), None) => Some(Route { cost, walk: vec![v] }),
         (Some((cost, v)), Some((other, _))) if cost <= other => Some(Route { cost, walk: vec![v] }),
@@ -863,22 +880,82 @@ fn least_route(network: &View, labels: &mut Labels, from: Place, to: Place) -> O
     }
 }
 
+/// What a least walk costs from one of these directions to one of those, which the search has reached.
+fn cost_between(labels: &Labels, starts: &[Direction], targets: &[Direction]) -> Option<Cost> {
+    let both = by_turns(labels, targets).into_iter().chain(along_one(starts, targets));
+    both.map(|(cost, _)| cost).min()
+}
+
 /// What a least walk from a place to each of others costs, by one search.
 fn row(network: &View, labels: &mut Labels, from: Place, to: &[Place]) -> Vec<Option<Cost>> {
-    labels.start(network, from);
+    let starts = directions(network, from);
+    labels.start(network, &starts);
     let mut wanted: HashSet<u32> = to.iter().flat_map(|place| directions(network, *place)).map(|target| target.0).collect();
     while !wanted.is_empty() {
         let Some((v, _)) = labels.settle(network) else { break };
         wanted.remove(&v);
     }
-    let cell = |place: &Place| {
-        let turning = directions(network, *place).into_iter().filter_map(|(v, own, parts)| {
-            Some(plus(minus(labels.cost_of(v)?, own), before(own, parts)))
-        });
-        let one = along_one(network, from, *place).map(|(cost, _)| cost);
-        turning.chain(one).min()
+    to.iter().map(|place| cost_between(labels, &starts, &directions(network, *place))).collect()
+}
+
+// ---- one walk through all places ----
+
+/// By the direction of a place's segment: forward, then backward.
+type ByDirection<T> = [T; 2];
+
+/// What legs cost together.
+type Sum = (u128, u128, u128);
+
+fn with_leg(sum: Sum, leg: Cost) -> Sum {
+    (sum.0 + u128::from(leg.0), sum.1 + u128::from(leg.1), sum.2 + u128::from(leg.2))
+}
+
+/// What a least walk costs from each direction of a place to each of another.
+fn leg_costs(network: &View, labels: &mut Labels, from: Place, to: Place) -> ByDirection<ByDirection<Option<Cost>>> {
+    let (mut costs, targets) = ([[None; 2]; 2], directions(network, to));
+    for start in directions(network, from) {
+        labels.reach(network, &[start], &targets);
+        for target in &targets {
+            costs[start.0 as usize % 2][target.0 as usize % 2] = cost_between(labels, &[start], &[*target]);
+        }
+    }
+    costs
+}
+
+/// The direction at each place of a least walk through all, or the first leg up to which there is none. Of several it
+/// ends in the first direction, and so on backwards.
+fn least_chain(network: &View, labels: &mut Labels, places: &[Place]) -> Result<Vec<usize>, usize> {
+    let (mut sums, mut befores): (ByDirection<Option<Sum>>, Vec<ByDirection<usize>>) = ([Some((0, 0, 0)); 2], Vec::new());
+    for (leg, pair) in places.windows(2).enumerate() {
+        let costs = leg_costs(network, labels, pair[0], pair[1]);
+        let least = |end: usize| (0..2).filter_map(|from| Some((with_leg(sums[from]?, costs[from][end]?), from))).min();
+        let steps = [least(0), least(1)];
+        sums = steps.map(|step| step.map(|(sum, _)| sum));
+        befores.push(steps.map(|step| step.map_or(0, |(_, from)| from)));
+        if sums == [None; 2] {
+            return Err(leg);
+        }
+    }
+    let ends = (0..2).filter_map(|end| Some((sums[end]?, end)));
+    let mut chain = vec![ends.min().expect("a walk comes to the last place").1];
+    for before in befores.iter().rev() {
+        chain.push(before[chain[chain.len() - 1]]);
+    }
+    chain.reverse();
+    Ok(chain)
+}
+
+/// A route for each leg, each of which goes on along the vertex on which the one before ends, so that they cost the
+/// least together; the first leg up to which there are none where there are none.
+fn least_through(network: &View, labels: &mut Labels, places: &[Place]) -> Result<Vec<Route>, usize> {
+    let chain = least_chain(network, labels, places)?;
+    let in_chain = |(place, direction): (&Place, &usize)| {
+        let vertex = 2 * place.segment + *direction as u32;
+        directions(network, *place).into_iter().find(|open| open.0 == vertex).expect("an open vertex")
     };
-    to.iter().map(cell).collect()
+    let own: Vec<Direction> = places.iter().zip(&chain).map(in_chain).collect();
+    let route = |pair: &[Direction]| least_between(network, labels, &pair[..1], &pair[1..]).expect("each leg of the chain has a walk");
+    Ok(own.windows(2).map(route).collect())
 }
 
 // ---- traffic ----
@@ -1412,15 +1489,25 @@ fn waypoints_text(request: &Request, waypoints: Vec<String>) -> String {
     if request.skip_waypoints { String::new() } else { format!(",\"waypoints\":[{}]", waypoints.join(",")) }
 }
 
+/// A route for each leg through places in their order: one walk that turns round at none of them where that is asked
+/// for, else each leg by itself. The number of the first leg that has none where one has none.
+fn routes_along(network: &View, labels: &mut Labels, request: &Request, places: &[Place]) -> Result<Vec<Route>, usize> {
+    if request.straight {
+        return least_through(network, labels, places);
+    }
+    let legs = places.windows(2).enumerate();
+    legs.map(|(number, pair)| least_route(network, labels, pair[0], pair[1]).ok_or(number)).collect()
+}
+
 /// A route through places in their order; the number of the first leg that has no walk where one has none.
 fn route_text(network: &View, labels: &mut Labels, request: &Request, places: &[Place]) -> Result<String, usize> {
     let (mut whole, mut legs, mut line) = ((0, 0, 0), Vec::new(), Vec::new());
-    for (number, pair) in places.windows(2).enumerate() {
-        let route = least_route(network, labels, pair[0], pair[1]).ok_or(number)?;
+    let routes = routes_along(network, labels, request, places)?;
+    for (number, (route, pair)) in routes.iter().zip(places.windows(2)).enumerate() {
         whole = plus(whole, route.cost);
         let points = leg_points(network, &route.walk, pair[0], pair[1]);
         line.extend(&points[usize::from(number > 0)..]);
-        legs.push(leg_text(network, request, &route, &points, pair[0], pair[1]));
+        legs.push(leg_text(network, request, route, &points, pair[0], pair[1]));
     }
     if request.overview == "simplified" {
         line = simplified(&line, tolerance_of(&line));
@@ -1461,21 +1548,19 @@ fn leg_text(network: &View, request: &Request, route: &Route, points: &[Point], 
 
 /// What the driver is told of a leg, step by step. A turn's cost is in the step that holds the vertex behind it.
 fn steps_text(network: &Network, request: &Request, walk: &[u32], paid: &[Cost], points: &[Point]) -> String {
-    let mut begins = vec![(0, "depart", None)];
+    let exits = exit_numbers(network, walk);
+    let mut begins = vec![(0, Maneuver { kind: "depart", modifier: None, exit: None })];
     for at in 1..walk.len() {
-        if let Some((kind, modifier)) = maneuver(network, walk[at - 1], walk[at]) {
-            begins.push((at, kind, Some(modifier)));
-        }
+        begins.extend(maneuver(network, walk, &exits, at).map(|maneuver| (at, maneuver)));
     }
     let mut told = String::new();
-    for (number, (from, kind, modifier)) in begins.iter().enumerate() {
+    for (number, (from, own)) in begins.iter().enumerate() {
         let (from, to) = (*from, begins.get(number + 1).map_or(walk.len(), |next| next.0));
         let whole = paid[from..to].iter().fold((0, 0, 0), |sum, part| plus(sum, *part));
         let turned = (from.max(1)..to).fold((0, 0, 0), |sum, at| plus(sum, turn_cost(network, walk[at - 1], walk[at])));
         let before = if from == 0 { 0 } else { vertex_bearing(&network.segments, walk[from - 1] as usize) };
         let after = vertex_bearing(&network.segments, walk[from] as usize);
-        let modifier = modifier.map_or(String::new(), |modifier| format!(",\"modifier\":\"{}\"", MODIFIERS[modifier].replace('_', " ")));
-        let maneuver = format!("\"bearing_before\":{before},\"bearing_after\":{after},\"type\":\"{kind}\"{modifier}");
+        let maneuver = format!("\"bearing_before\":{before},\"bearing_after\":{after},{}", own.text());
         let met: Vec<String> = (from..to).map(|at| intersection(network, walk, points[at], at)).collect();
         told += &step_text(network, request, walk[from], plus(whole, turned), &points[from..=to], &maneuver, &met.join(","));
         told.push(',');
@@ -1543,21 +1628,77 @@ fn turn_cost(network: &Network, d: u32, e: u32) -> Cost {
     network.metric.turns[turn].cost()
 }
 
-/// What the driver is to do at a turn, and the place in `MODIFIERS` of how it bends; None where he just goes on.
-fn maneuver(network: &Network, d: u32, e: u32) -> Option<(&'static str, usize)> {
-    if e == d ^ 1 {
-        return Some(("continue", 4));
+/// What the driver is to do.
+struct Maneuver {
+    kind: &'static str,
+    /// How a turn bends, as the place in `MODIFIERS`.
+    modifier: Option<usize>,
+    /// At a roundabout, by which of its exits he leaves it.
+    exit: Option<usize>,
+}
+
+impl Maneuver {
+    fn text(&self) -> String {
+        let mut text = format!("\"type\":\"{}\"", self.kind);
+        if let Some(modifier) = self.modifier {
+            text += &format!(",\"modifier\":\"{}\"", MODIFIERS[modifier].replace('_', " "));
+        }
+        if let Some(exit) = self.exit {
+            text += &format!(",\"exit\":{exit}");
+        }
+        text
     }
+}
+
+/// What the driver is to do at the turn before a vertex of a walk; None where he just goes on. `exits` are those of the
+/// walk.
+fn maneuver(network: &Network, walk: &[u32], exits: &[Option<usize>], at: usize) -> Option<Maneuver> {
+    let (d, e) = (walk[at - 1], walk[at]);
     let bend = modifier(vertex_bearing(&network.segments, d as usize), vertex_bearing(&network.segments, e as usize));
+    let (kind, modifier, exit) = match (is_round(network, d), is_round(network, e)) {
+        _ if e == d ^ 1 => ("continue", 4, None),
+        (true, true) => return None,
+        (false, true) => ("roundabout", bend, exits[at]),
+        (true, false) => ("exit roundabout", bend, exits[at - 1]),
+        (false, false) => (by_names(network, d, e, bend)?, bend, None),
+    };
+    Some(Maneuver { kind, modifier: Some(modifier), exit })
+}
+
+/// What is said of a turn away from roundabouts, by how many ways on there are, by names and by how it bends.
+fn by_names(network: &Network, d: u32, e: u32, bend: usize) -> Option<&'static str> {
     let here = &network.leaving[&ends(&network.segments, d as usize).1];
     let several = here.iter().filter(|other| **other != d ^ 1).count() >= 2;
     let same_name = name_of(network, d) == name_of(network, e);
     match (several, same_name, MODIFIERS[bend]) {
         (false, true, _) | (true, true, "straight") => None,
-        (false, false, _) | (true, false, "straight" | "slight_right" | "slight_left") => Some(("new name", bend)),
-        (true, true, _) => Some(("continue", bend)),
-        (true, false, _) => Some(("turn", bend)),
+        (false, false, _) | (true, false, "straight" | "slight_right" | "slight_left") => Some("new name"),
+        (true, true, _) => Some("continue"),
+        (true, false, _) => Some("turn"),
     }
+}
+
+/// Whether a vertex is of a roundabout.
+fn is_round(network: &Network, v: u32) -> bool {
+    network.ways[network.segments[v as usize / 2].way as usize].roundabout
+}
+
+/// Whether a vehicle may leave the roundabout at the head of one of its vertices.
+fn lets_out(network: &Network, v: u32) -> bool {
+    let leaving = network.leaving.get(&ends(&network.segments, v as usize).1);
+    leaving.is_some_and(|leaving| leaving.iter().any(|e| !is_round(network, *e)))
+}
+
+/// For each vertex of a walk how many exits there are along the neighbouring vertices of roundabouts that it stands
+/// among; None where it is of no roundabout, and where the walk ends before it leaves that.
+fn exit_numbers(network: &Network, walk: &[u32]) -> Vec<Option<usize>> {
+    let mut numbers = Vec::with_capacity(walk.len());
+    for run in walk.chunk_by(|d, e| is_round(network, *d) == is_round(network, *e)) {
+        let left_again = is_round(network, run[0]) && numbers.len() + run.len() < walk.len();
+        let exits = left_again.then(|| run.iter().filter(|v| lets_out(network, **v)).count());
+        numbers.extend(run.iter().map(|_| exits));
+    }
+    numbers
 }
 
 fn totals((weight, duration, length): Cost) -> String {
@@ -1577,6 +1718,8 @@ struct Request {
     destinations: Vec<usize>,
     skip_waypoints: bool,
     steps: bool,
+    /// `continue_straight=true`
+    straight: bool,
     roundtrip: bool,
     /// `source=first` and `destination=last`.
     from_first: bool,
@@ -1624,6 +1767,7 @@ fn request(target: &str) -> Result<Request, Refusal> {
         destinations: (0..coordinates.len()).collect(),
         skip_waypoints: false,
         steps: false,
+        straight: false,
         roundtrip: true,
         from_first: false,
         to_last: false,
@@ -1715,6 +1859,7 @@ fn set_option(request: &mut Request, name: &str, value: &str, count: usize) -> b
         (_, "radiuses") => return wished(request, &set_radius),
         (_, "bearings") => return wished(request, &set_bearing),
         ("route" | "trip", "steps") if ["true", "false"].contains(&value) => request.steps = value == "true",
+        ("route", "continue_straight") if ["default", "true", "false"].contains(&value) => request.straight = value == "true",
         ("nearest", "number") if digits(value) && value.bytes().any(|byte| byte != b'0') => request.number = value.parse().unwrap_or(0),
         ("route" | "trip", "overview") if ["simplified", "full", "false"].contains(&value) => request.overview = value.to_string(),
         ("route" | "trip", "geometries") if ["polyline", "polyline6", "geojson"].contains(&value) => request.geometries = value.to_string(),

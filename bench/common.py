@@ -20,6 +20,7 @@ import shutil
 import subprocess
 import sys
 import tempfile
+import time
 
 HERE = os.path.dirname(os.path.abspath(__file__))
 CRATE = os.path.join(os.path.dirname(HERE), "crates", "road_router")
@@ -118,15 +119,11 @@ class Session:
         return reply
 
     def seconds(self):
-        """Processor seconds of the first thread, and of all of them, where those that have ended count in hundredths."""
-        spent = {}
-        for thread in os.listdir(f"{self.folder}/task"):
-            with open(f"{self.folder}/task/{thread}/schedstat", encoding="ascii") as told:
-                spent[int(thread)] = int(told.read().split()[0]) / 1e9
-        with open(f"{self.folder}/stat", encoding="ascii") as told:
-            ticks = told.read().rsplit(")", 1)[1].split()[11:13]
-        of_all = sum(map(int, ticks)) / os.sysconf("SC_CLK_TCK")
-        return spent[self.child.pid], max(sum(spent.values()), of_all)
+        """Processor seconds of the first thread, and of all of them with those that have ended."""
+        with open(f"{self.folder}/schedstat", encoding="ascii") as told:
+            first = int(told.read().split()[0]) / 1e9
+        # the clock of another process, by its number (as `clock_getcpuclockid` makes it)
+        return first, time.clock_gettime(~self.child.pid << 3 | 2)
 
     def megabytes(self):
         """What it holds now, and the peak since `forget`."""

@@ -79,11 +79,37 @@ def restriction(chance, id, ways):
     return f"r{id} " + " ".join(fields)
 
 
+def way_line(chance, id, tags, refs):
+    """A way of these tags and nodes, with its fields in any order, some of its nodes with a place of their own, sometimes deleted."""
+    chance.shuffle(tags)
+    seconds = ["name=second", "oneway=yes", "highway=motorway", "access=no", "maxspeed=3", "surface=ground", "toll=yes", "route=ferry", "junction=roundabout"]
+    tags = tags + chance.choice([[], seconds])
+    entries = ",".join(f"n{ref}" + chance.choice(["", "", "x1.5y2"]) for ref in refs)
+    fields = ["T" + ",".join(tags), "N" + entries, "uSomeone", chance.choice(["dV", "dV", "dV", "dD"])]
+    chance.shuffle(fields)
+    return f"w{id} " + " ".join(fields) + chance.choice(["", " "])
+
+
+def roundabouts(chance, id, ids):
+    """Some roundabouts through these nodes, with one-way and two-way streets that leave them or lead there, as the id of
+    each way, from this one on, its tags and its nodes."""
+    ways = []
+    for _ in range(chance.randint(0, 3)):
+        ring = chance.sample(ids, chance.randint(3, 6))
+        kind = "junction=" + chance.choice(["roundabout", "roundabout", "roundabout", "roundabou%74%", "circular"])
+        ways.append((["highway=residential", kind, chance.choice(["name=Ring", "oneway=no", "oneway=-1", "ref=1"])], ring + ring[:1]))
+        for node in ring:
+            for _ in range(chance.choice([0, 1, 1, 2])):
+                tags = ["highway=" + chance.choice(["residential", "service"]), "oneway=" + chance.choice(["yes", "-1", "no"])]
+                ways.append((tags, [node, *chance.sample(ids, chance.randint(1, 2))]))
+    return [(id + number, tags, refs) for number, (tags, refs) in enumerate(ways)]
+
+
 def tangle(seed, target):
     """Writes a small map that is hard to get right, and gives the locations of its nodes: ways by odd ids,
-    dead ends, loops, one-way streets of all forms, nodes that are missing, deleted, repeated or have no
-    location, closed nodes, signals, ways without access, limits of speed, surfaces and tags that make classes of ways,
-    restrictions of all kinds with and without faults,
+    dead ends, loops, one-way streets of all forms, roundabouts with streets that leave them or lead there, nodes that are
+    missing, deleted, repeated or have no location, closed nodes, signals, ways without access, limits of speed, surfaces
+    and tags that make classes of ways, restrictions of all kinds with and without faults,
     names that JSON escapes, escapes of OPL, fields in any order."""
     chance = random.Random(seed)
     middle = chance.choice([(0, 0), (13, 53.5), (-70.5, -33.25), (179.995, 0), (20, 89.99), (0, -89.995)])
@@ -114,16 +140,13 @@ def tangle(seed, target):
         if chance.random() < 0.3:
             tags.append(chance.choice(["access", "vehicle", "motorcar", "%61%ccess"]) + "=" + chance.choice(["no", "yes", "private", ""]))
         tags += [f"{key}={chance.choice(values)}" for key, values in READ_BY_SECOND.items() if chance.random() < 0.3]
-        chance.shuffle(tags)
-        seconds = ["name=second", "oneway=yes", "highway=motorway", "access=no", "maxspeed=3", "surface=ground", "toll=yes", "route=ferry"]
-        tags += chance.choice([[], seconds])
         refs = [chance.choice(ids + [777]) for _ in range(chance.choice([0, 1, 2, 2, 3, 4, 6]))]
         refs = [ref for ref in refs for _ in range(1 if chance.random() < 0.9 else 2)]
         ways[id] = refs
-        entries = ",".join(f"n{ref}" + chance.choice(["", "", "x1.5y2"]) for ref in refs)
-        fields = ["T" + ",".join(tags), "N" + entries, "uSomeone", chance.choice(["dV", "dV", "dV", "dD"])]
-        chance.shuffle(fields)
-        lines.append(f"w{id} " + " ".join(fields) + chance.choice(["", " "]))
+        lines.append(way_line(chance, id, tags, refs))
+    for id, tags, refs in roundabouts(chance, 90, ids):
+        ways[id] = refs
+        lines.append(way_line(chance, id, tags, refs))
     lines += [restriction(chance, id, ways) for id in range(30)]
     with open(target, "w", encoding="utf-8", newline="\n") as out:
         out.write("".join(line + chance.choice(["\n", "\n", "\r\n"]) for line in lines))
@@ -138,13 +161,13 @@ def random_routes(points, count, seed):
 
 
 def long_routes(points, count, seed):
-    """Routes through 3 to 12 places, not far from one another."""
+    """Routes through 3 to 12 places, not far from one another, half of them as one walk."""
     chance = random.Random(seed)
     lines = []
     for _ in range(count):
         middle = chance.choice(points)
         places = [near(chance, middle, 0.01) for _ in range(chance.randint(3, 12))]
-        lines.append(FRONT + ";".join(places) + BACK)
+        lines.append(FRONT + ";".join(places) + BACK + chance.choice(["", "&continue_straight=true"]))
     return lines
 
 
@@ -203,6 +226,8 @@ REFUSED = [f"GET {target}" for target in (
     "/trip/v1/car/0,0;0,0?destination=first", "/trip/v1/car/0,0;0,0?roundtrip=", "/trip/v1/car/0,0;0,0?alternatives=false",
     "/trip/v1/car/0,0;0,0?source=first&source=any", "/trip/v1/car/" + ";".join(["0,0"] * 9), "/trip/v1/car/" + ";".join(["0,0"] * 10),
     "/trip/v1/car/" + ";".join(["0,0"] * 9) + ";0,91", "/route/v1/car/0,0;0,0?source=any", "/table/v1/car/0,0;0,0?destination=last",
+    "/route/v1/car/0,0;0,0?continue_straight=yes", "/route/v1/car/0,0;0,0?continue_straight=", "/trip/v1/car/0,0;0,0?continue_straight=true",
+    "/table/v1/car/0,0?continue_straight=default", "/nearest/v1/car/0,0?continue_straight=false", "/route/v1/car/0,0;0,0?continue_straight=true&continue_straight=default",
 )] + ["GET\t/route/v1/car/0,0;0,0?overview=false", "get /route", "POST /", "GET /" + "a" * 8187, "GET /" + "a" * 8188]
 
 

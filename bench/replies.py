@@ -4,28 +4,34 @@
     bench/replies.py [--traffic SPEEDS,TURNS] [--tangles N] [--roads 1000,..] [--only-compare] [SETTINGS [OPL ..]]
 
 On each map random places are asked for: `nearest` with one and with ten results, tables of 100 by 100, routes without
-a line, with a simplified line, with a full one and all annotations, and with steps, trips through nine places without
-a line and with all, and one route of 500 places that goes to and fro between two far ones, without a line and with a
-simplified one. Then come long roads, of so many
-segments (1000,2000,5000,10000): one way, whose whole line and annotations are asked for, and a chain of ways of other
-names, whose steps are asked for. SETTINGS are those of car.toml where none are named. It needs rustc for the baseline.
+a line, with a simplified line, with a full one and all annotations, and with steps, routes through five places with
+each leg by itself and as one walk (`continue_straight=true`), trips through nine places without a line and with all, and
+one route of 500 places that goes to and fro between two far ones, without a line and with a simplified one. Then come
+long roads, of so many segments (1000,2000,5000,10000): one way, whose whole line and annotations are asked for, and a
+chain of ways of other names, whose steps are asked for. SETTINGS are those of car.toml where none are named. It needs
+rustc for the baseline.
 
-Then traffic: on each map, and on N small maps made to be hard (20), lines of TRAFFIC with drawn files, good ones in
-all forms of CSV and faulty ones, and with the files that are named, stand between requests of all services. What is
-wrong with a faulty file is known from the drawing, so both have to tell that. All this is done twice, under SETTINGS
-and under the same as version 2 with `maxspeed`, `weight_name`, surfaces, classes and sets of them that are drawn for each
-map. Of the rows of a file one in a hundred, half or all have a rate or a weight. Where
-settings have such sets, half of the requests exclude one, its names in any order and some of them doubled, or what is no
-set, and some do so twice.
+Then traffic: on each map, on N small maps made to be hard (20), and on as many small towns whose crossings are
+roundabouts, lines of TRAFFIC with drawn files, good ones in all forms of CSV and faulty ones, and with the files that
+are named, stand between requests of all services. What is wrong with a faulty file is known from the drawing, so both
+have to tell that. Two in eleven requests are for a route through two to five drawn places, some of them one from before
+again, half of these as one walk. All this is done twice, under SETTINGS and under the same as version 2 with `maxspeed`,
+`weight_name`, surfaces, classes and sets of them that are drawn for each map. Of the rows of a file one in a hundred,
+half or all have a rate or a weight. Where settings have such sets, half of the requests exclude one, its names in any
+order and some of them doubled, or what is no set, and some do so twice.
 
 Printed are processor microseconds a request of both (the start-up taken away), the ratio, the bytes of a reply, and
 how many replies were equal byte for byte. Two least walks may differ where costs are the same: such replies are
-compared without their lines, annotations and steps, and counted apart; a trip has one best order all the same. In every
-reply the steps of a leg have to cost what the leg costs, and have the same keys. The status is 1 where any other reply
-differs. With --only-compare nothing is timed.
+compared without their lines, annotations and steps, and counted apart, but where their steps tell that they are of the
+same walks after all; a trip has one best order all the same, and one
+walk through all places has one list of directions at them, since both take the first by number backwards from the end.
+In every reply the steps of a leg have to cost what the leg costs, and have the same keys; and where one walk is asked
+for and nodes are told, each leg has to begin with the two nodes with which the one before ends. The status is 1 where
+any other reply differs. With --only-compare nothing is timed.
 """
 import argparse
 import json
+import math
 import os
 import random
 import re
@@ -62,6 +68,13 @@ def step_keys(reply):
     return {tuple(step) for step in steps}
 
 
+def same_walks(one, other):
+    """Whether two replies tell by their steps that they are of the same walks: of each leg the same is met, node by node."""
+    met = [[[it for step in leg["steps"] for it in step["intersections"]] for route in routes_of(json.loads(reply)) for leg in route["legs"]]
+           for reply in (one, other)]
+    return met[0] == met[1] and all(met[0])
+
+
 def steps_add_up(reply):
     """Whether the steps of each leg cost together what the leg does, and begin where the one before ends."""
     for leg in (leg for route in routes_of(json.loads(reply)) for leg in route["legs"] if leg["steps"]):
@@ -74,15 +87,28 @@ def steps_add_up(reply):
     return True
 
 
-def compare(ours, theirs):
+def goes_on(line, reply):
+    """Whether each leg of a reply begins with the nodes of the vertex on which the one before ends, where the line asks
+    for one walk through all places and for nodes."""
+    if "continue_straight=true" in line:
+        for route in routes_of(json.loads(reply)):
+            nodes = [leg["annotation"]["nodes"] for leg in route["legs"] if "nodes" in leg.get("annotation", {})]
+            if any(one[-2:] != other[:2] for one, other in zip(nodes, nodes[1:])):
+                return False
+    return True
+
+
+def compare(lines, ours, theirs):
     """How many replies are equal, how many differ in the walk alone, and the first that differs otherwise."""
     equal = ties = 0
-    for mine, other in zip(ours, theirs):
+    for line, mine, other in zip(lines, ours, theirs):
         if not steps_add_up(mine):
             return equal, ties, (mine, "steps that don't add up")
+        if not goes_on(line, mine):
+            return equal, ties, (mine, "a leg that turns round at its place")
         if mine == other:
             equal += 1
-        elif without_walks(mine) == without_walks(other) and step_keys(mine) == step_keys(other):
+        elif without_walks(mine) == without_walks(other) and step_keys(mine) == step_keys(other) and not same_walks(mine, other):
             ties += 1
         else:
             return equal, ties, (mine, other)
@@ -95,7 +121,7 @@ def measure(name, runs, start, lines, repeats=3):
         tries = [asked(words, lines) for _ in range(repeats)]
         spent.append((min(least for least, _ in tries) - began) / len(lines))
         replies.append(tries[0][1])
-    equal, ties, wrong = compare(*replies)
+    equal, ties, wrong = compare(lines, *replies)
     size = sum(map(len, replies[0])) / len(lines)
     ratio = spent[0] / spent[1] if spent[1] > 0 else float("nan")
     print(f"{name}: {spent[0] * 1e6:.0f} us, {spent[1] * 1e6:.0f} us, ratio {ratio:.2f}; {size:.0f} bytes; {equal} equal, {ties} of another walk at the same cost")
@@ -129,6 +155,7 @@ def on_map(runs, opl):
     near = [place() for _ in range(500)]
     tables = [";".join(place() for _ in range(100)) for _ in range(2)]
     nines = [";".join(place() for _ in range(9)) for _ in range(40)]
+    fives = [";".join(place() for _ in range(5)) for _ in range(40)]
     kinds = [
         ("nearest, one", [f"GET /nearest/v1/car/{at}" for at in near]),
         ("nearest, ten", [f"GET /nearest/v1/car/{at}?number=10" for at in near]),
@@ -139,6 +166,8 @@ def on_map(runs, opl):
         ("route with steps", [f"GET /route/v1/car/{pair}?overview=false&steps=true" for pair in pairs]),
         ("the same in polyline6", [f"GET /route/v1/car/{pair}?overview=false&steps=true&geometries=polyline6" for pair in pairs]),
         ("route with all and steps", [f"GET /route/v1/car/{pair}?overview=full&geometries=geojson&annotations=true&steps=true" for pair in pairs]),
+        ("route through five places", [f"GET /route/v1/car/{five}?overview=false" for five in fives]),
+        ("the same as one walk", [f"GET /route/v1/car/{five}?overview=false&continue_straight=true" for five in fives]),
         ("trip through nine places", [f"GET /trip/v1/car/{nine}?overview=false" for nine in nines]),
         ("trip with all", [f"GET /trip/v1/car/{nine}?overview=full&geometries=geojson&annotations=true&steps=true" for nine in nines]),
     ]
@@ -257,6 +286,15 @@ def trip(chance, place, told):
 TRIP_OPTIONS = (("roundtrip", ("true", "false", "false")), ("source", ("any", "first")), ("destination", ("any", "last")))
 
 
+def route(chance, place, told):
+    """A route through two to five random places, some of them one from before again, under any `continue_straight`."""
+    places = [place(), place()]
+    for _ in range(chance.choice([0, 0, 1, 2, 3])):
+        places.append(chance.choice(places) if chance.random() < 0.3 else place())
+    straight = chance.choice(["", "", "&continue_straight=false", "&continue_straight=default", *4 * ["&continue_straight=true"]])
+    return f"/route/v1/car/{';'.join(places)}?{told}{straight}"
+
+
 def requests(chance, place, count, excludable):
     """Requests of all services at random places, with what depends on a metric asked for."""
     lines = []
@@ -268,7 +306,8 @@ def requests(chance, place, count, excludable):
         bearing = f"{chance.randrange(361)},{chance.choice([0, 10, 45, 90, 180])}"
         lines.append("GET " + chance.choice([
             f"/route/v1/car/{a};{b}?{line}&geometries={form}{told}",
-            f"/route/v1/car/{a};{b}?{line}&geometries={form}{told}",
+            route(chance, place, f"{line}&geometries={form}{told}"),
+            route(chance, place, f"{line}&geometries={form}{told}"),
             f"/route/v1/car/{a};{b};{a};{c}?{line}&geometries={form}{told}",
             f"/route/v1/car/{a};{a}?{line}&geometries={form}{told}",
             f"/route/v1/car/{a};{b}?{line}{told}&bearings={bearing};&since={chance.randrange(6)}",
@@ -323,7 +362,7 @@ def on_traffic(name, programs, opl, settings, place, rows, each, seed, named=())
             known[len(lines)] = told
             lines += [line, *requests(chance, place, each, excludable)]
         replies = [asked(words, lines)[1] for words in runs]
-        equal, ties, wrong = compare(*replies)
+        equal, ties, wrong = compare(lines, *replies)
         for at, told in known.items():
             if not re.fullmatch(told.decode(), replies[0][at]):
                 wrong = wrong or (replies[0][at], told.decode())
@@ -340,6 +379,41 @@ def on_traffic(name, programs, opl, settings, place, rows, each, seed, named=())
     return wrong is None
 
 
+def ring_ways(chance, ring):
+    """A ring of nodes as one way or two, of which the second may be none of the roundabout: one-way either way round, or
+    two-way."""
+    cut = chance.choice([len(ring), len(ring), chance.randint(1, len(ring) - 1)])
+    side = chance.choice(["oneway=yes", "", "oneway=-1", "oneway=no"])
+    nodes, rest = ring + ring[:1], chance.choice(["junction=roundabout", "", "name=Ring"])
+    return [(["junction=roundabout", side], nodes[:cut + 1]), ([rest, side], nodes[cut:])]
+
+
+def ring_town(seed, opl):
+    """Writes a town whose crossings are roundabouts, and gives the locations of its nodes: 3 by 3 rings of 3 to 8 nodes,
+    streets from ring to ring, and some that lead from a ring to a dead end or back to it, one-way and two-way ones."""
+    chance, points, ways, rings = random.Random(seed), [], [], []
+    for number in range(9):
+        lon, lat, size = 13 + number // 3 * 0.004, 53.5 + number % 3 * 0.003, chance.randint(3, 8)
+        for at in range(size):
+            angle = 2 * math.pi * (at + chance.random() * 0.6) / size
+            points.append((lon + 0.0006 * math.cos(angle), lat + 0.0004 * math.sin(angle)))
+        rings.append(list(range(len(points) - size + 1, len(points) + 1)))
+        ways += ring_ways(chance, rings[-1])
+    street = lambda nodes: ways.append(([chance.choice(["", "", "oneway=yes", "oneway=-1"]), chance.choice(["name=A", "name=B", ""])], nodes))
+    for one, other in [(number, number + 1) for number in range(9) if number % 3 < 2] + [(number, number + 3) for number in range(6)]:
+        street([chance.choice(rings[one]), chance.choice(rings[other])])
+    for ring in rings:
+        lon, lat = points[ring[0] - 1]
+        points.append((lon + 0.001, lat + 0.0005))
+        street([chance.choice(ring), len(points), *chance.sample(ring, chance.randint(0, 1))])
+    with open(opl, "w", encoding="ascii") as out:
+        out.writelines(f"n{number} x{lon:.7f} y{lat:.7f}\n" for number, (lon, lat) in enumerate(points, 1))
+        for id, (tags, nodes) in enumerate(ways, 1):
+            told = ",".join(filter(None, ["highway=residential", *tags]))
+            out.write(f"w{id} T{told} N{','.join(f'n{node}' for node in nodes)}\n")
+    return points
+
+
 def near_nodes(chance, points):
     def place():
         lon, lat = chance.choice(points)
@@ -348,13 +422,14 @@ def near_nodes(chance, points):
     return place
 
 
-def on_tangles(programs, settings, count, folder):
-    fine, opl = [], os.path.join(folder, "tangle.opl")
+def on_small_maps(name, draw, programs, settings, count, folder):
+    """Compares replies on so many small maps that this draws."""
+    fine, opl = [], os.path.join(folder, "small.opl")
     for seed in range(count):
-        points = tangle(seed, opl)
+        points = draw(seed, opl)
         for version, own in both_versions(random.Random(seed), settings, folder):
             place = near_nodes(random.Random(seed), points)
-            fine.append(on_traffic(f"tangle {seed}{version}", programs, opl, own, place, 40, 8, seed))
+            fine.append(on_traffic(f"{name} {seed}{version}", programs, opl, own, place, 40, 8, seed))
     return fine
 
 
@@ -389,7 +464,8 @@ def main():
             print("== roads")
             fine += on_roads(programs, settings, map(int, given.roads.split(",")), folder)
         print("== small maps made to be hard")
-        fine += on_tangles(programs, settings, given.tangles, folder)
+        fine += on_small_maps("tangle", tangle, programs, settings, given.tangles, folder)
+        fine += on_small_maps("roundabouts", ring_town, programs, settings, given.tangles, folder)
     sys.exit(0 if all(fine) else 1)
 
 
