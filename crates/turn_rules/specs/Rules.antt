@@ -1,6 +1,6 @@
 -- What the turn restrictions of a map forbid (wiki.openstreetmap.org/wiki/Relation:restriction; which of
 -- them are faulty, and what becomes of those, is this project's rule).
-use Rattle.std.specs.Prelude.{ℕ, ℤ, ◌-◌, Bool, true, false, not, ◌&&◌, ◌||◌, ◌==◌, List, [], ◌∷◌, length, map, filter, take, drop, count_by, codes, bytes_eq, Option, Some, None, is_none, if◌then◌else◌}
+use Rattle.std.specs.Prelude.{ℕ, ℤ, ◌-◌, ◌≤◌, nat_le, Bool, true, false, not, ◌&&◌, ◌||◌, ◌==◌, List, [], ◌∷◌, length, map, filter, take, drop, count_by, codes, bytes_eq, Option, Some, None, is_none, if◌then◌else◌}
 use Rattle.std.specs.List.{filter_map, list_all, list_any, prefix_len, slice_split, suffix_len}
 use Rattle.std.specs.Option.{option_and_then, option_map_or}
 use Rattle.std.specs.Ordering.{int_eq}
@@ -15,12 +15,28 @@ use Rattle.road_base.specs.declared.osm_objects.Relation.{Relation}
 use Rattle.turn_rules.specs.declared.senses.Sense.{Sense}
 use Rattle.turn_rules.specs.declared.senses.Sense.TheVariants as senses
 
--- what one restriction says of the turns at its `via` node from its `from` ways
+-- what one restriction over a `via` node says of the turns there from its `from` ways
 pub record Rule : Type 0 where
   pub via : ℤ
   pub from : List ℤ
   pub to : List ℤ
   pub sense : Sense
+
+-- what one restriction over via ways says: who comes from one way along others, in their order, may not go on onto
+-- another way (`only` false), or onto no other way (`only` true)
+pub record ViaRule : Type 0 where
+  pub from : ℤ
+  pub via : List ℤ
+  pub to : ℤ
+  pub only : Bool
+
+-- one to four
+abbrev pub AreFew : List ℤ → Type 0
+AreFew ids = (1 ≤ length ids) × (length ids ≤ 4)
+
+-- the rule goes along one to four ways
+abbrev pub HasVias : ViaRule → Type 0
+HasVias rule = AreFew rule.via
 
 -- the way is one of these
 abbrev pub is_among : List ℤ → ℤ → Bool
@@ -82,6 +98,15 @@ only_words = codes "only_left_turn" ∷ codes "only_right_turn" ∷ codes "only_
 abbrev pub is_word_of : List (List ℕ) → List ℕ → Bool
 is_word_of words value = list_any (λ word. bytes_eq value word) words
 
+-- and those by which going on onto the `to` way is, where there are via ways
+abbrev pub no_turn_words : List (List ℕ)
+no_turn_words =
+    codes "no_left_turn"
+    ∷ codes "no_right_turn"
+    ∷ codes "no_straight_on"
+    ∷ codes "no_u_turn"
+    ∷ []
+
 -- the sense of a value of `restriction`, None where it is none of the nine
 abbrev pub sense_of : List ℕ → Option Sense
 sense_of value =
@@ -90,24 +115,26 @@ sense_of value =
     else if is_word_of only_words value then Some senses.Only
     else None
 
-abbrev pub is_node : Kind → Bool
-is_node kinds.Node = true
-is_node kinds.Way = false
-is_node kinds.Relation = false
+-- of the values by which a restriction over via ways may stand, whether all other ways than the `to` way are
+-- forbidden; None for any other value
+abbrev pub only_of : List ℕ → Option Bool
+only_of value = if is_word_of no_turn_words value then Some false else if is_word_of only_words value then Some true else None
 
-abbrev pub is_way : Kind → Bool
-is_way kinds.Node = false
-is_way kinds.Way = true
-is_way kinds.Relation = false
+-- the two kinds are one
+abbrev pub is_kind : Kind → Kind → Bool
+is_kind kinds.Node kinds.Node = true
+is_kind kinds.Way kinds.Way = true
+is_kind kinds.Relation kinds.Relation = true
+is_kind _ _ = false
 
 -- the members in a role, of whatever kind
 abbrev pub members_as : List ℕ → List Member → List Member
 members_as role members = filter (λ m. bytes_eq m.role role) members
 
--- the id of the one node that these members are, None where they are anything else
-abbrev pub via_in : List Member → Option ℤ
-via_in (m ∷ []) = if is_node m.kind then Some m.id else None
-via_in _ = None
+-- the id of the one object of a kind that these members are, None where they are anything else
+abbrev pub one_in : Kind → List Member → Option ℤ
+one_in kind (m ∷ []) = if is_kind kind m.kind then Some m.id else None
+one_in _ _ = None
 
 -- there is one, or more where there may be several
 abbrev pub is_number : Bool → ℕ → Bool
@@ -117,11 +144,19 @@ is_number several n = n == 1 || (several && not (n == 0))
 -- they are anything else
 abbrev pub ways_in : Bool → List Member → Option (List ℤ)
 ways_in several members =
-    if is_number several (length members) && list_all (λ m. is_way m.kind) members then Some (map (λ m. m.id) members) else None
+    if is_number several (length members) && list_all (λ m. is_kind kinds.Way m.kind) members then Some (map (λ m. m.id) members) else None
+
+-- the ids, if there are at most four
+abbrev pub up_to_four : List ℤ → Option (List ℤ)
+up_to_four ids = if nat_le (length ids) 4 then Some ids else None
+
+-- the ids of the one to four ways that these members are, None where they are anything else
+abbrev pub vias_in : List Member → Option (List ℤ)
+vias_in members = option_and_then up_to_four (ways_in true members)
 
 -- the rule of these parts, if none is missing
-abbrev pub rule_with : Option Sense → Option ℤ → Option (List ℤ) → Option (List ℤ) → Option Rule
-rule_with (Some sense) (Some via) (Some from) (Some to) = Some (record { via = via; from = from; to = to; sense = sense })
+abbrev pub rule_with : Option ℤ → Option Sense → Option (List ℤ) → Option (List ℤ) → Option Rule
+rule_with (Some via) (Some sense) (Some from) (Some to) = Some (record { via = via; from = from; to = to; sense = sense })
 rule_with _ _ _ _ = None
 
 -- the rule of these members under a value of `restriction`: from one way over one node to one way, but
@@ -129,18 +164,42 @@ rule_with _ _ _ _ = None
 abbrev pub rule_under : List Member → List ℕ → Option Rule
 rule_under members value =
     rule_with
+    (one_in kinds.Node (members_as (codes "via") members))
     (sense_of value)
-    (via_in (members_as (codes "via") members))
     (ways_in (bytes_eq value (codes "no_entry")) (members_as (codes "from") members))
     (ways_in (bytes_eq value (codes "no_exit")) (members_as (codes "to") members))
 
--- the rule that a restriction is, None where it is faulty
+-- the rule at a node that a restriction is, None where it is none
 abbrev pub rule_of : Relation → Option Rule
 rule_of relation = option_and_then (rule_under relation.members) (value_of relation.tags (codes "restriction"))
 
--- the rules that are kept, and how many restrictions are ignored, since they are faulty
+-- the rule over via ways of these parts, if none is missing
+abbrev pub via_rule_with : Option Bool → Option ℤ → Option (List ℤ) → Option ℤ → Option ViaRule
+via_rule_with (Some only) (Some from) (Some via) (Some to) = Some (record { from = from; via = via; to = to; only = only })
+via_rule_with _ _ _ _ = None
+
+-- the rule over via ways of these members under a value of `restriction`: from one way along one to four ways
+-- to one way; neither `no_entry` nor `no_exit` may stand so
+abbrev pub via_rule_under : List Member → List ℕ → Option ViaRule
+via_rule_under members value =
+    via_rule_with
+    (only_of value)
+    (one_in kinds.Way (members_as (codes "from") members))
+    (vias_in (members_as (codes "via") members))
+    (one_in kinds.Way (members_as (codes "to") members))
+
+-- the rule over via ways that a restriction is, None where it is a rule at a node or faulty
+abbrev pub via_rule_of : Relation → Option ViaRule
+via_rule_of relation = option_and_then (via_rule_under relation.members) (value_of relation.tags (codes "restriction"))
+
+-- the restriction is neither
+abbrev pub is_faulty : Relation → Bool
+is_faulty relation = is_none (rule_of relation) && is_none (via_rule_of relation)
+
+-- the rules at nodes and those over via ways that are kept, and how many restrictions are ignored, since they are faulty
 pub record RulesView : Type 0 where
   pub kept : List Rule
+  pub along : List ViaRule
   pub ignored : ℕ
 
 -- the restriction that an object is, if the vehicle has to obey it
@@ -153,4 +212,4 @@ restriction_in vehicle (object.Relation r) = if is_restriction r && not (is_exce
 abbrev pub rules_of : List Object → List ℕ → RulesView
 rules_of objects vehicle =
     let restrictions = filter_map (restriction_in vehicle) objects in
-    record { kept = filter_map rule_of restrictions; ignored = count_by (λ r. is_none (rule_of r)) restrictions }
+    record { kept = filter_map rule_of restrictions; along = filter_map via_rule_of restrictions; ignored = count_by is_faulty restrictions }

@@ -1,25 +1,46 @@
 //! The members of a turn restriction.
 
-ghost use Rattle.std.specs.Prelude.{◌≡◌, IfOk, bytes_eq, codes};
-ghost use Rattle.turn_rules.specs.Rules.{is_node, is_number, is_way, members_as, via_in, ways_in};
+ghost use Rattle.std.specs.Prelude.{◌≡◌, IfOk, codes};
+ghost use Rattle.turn_rules.specs.Rules.{is_kind, is_number, members_as, one_in, up_to_four, vias_in, ways_in};
 
 use road_base::{Ids, Kind, Member};
 use std::alloc::{AllocError, Global};
 
-// The id of the one node in the role `via`, or None where anything else is in it.
-pub(crate) fn via_of(members: &[Member]) -> Option<i64>
-    ensures { result ≡ via_in (members_as (codes "via") members.now) }
+// The id of the one object of a kind in a role, or None where anything else is in it.
+pub(crate) fn one_as(members: &[Member], role: &str, kind: Kind) -> Option<i64>
+    ensures { result ≡ one_in kind (members_as role.now members.now) }
 {
-    let mut via = None;
+    let mut one = None;
     for member in members {
-        if member.role.as_str() == "via" {
-            if via.is_some() || !is_node(member.kind) {
+        if member.role.as_str() == role {
+            if one.is_some() || !is_kind(kind, member.kind) {
                 return None;
             }
-            via = Some(member.id);
+            one = Some(member.id);
         }
     }
-    via
+    one
+}
+
+// The ids of the one to four ways in the role `via`, in their order; None where anything else is in it.
+pub(crate) fn vias_of(alloc: Global, members: &[Member]) -> Result<Option<Ids>, AllocError>
+    ensures { IfOk result (λ vias. vias ≡ vias_in (members_as (codes "via") members.now)) }
+{
+    match ways_as(alloc, members, "via", true)? {
+        Some(ways) => Ok(up_to_four(ways)),
+        None => Ok(None),
+    }
+}
+
+// The ids, if there are at most four.
+fn up_to_four(ids: Ids) -> Option<Ids>
+    ensures { result ≡ up_to_four ids }
+{
+    if ids.as_slice().len() <= 4 {
+        Some(ids)
+    } else {
+        None
+    }
 }
 
 // The ids of the one way in a role, or of several where there may be; None where anything else is in it.
@@ -34,7 +55,7 @@ pub(crate) fn ways_as(
     let mut ways = Vec::new(alloc);
     for member in members {
         if member.role.as_str() == role {
-            if !is_way(member.kind) {
+            if !is_kind(Kind::Way, member.kind) {
                 return Ok(None);
             }
             ways.push(member.id)?;
@@ -54,20 +75,8 @@ fn is_number(several: bool, count: usize) -> bool
     count == 1 || (several && count != 0)
 }
 
-fn is_node(kind: Kind) -> bool
-    ensures { result ≡ is_node kind }
+fn is_kind(kind: Kind, other: Kind) -> bool
+    ensures { result ≡ is_kind kind other }
 {
-    match kind {
-        Kind::Node => true,
-        Kind::Way | Kind::Relation => false,
-    }
-}
-
-fn is_way(kind: Kind) -> bool
-    ensures { result ≡ is_way kind }
-{
-    match kind {
-        Kind::Way => true,
-        Kind::Node | Kind::Relation => false,
-    }
+    kind == other
 }

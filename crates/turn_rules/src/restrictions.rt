@@ -1,15 +1,15 @@
-//! One turn restriction.
+//! One turn restriction over a node.
 
-ghost use Rattle.std.specs.Prelude.{◌≡◌, ◌++◌, IfOk};
+ghost use Rattle.std.specs.Prelude.{◌≡◌, ◌++◌, IfOk, Some};
 ghost use Rattle.turn_rules.specs.Rules.{forbids, rule_of, rule_under, rule_with};
 
-use crate::members::{via_of, ways_as};
+use crate::members::{one_as, ways_as};
 use crate::senses::{Sense, sense_of};
-use road_base::{Ids, Member, Relation};
+use road_base::{Ids, Kind, Member, Relation};
 use std::alloc::{AllocError, Global};
 use std::marker::Model;
 
-/// A turn restriction: 48 bytes, and 8 for each way. Contracts see the rule.
+/// A turn restriction over a node: 48 bytes, and 8 for each way. Contracts see the rule.
 #[derive(Debug)]
 pub struct Restriction {
     via: i64,
@@ -42,7 +42,7 @@ impl Model for Restriction {
     ghost invariant = { λ r. r.entries ≤ length r.ways };
 }
 
-// The restriction of these members under a value of `restriction`.
+// The restriction over a node of these members under a value of `restriction`.
 fn restriction_under(
     alloc: Global,
     members: &[Member],
@@ -50,22 +50,25 @@ fn restriction_under(
 ) -> Result<Option<Restriction>, AllocError>
     ensures { IfOk result (λ restriction. restriction ≡ rule_under members.now value.now) }
 {
+    let Some(via) = one_as(members, "via", Kind::Node) else {
+        return Ok(None);
+    };
     let from = ways_as(alloc, members, "from", value == "no_entry")?;
     let to = ways_as(alloc, members, "to", value == "no_exit")?;
-    restriction_with(sense_of(value), via_of(members), from, to)
+    restriction_with(via, sense_of(value), from, to)
 }
 
 // The restriction of these parts, or None where one is missing.
 fn restriction_with(
+    via: i64,
     sense: Option<Sense>,
-    via: Option<i64>,
     from: Option<Ids>,
     to: Option<Ids>,
 ) -> Result<Option<Restriction>, AllocError>
-    ensures { IfOk result (λ restriction. restriction ≡ rule_with sense via from to) }
+    ensures { IfOk result (λ restriction. restriction ≡ rule_with (Some via) sense from to) }
 {
-    match (sense, via, from, to) {
-        (Some(sense), Some(via), Some(from), Some(to)) => {
+    match (sense, from, to) {
+        (Some(sense), Some(from), Some(to)) => {
             Ok(Some(Restriction::between(sense, via, from, to)?))
         }
         _ => Ok(None),
@@ -73,7 +76,7 @@ fn restriction_with(
 }
 
 impl Restriction {
-    /// The restriction that a relation is, or None where its value or its members are faulty.
+    /// The restriction over a node that a relation is, or None where its value or its members are those of none.
     pub fn of(alloc: Global, relation: &Relation) -> Result<Option<Restriction>, AllocError>
         ensures { IfOk result (λ restriction. restriction ≡ rule_of relation.now) }
     {

@@ -1,18 +1,20 @@
 //! The turn restrictions that a vehicle has to obey.
 
-ghost use Rattle.std.specs.Prelude.{◌≡◌, ◌<◌, ◌++◌, Some, length, option_map};
+ghost use Rattle.std.specs.Prelude.{◌≡◌, ◌<◌, ◌++◌, All, Some, length, option_map};
 ghost use Rattle.std.specs.List.{slice_get};
-ghost use Rattle.turn_rules.specs.Rules.{forbids};
+ghost use Rattle.turn_rules.specs.Rules.{HasVias, forbids};
 
 use crate::restrictions::Restriction;
 use crate::senses::Sense;
+use crate::via_restrictions::ViaRestriction;
 use std::marker::Model;
 
-/// The turn restrictions of a map that one vehicle has to obey, and how many others are ignored. Contracts
-/// see the rules and that number.
+/// The turn restrictions of a map that one vehicle has to obey, those over nodes and those over via ways, and how
+/// many others are ignored. Contracts see the rules and that number.
 #[derive(Debug)]
 pub struct Rules {
     kept: Vec<Restriction>,
+    along: Vec<ViaRestriction>,
     ignored: u64,
 }
 
@@ -20,28 +22,37 @@ impl Drop for Rules {
     fn drop(self) {
         let Rules {
             kept: _kept,
+            along: _along,
             ignored: _ignored,
         } = self;
     }
 }
 
 impl Model for Rules {
-    ghost use Rattle.turn_rules.specs.Rules.{RulesView};
+    ghost use Rattle.std.specs.Prelude.{All};
+    ghost use Rattle.turn_rules.specs.Rules.{HasVias, RulesView};
 
     ghost Value = { RulesView };
 
-    ghost view = { λ r. record { kept = r.kept.items; ignored = r.ignored } };
+    ghost view = { λ r. record { kept = r.kept.items; along = r.along.items; ignored = r.ignored } };
+
+    ghost invariant = { λ r. All HasVias r.along.items };
 }
 
 impl Rules {
     // The list of these.
-    pub(crate) fn of(kept: Vec<Restriction>, ignored: u64) -> Rules
-        ensures { result ≡ record { kept = kept.items; ignored = ignored } }
+    pub(crate) fn of(kept: Vec<Restriction>, along: Vec<ViaRestriction>, ignored: u64) -> Rules
+        requires { All HasVias along.items }
+        ensures { result ≡ record { kept = kept.items; along = along.items; ignored = ignored } }
     {
-        Rules { kept, ignored }
+        Rules {
+            kept,
+            along,
+            ignored,
+        }
     }
 
-    /// How many restrictions there are. They are numbered from 0 in the order of the objects.
+    /// How many restrictions over nodes there are. They are numbered from 0 in the order of the objects.
     pub fn count(&self) -> u64
         ensures { result ≡ length self.now.kept }
     {
@@ -97,6 +108,14 @@ impl Rules {
         ensures { option_map (λ rule. forbids rule from to back) (slice_get self.now.kept i) ≡ Some result }
     {
         self.kept[i as usize].forbids(from, to, back)
+    }
+
+    /// The restrictions over via ways, in the order of the objects. Each has one to four via ways.
+    pub fn along(&self) -> &[ViaRestriction]
+        ensures value { result.now ≡ self.now.along }
+        ensures vias { All HasVias result.now }
+    {
+        &self.along
     }
 
     /// How many restrictions are ignored, since their value or their members are faulty.

@@ -1,7 +1,7 @@
 //! The sense of a turn restriction.
 
 ghost use Rattle.std.specs.Prelude.{◌≡◌};
-ghost use Rattle.turn_rules.specs.Rules.{sense_of};
+ghost use Rattle.turn_rules.specs.Rules.{only_of, sense_of};
 
 /// What a turn restriction does with the turns from its `from` ways.
 #[derive(Clone, Copy, Debug, PartialEq, Eq)]
@@ -24,6 +24,18 @@ pub(crate) fn sense_of(value: &str) -> Option<Sense>
         }
         "no_u_turn" => Some(Sense::NoUTurn),
         "only_left_turn" | "only_right_turn" | "only_straight_on" => Some(Sense::Only),
+        _ => None,
+    }
+}
+
+// Whether a value of `restriction` forbids all other ways than the `to` way where there are via ways, or None
+// where it may not stand there.
+pub(crate) fn only_of(value: &str) -> Option<bool>
+    ensures { result ≡ only_of value.now }
+{
+    match value {
+        "no_left_turn" | "no_right_turn" | "no_straight_on" | "no_u_turn" => Some(false),
+        "only_left_turn" | "only_right_turn" | "only_straight_on" => Some(true),
         _ => None,
     }
 }
