@@ -1,17 +1,16 @@
 -- All layers, one behind the other: each holds the proper prefixes of its length, and no word comes twice.
-use Rattle.std.proofs.Common.{◌≡◌, ℕ, zero, suc, ◌+◌, ◌<◌, ◌≤◌, ◌⊎◌, inl, inr, max, Bool, true, false, cond, List, [], ◌∷◌, ◌++◌, Vec, Some, map, take, drop, length, get_or, All, arith, refl, sym, ◌∙◌, ap, subst, add-one, length-append}
-use Rattle.std.specs.Global.{Global}
+use Rattle.std.proofs.Common.{◌≡◌, ℕ, zero, suc, ◌+◌, ◌<◌, ◌≤◌, ◌⊎◌, inl, inr, max, Bool, true, false, cond, List, [], ◌∷◌, ◌++◌, Some, map, take, drop, length, get_or, All, arith, refl, sym, ◌∙◌, ap, subst, add-one, length-append}
 use Rattle.std.specs.List.{slice_get, Contains}
 use Rattle.std.specs.Option.{option_map}
 use Rattle.std.proofs.lemmas.Bool.{cases_lt}
-use Rattle.std.proofs.lemmas.List.{length-map, map_push, take-append-drop, drop_more, length-take-le, take_at}
-use Rattle.std.proofs.lemmas.List.Elements.{All-map, All-push}
-use Rattle.std.proofs.lemmas.Option.{slice_get-map, slice_get_read}
+use Rattle.std.proofs.lemmas.List.{take-append-drop, drop_more, length-take-le, take_at}
+use Rattle.std.proofs.lemmas.List.Elements.{All-map}
+use Rattle.std.proofs.lemmas.Option.{slice_get-map}
 use Rattle.std.proofs.Math.Nat.{eq-or-lt_of_le}
 use Rattle.list_lemmas.proofs.Fronts.{take-get}
 use Rattle.list_lemmas.proofs.Gets.{All_get, Contains_get, get_push}
 use Rattle.via_paths.specs.declared.copied.Copied.{Copied}
-use Rattle.via_paths.specs.Forbidden.{IsProperPrefix, has, words_in}
+use Rattle.via_paths.specs.Forbidden.{IsProperPrefix, has}
 use Rattle.via_paths.specs.Copies.{with_new, with_prefix, layer, layers, longest, copies_of}
 use Rattle.via_paths.specs.Expansion.{AreCopies}
 use Rattle.via_paths.specs.Tries.{NextMap, IsTrie, IsLaid, first_of}
@@ -19,18 +18,6 @@ use Rattle.via_paths.proofs.Words.{has-Contains, Contains-has, Contains-cons, Co
 use Rattle.via_paths.proofs.ArcLaws.{word-ordinary}
 use Rattle.via_paths.proofs.Growing.{has-old, has-new, has-either}
 use Rattle.via_paths.proofs.Laying.{prefix-longer, prefix-shorter, layer-more}
-
--- the words of a vector among vectors
-pub word-at : (sequences : List (Vec ℕ Global)) (i : ℕ) (s : Vec ℕ Global) → i < length sequences → s ≡ get_or sequences i s → slice_get (words_in sequences) i ≡ Some s.items
-word-at sequences i s lt is =
-    slice_get-map (λ z. z.items) sequences i ∙ ap (option_map (λ z. z.items)) (slice_get_read sequences (length sequences) i s refl lt is)
-
-pub words-many : (sequences : List (Vec ℕ Global)) → length (words_in sequences) ≡ length sequences
-words-many sequences = length-map sequences (λ s. s.items)
-
--- one word more among words that are all so
-pub words-push : (P : List ℕ → Type 0) (sequences : List (Vec ℕ Global)) (s : Vec ℕ Global) → All P (words_in sequences) → P s.items → All P (words_in (sequences ++ s ∷ []))
-words-push P sequences s all one = subst (All P) (sym (map_push {X = Vec ℕ Global} {Y = List ℕ} (λ z. z.items) sequences s)) (All-push P (words_in sequences) s.items all one)
 
 -- the longest of one more
 longest-push : (sequences : List (List ℕ)) (s : List ℕ) → longest (sequences ++ s ∷ []) ≡ max (longest sequences) (length s)
@@ -102,7 +89,7 @@ module _ (copies : List (List ℕ)) where
         ]
       ])
 
-  new-has : (p : List ℕ) → has (with_new copies p) p ≡ true
+  pub new-has : (p : List ℕ) → has (with_new copies p) p ≡ true
   new-has p = by (has copies p) refl
     where
       by : (b : Bool) → has copies p ≡ b → has (with_new copies p) p ≡ true
@@ -219,5 +206,5 @@ copies_of-are sequences = record {
 }
 
 -- the first vertices are ordinary
-pub firsts-below : (n : ℕ) (sequences : List (List ℕ)) → All (λ s. 1 ≤ length s) sequences → All (λ s. All (λ v. v < n) s) sequences → All (λ q. q < n) (map first_of sequences)
-firsts-below n sequences some ordinary = All-map (λ q. q < n) first_of sequences (λ k d lt. ordinary k d lt 0 0 (some k d lt))
+pub starts-below : (n : ℕ) (sequences : List (List ℕ)) → All (λ s. 1 ≤ length s) sequences → All (λ s. All (λ v. v < n) s) sequences → All (λ q. q < n) (map first_of sequences)
+starts-below n sequences some ordinary = All-map (λ q. q < n) first_of sequences (λ k d lt. ordinary k d lt 0 0 (some k d lt))

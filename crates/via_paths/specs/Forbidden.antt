@@ -1,12 +1,24 @@
 -- Sequences of vertices that no walk may run through (forbidden paths: D. Villeneuve and G. Desaulniers, "The shortest
 -- path problem with forbidden paths", 2005). A word is a list of vertices, in the order of the walk.
-use Rattle.std.specs.Prelude.{◌≡◌, ℕ, ◌≤◌, Bool, true, false, ◌&&◌, ◌||◌, ◌==◌, List, [], ◌∷◌, ◌++◌, Vec, length, map}
-use Rattle.std.specs.Global.{Global}
+use Rattle.std.specs.Prelude.{◌≡◌, ℕ, ◌<◌, ◌≤◌, Bool, true, false, ◌&&◌, ◌||◌, ◌==◌, List, [], ◌∷◌, ◌++◌, length, map, flat_map, All}
 use Rattle.std.specs.List.{Contains, list_any}
+use Rattle.via_paths.specs.declared.barred.Barred.{Barred}
 
--- the words of sequences that are kept as vectors
-abbrev pub words_in : List (Vec ℕ Global) → List (List ℕ)
-words_in sequences = map (λ s. s.items) sequences
+-- the sequences of a group: by the start, and then by the end
+abbrev pub words_of : Barred → List (List ℕ)
+words_of b = flat_map (λ d. map (λ e. d ∷ (b.path.items ++ e ∷ [])) b.ends.items) b.starts.items
+
+-- those of all groups, in their order
+abbrev pub words_in : List Barred → List (List ℕ)
+words_in groups = flat_map words_of groups
+
+-- something stands between the ends of a group's sequences
+abbrev pub HasPath : Barred → Type 0
+HasPath b = 1 ≤ length b.path.items
+
+-- all vertices of a group are below n
+abbrev pub IsBelow : ℕ → Barred → Type 0
+IsBelow n b = All (λ v. v < n) b.starts.items × All (λ v. v < n) b.path.items × All (λ v. v < n) b.ends.items
 
 -- s is a run of neighbouring vertices of the walk
 abbrev pub IsRunOf : List ℕ → List ℕ → Type 0

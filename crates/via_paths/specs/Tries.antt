@@ -3,11 +3,12 @@ use Rattle.std.specs.Prelude.{◌≡◌, ℕ, ◌+◌, ◌^◌, ◌<◌, ◌≤�
 use Rattle.std.specs.Global.{Global}
 use Rattle.std.specs.HashMap.{HashMap, get}
 use Rattle.std.specs.HashSet.{HashSet, contains}
-use Rattle.std.specs.List.{slice_get, All}
+use Rattle.std.specs.List.{slice_get, list_any, All}
 use Rattle.std.specs.Option.{option_map_or}
 use Rattle.std.specs.declared.hash.FoldHasher.{FoldHasher}
 use Rattle.std.specs.declared.hash.BuildHasherDefault.{BuildHasherDefault}
 use Rattle.via_paths.specs.declared.copied.Copied.{Copied}
+use Rattle.via_paths.specs.declared.ended.Ends.{Ends}
 use Rattle.via_paths.specs.Forbidden.{has, ends_in, last_of}
 use Rattle.via_paths.specs.Copies.{with_new, with_prefix}
 use Rattle.via_paths.specs.Expansion.{AreCopies, held, number, word_of, onward}
@@ -74,13 +75,25 @@ pub record IsLaid (n : ℕ) (copies sequences : List (List ℕ)) (k : ℕ) (next
 abbrev pub first_of : List ℕ → ℕ
 first_of s = get_or s 0 0
 
--- states with vertices
+-- lists by a number
+abbrev pub ListMap : Type 0 → Type 0
+ListMap T = HashMap ℕ (Vec T Global) (BuildHasherDefault FoldHasher)
+
+-- the list that is kept for a number
+abbrev pub list_at : {T : Type 0} → ListMap T → ℕ → List T
+list_at lists v = option_map_or (λ list. list.items) (get (λ a b. a == b) lists v) []
+
+-- groups with vertices
 abbrev pub EndSet : Type 0
 EndSet = HashSet (ℕ × ℕ) (BuildHasherDefault FoldHasher)
 
+-- behind this state the vertex is an end of one of its groups
+abbrev pub ended_at : ListMap ℕ → EndSet → ℕ → ℕ → Bool
+ended_at groups ends q e = list_any (λ g. contains pair_eq ends (g, e)) (list_at groups q)
+
 -- which vertex behind which state's word makes one of the sequences
-abbrev pub AreEnds : ℕ → List (List ℕ) → List (List ℕ) → EndSet → Type 0
-AreEnds n sequences copies ends = (q e : ℕ) → contains pair_eq ends (q, e) ≡ has sequences (word_of n copies q ++ e ∷ [])
+abbrev pub AreEnds : ℕ → List (List ℕ) → List (List ℕ) → Ends → Type 0
+AreEnds n sequences copies ends = (q e : ℕ) → ended_at ends.groups ends.vertices q e ≡ has sequences (word_of n copies q ++ e ∷ [])
 
 -- the heads of the turns from a vertex
 abbrev pub heads_at : List (ℕ × ℕ) → ℕ → List ℕ
@@ -95,32 +108,36 @@ abbrev pub first_arcs : ℕ → List (List ℕ) → List (ℕ × ℕ) → List (
 first_arcs n copies turns = map (λ turn. (turn.0, onward n copies (turn.0 ∷ []) turn.1)) turns
 
 -- what the parts of the automaton are of
-pub record IsAutomaton (n : ℕ) (sequences copies : List (List ℕ)) (next : NextMap) (copied : List Copied) (ends : EndSet) : Type 0 where
+pub record IsAutomaton (n : ℕ) (sequences copies : List (List ℕ)) (next : NextMap) (copied : List Copied) (ends : Ends) : Type 0 where
   pub long : All (λ s. 3 ≤ length s) sequences
   pub trie : IsTrie n copies next copied
   pub are : AreCopies sequences copies
   pub ended : AreEnds n sequences copies ends
 
--- for some vertices, the heads of the turns from there
-abbrev pub FanMap : Type 0
-FanMap = HashMap ℕ (Vec ℕ Global) (BuildHasherDefault FoldHasher)
-
 -- some vertices
 abbrev pub StoodSet : Type 0
 StoodSet = HashSet ℕ (BuildHasherDefault FoldHasher)
-
--- the heads kept for a vertex
-abbrev pub fan_at : FanMap → ℕ → List ℕ
-fan_at fans v = option_map_or (λ heads. heads.items) (get (λ a b. a == b) fans v) []
 
 -- the set has each vertex at which a copy stands
 abbrev pub AreStood : List Copied → StoodSet → Type 0
 AreStood copied stood = (k : ℕ) (c : Copied) → slice_get copied k ≡ Some c → contains (λ a b. a == b) stood c.vertex ≡ true
 
 -- the heads of the turns are kept for each vertex at which a copy stands
-abbrev pub AreFans : List Copied → List (ℕ × ℕ) → FanMap → Type 0
-AreFans copied turns fans = (k : ℕ) (c : Copied) → slice_get copied k ≡ Some c → fan_at fans c.vertex ≡ heads_at turns c.vertex
+abbrev pub AreFans : List Copied → List (ℕ × ℕ) → ListMap ℕ → Type 0
+AreFans copied turns fans = (k : ℕ) (c : Copied) → slice_get copied k ≡ Some c → list_at fans c.vertex ≡ heads_at turns c.vertex
 
 -- the vertices for which copies stand
 abbrev pub vertices_in : List Copied → List ℕ
 vertices_in copied = map (λ c. c.vertex) copied
+
+-- the heads that are no end of a group
+abbrev pub left_by : EndSet → ℕ → List ℕ → List ℕ
+left_by ends group heads = filter (λ e. not (contains pair_eq ends (group, e))) heads
+
+-- lists by a group and a vertex
+abbrev pub KeptMap : Type 0
+KeptMap = HashMap (ℕ × ℕ) (Vec ℕ Global) (BuildHasherDefault FoldHasher)
+
+-- what is kept for a group and a vertex are the heads from the vertex that are no end of the group
+abbrev pub AreKept : EndSet → ListMap ℕ → KeptMap → Type 0
+AreKept ends fans kept = (at : ℕ × ℕ) (heads : Vec ℕ Global) → get pair_eq kept at ≡ Some heads → heads.items ≡ left_by ends at.0 (list_at fans at.1)

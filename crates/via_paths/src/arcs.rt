@@ -2,19 +2,20 @@
 
 ghost use Rattle.std.specs.Prelude.{◌≡◌, ℕ, ◌+◌, ◌^◌, ◌<◌, ◌≤◌, List, ◌++◌, length, All, IfNone, IfSome, OnOk};
 ghost use Rattle.via_paths.specs.Expansion.{copy_arcs, word_of};
-ghost use Rattle.via_paths.specs.Tries.{AreFans, IsAutomaton, IsTrie, fan_at, first_arcs, out_by};
+ghost use Rattle.via_paths.specs.Tries.{AreFans, AreKept, IsAutomaton, IsTrie, first_arcs, list_at, out_by};
 
+use crate::ended::Ends;
 use crate::ends::is_ended;
-use crate::fans::heads_of;
+use crate::kept::heads_of;
 use crate::trie::Trie;
 use std::alloc::AllocError;
-use std::collections::{HashMap, HashSet};
+use std::collections::HashMap;
 
 // The most arcs, 2^27.
 const MOST_ARCS: usize = 134217728;
 
 // How many arcs leave a copy, by the heads of the turns from its last vertex.
-fn count_out(trie: &Trie, ends: &HashSet<(u32, u32)>, state: u32, heads: &[u32]) -> usize
+fn count_out(trie: &Trie, ends: &Ends, state: u32, heads: &[u32]) -> usize
     requires { state < trie.now.vertices + length trie.now.copied.items }
     ensures { (sequences copies : List (List ℕ)) →
         IsAutomaton trie.now.vertices sequences copies trie.now.next trie.now.copied.items ends.now →
@@ -29,19 +30,21 @@ fn count_out(trie: &Trie, ends: &HashSet<(u32, u32)>, state: u32, heads: &[u32])
     count
 }
 
-/// How many arcs there are, those out of as many turns and those out of all copies, or None where there are more
-/// than 2^27. So no arc is made before it is known that there is room for all.
+/// How many arcs leave the copies, or None where there are more than 2^27 with those of as many turns. So no arc is made
+/// before it is known that there is room for all.
 pub fn count_arcs(
     trie: &Trie,
-    ends: &HashSet<(u32, u32)>,
+    ends: &Ends,
     fans: &HashMap<u32, Vec<u32>>,
+    kept: &HashMap<(usize, u32), Vec<u32>>,
     turns: usize,
 ) -> Option<usize>
-    ensures within { IfSome result (λ count. count ≤ 2 ^ 27) }
+    requires { AreKept ends.now.vertices fans.now kept.now }
+    ensures within { IfSome result (λ count. turns + count ≤ 2 ^ 27) }
     ensures some { IfSome result (λ count. (sequences copies : List (List ℕ)) (turn_list : List (ℕ × ℕ)) →
         IsAutomaton trie.now.vertices sequences copies trie.now.next trie.now.copied.items ends.now →
         AreFans trie.now.copied.items turn_list fans.now →
-        count ≡ turns + length (copy_arcs trie.now.vertices sequences copies turn_list trie.now.vertices copies)) }
+        count ≡ length (copy_arcs trie.now.vertices sequences copies turn_list trie.now.vertices copies)) }
     ensures none { IfNone result ((sequences copies : List (List ℕ)) (turn_list : List (ℕ × ℕ)) →
         IsAutomaton trie.now.vertices sequences copies trie.now.next trie.now.copied.items ends.now →
         AreFans trie.now.copied.items turn_list fans.now →
@@ -50,41 +53,36 @@ pub fn count_arcs(
     if turns > MOST_ARCS {
         return None;
     }
-    let mut left = MOST_ARCS - turns;
+    let room = MOST_ARCS - turns;
+    let mut left = room;
     for k in 0..trie.copied.len() {
-        let heads = heads_of(fans, trie.copied[k].vertex);
+        let heads = heads_of(trie, ends, fans, kept, k);
         let count = count_out(trie, ends, trie.vertices + k as u32, heads);
         if count > left {
             return None;
         }
         left -= count;
     }
-    Some(MOST_ARCS - left)
+    Some(room - left)
 }
 
-/// The arc of each turn, out of its ordinary vertex.
-pub fn push_turns(
-    trie: &Trie,
-    turns: &[(u32, u32)],
-    arcs: &mut Vec<(u32, u32)>,
-) -> Result<(), AllocError>
-    requires { All (λ t. (t.0 < trie.now.vertices) × (t.1 < trie.now.vertices)) turns.now }
-    ensures { OnOk result ((copies : List (List ℕ)) →
-        IsTrie trie.now.vertices copies trie.now.next trie.now.copied.items →
-        arcs.new.items ≡ arcs.old.items ++ first_arcs trie.now.vertices copies turns.now) }
+/// Puts in the place of each turn its arc, out of its ordinary vertex.
+pub fn put_arcs(trie: &Trie, turns: &mut Vec<(u32, u32)>)
+    requires { All (λ t. (t.0 < trie.now.vertices) × (t.1 < trie.now.vertices)) turns.old.items }
+    ensures { (copies : List (List ℕ)) → IsTrie trie.now.vertices copies trie.now.next trie.now.copied.items →
+        turns.new.items ≡ first_arcs trie.now.vertices copies turns.old.items }
 {
     for i in 0..turns.len() {
         let turn = turns[i];
         let head = trie.onward(turn.0, turn.1);
-        arcs.push((turn.0, head))?;
+        turns[i] = (turn.0, head);
     }
-    Ok(())
 }
 
 // The arcs out of a copy, by the heads of the turns from its last vertex.
 fn push_out(
     trie: &Trie,
-    ends: &HashSet<(u32, u32)>,
+    ends: &Ends,
     state: u32,
     heads: &[u32],
     arcs: &mut Vec<(u32, u32)>,
@@ -109,18 +107,20 @@ fn push_out(
 /// The arcs out of all copies, by the heads of the turns from each vertex at which one stands.
 pub fn push_copies(
     trie: &Trie,
-    ends: &HashSet<(u32, u32)>,
+    ends: &Ends,
     fans: &HashMap<u32, Vec<u32>>,
+    kept: &HashMap<(usize, u32), Vec<u32>>,
     arcs: &mut Vec<(u32, u32)>,
 ) -> Result<(), AllocError>
-    requires { (v : ℕ) → All (λ e. e < trie.now.vertices) (fan_at fans.now v) }
+    requires kept { AreKept ends.now.vertices fans.now kept.now }
+    requires below { (v : ℕ) → All (λ e. e < trie.now.vertices) (list_at fans.now v) }
     ensures { OnOk result ((sequences copies : List (List ℕ)) (turns : List (ℕ × ℕ)) →
         IsAutomaton trie.now.vertices sequences copies trie.now.next trie.now.copied.items ends.now →
         AreFans trie.now.copied.items turns fans.now →
         arcs.new.items ≡ arcs.old.items ++ copy_arcs trie.now.vertices sequences copies turns trie.now.vertices copies) }
 {
     for k in 0..trie.copied.len() {
-        let heads = heads_of(fans, trie.copied[k].vertex);
+        let heads = heads_of(trie, ends, fans, kept, k);
         push_out(trie, ends, trie.vertices + k as u32, heads, arcs)?;
     }
     Ok(())

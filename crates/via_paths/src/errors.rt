@@ -1,81 +1,54 @@
-//! Why a graph was not expanded.
+//! Why copies, or the arcs with them, were not made.
 
 use std::alloc::{AllocError, AllocFailed};
 
-/// Why a graph was not expanded.
+/// Why copies were not made.
 #[derive(Clone, Copy, Debug, PartialEq, Eq)]
-pub enum ExpandError {
+pub enum ViaError {
     /// More than 2^20 vertices would have to be copied.
     TooManyVias,
+    /// Memory ran out.
+    Memory,
+}
+
+/// Why arcs were not made.
+#[derive(Clone, Copy, Debug, PartialEq, Eq)]
+pub enum ArcsError {
     /// The graph would have more than 2^27 arcs.
     TooManyTurns,
     /// Memory ran out.
     Memory,
 }
 
-/// Why the trie of the copies was not made.
-#[derive(Clone, Copy, Debug, PartialEq, Eq)]
-pub enum TrieError {
-    /// It would have more than 2^20 copies.
-    TooManyVias,
-    /// Memory ran out.
-    Memory,
-}
-
-impl From<TrieError> for ExpandError {
+impl From<AllocError> for ViaError {
     ghost use Rattle.std.specs.Prelude.{◌≡◌};
-    ghost use Rattle.via_paths.specs.Refusals.{of_trie};
-
-    ghost from_gives = { λ e r. r ≡ of_trie e };
-
-    fn from(error: TrieError) -> ExpandError {
-        match error {
-            TrieError::TooManyVias => ExpandError::TooManyVias,
-            TrieError::Memory => ExpandError::Memory,
-        }
-    }
-}
-
-impl From<AllocError> for ExpandError {
-    ghost use Rattle.std.specs.Prelude.{◌≡◌};
-    ghost use Rattle.via_paths.specs.declared.errors.ExpandError.TheVariants.{Memory};
+    ghost use Rattle.via_paths.specs.declared.errors.ViaError.TheVariants.{Memory};
 
     ghost from_gives = { λ _ r. r ≡ Memory };
 
-    fn from(_error: AllocError) -> ExpandError {
-        ExpandError::Memory
+    fn from(_error: AllocError) -> ViaError {
+        ViaError::Memory
     }
 }
 
-impl<T: Drop> From<AllocFailed<T>> for ExpandError {
+impl<T: Drop> From<AllocFailed<T>> for ViaError {
     ghost use Rattle.std.specs.Prelude.{◌≡◌};
-    ghost use Rattle.via_paths.specs.declared.errors.ExpandError.TheVariants.{Memory};
+    ghost use Rattle.via_paths.specs.declared.errors.ViaError.TheVariants.{Memory};
 
     ghost from_gives = { λ _ r. r ≡ Memory };
 
-    fn from(_error: AllocFailed<T>) -> ExpandError {
-        ExpandError::Memory
+    fn from(_error: AllocFailed<T>) -> ViaError {
+        ViaError::Memory
     }
 }
 
-impl From<AllocError> for TrieError {
+impl From<AllocError> for ArcsError {
     ghost use Rattle.std.specs.Prelude.{◌≡◌};
-    ghost use Rattle.via_paths.specs.declared.errors.TrieError.TheVariants.{Memory};
+    ghost use Rattle.via_paths.specs.declared.errors.ArcsError.TheVariants.{Memory};
 
     ghost from_gives = { λ _ r. r ≡ Memory };
 
-    fn from(_error: AllocError) -> TrieError {
-        TrieError::Memory
-    }
-}
-
-impl<T: Drop> From<AllocFailed<T>> for TrieError {
-    ghost use Rattle.std.specs.Prelude.{◌≡◌};
-    ghost use Rattle.via_paths.specs.declared.errors.TrieError.TheVariants.{Memory};
-
-    ghost from_gives = { λ _ r. r ≡ Memory };
-
-    fn from(_error: AllocFailed<T>) -> TrieError {
-        TrieError::Memory
+    fn from(_error: AllocError) -> ArcsError {
+        ArcsError::Memory
     }
 }

@@ -1,48 +1,13 @@
 //! The heads of the turns from the vertices at which a copy stands.
 
-ghost use Rattle.std.specs.Prelude.{◌≡◌, ℕ, ◌<◌, ◌==◌, [], ◌∷◌, ◌++◌, if◌then◌else◌, length, All, IfOk, OnOk};
+ghost use Rattle.std.specs.Prelude.{◌≡◌, ℕ, ◌<◌, Some, length, All, IfOk};
 ghost use Rattle.std.specs.List.{slice_get};
-ghost use Rattle.via_paths.specs.Tries.{AreFans, AreStood, fan_at};
+ghost use Rattle.via_paths.specs.Tries.{AreFans, AreStood, list_at};
 
+use crate::lists::add_to;
 use crate::trie::Trie;
 use std::alloc::{AllocError, Global};
 use std::collections::{HashMap, HashSet};
-
-/// The heads of the turns from a vertex.
-pub fn heads_of(fans: &HashMap<u32, Vec<u32>>, vertex: u32) -> &[u32]
-    ensures { result.now ≡ fan_at fans.now vertex }
-{
-    match fans.get(&vertex) {
-        Some(heads) => heads.as_slice(),
-        None => &[],
-    }
-}
-
-// The heads of a vertex, taken out.
-fn take_heads(alloc: Global, fans: &mut HashMap<u32, Vec<u32>>, vertex: u32) -> Vec<u32>
-    ensures heads { result.items ≡ fan_at fans.old vertex }
-    ensures rest { (v : ℕ) → fan_at fans.new v ≡ (if vertex == v then [] else fan_at fans.old v) }
-{
-    match fans.remove(&vertex) {
-        Some(heads) => heads,
-        None => Vec::new(alloc),
-    }
-}
-
-// One head more.
-fn add_head(
-    alloc: Global,
-    fans: &mut HashMap<u32, Vec<u32>>,
-    tail: u32,
-    head: u32,
-) -> Result<(), AllocError>
-    ensures { OnOk result ((v : ℕ) → fan_at fans.new v ≡ (if tail == v then fan_at fans.old v ++ head ∷ [] else fan_at fans.old v)) }
-{
-    let mut heads = take_heads(alloc, fans, tail);
-    heads.push(head)?;
-    fans.insert(tail, heads)?;
-    Ok(())
-}
 
 // The vertices at which copies stand.
 fn stood_at(alloc: Global, trie: &Trie) -> Result<HashSet<u32>, AllocError>
@@ -71,14 +36,14 @@ pub fn fans_of(
 ) -> Result<HashMap<u32, Vec<u32>>, AllocError>
     requires { All (λ t. (t.0 < trie.now.vertices) × (t.1 < trie.now.vertices)) turns.now }
     ensures are { IfOk result (λ fans. AreFans trie.now.copied.items turns.now fans) }
-    ensures below { IfOk result (λ fans. (v : ℕ) → All (λ e. e < trie.now.vertices) (fan_at fans v)) }
+    ensures below { IfOk result (λ fans. (v : ℕ) → All (λ e. e < trie.now.vertices) (list_at fans v)) }
 {
     let stood = stood_at(alloc, trie)?;
     let mut fans = HashMap::new(alloc);
     for i in 0..turns.len() {
         let turn = turn_at(turns, i);
         if stood.contains(&turn.0) {
-            add_head(alloc, &mut fans, turn.0, turn.1)?;
+            add_to(alloc, &mut fans, turn.0, turn.1)?;
         }
     }
     Ok(fans)

@@ -2,12 +2,13 @@
 //!
 //! The laws are over any list of the words of all copies (`AreCopies`), in whatever order they come.
 
-ghost use Rattle.std.specs.Prelude.{◌≡◌, ℕ, ◌+◌, ◌<◌, ◌≤◌, ◌↔◌, ◌++◌, List, Option, None, Some, length, map, get_or, All};
+ghost use Rattle.std.specs.Prelude.{◌≡◌, ℕ, ◌+◌, ◌<◌, ◌≤◌, ◌↔◌, ◌++◌, List, [], Option, None, Some, length, map, get_or, All};
 ghost use Rattle.std.specs.List.{Contains, slice_get};
 ghost use Rattle.search_graph.specs.Digraph.{Weighting};
+ghost use Rattle.via_paths.specs.declared.barred.Barred.{Barred};
 ghost use Rattle.via_paths.specs.Copies.{copies_of};
 ghost use Rattle.via_paths.specs.Expansion.{AreCopies, IsStateOf, expanded, expanded_arcs, standing, unexpanded, word_of};
-ghost use Rattle.via_paths.specs.Forbidden.{IsFree, IsFreeBehind, last_of};
+ghost use Rattle.via_paths.specs.Forbidden.{HasPath, IsBelow, IsFree, IsFreeBehind, last_of, words_in};
 ghost use Rattle.via_paths.specs.Standing.{IsCostedAlike, StandForFree, StandBehind, EndsStandForFree, EndsStandBehind};
 
 use search_graph::Cost;
@@ -61,8 +62,21 @@ pub fn copies_are_prefixes()
     ensures { (sequences : List (List ℕ)) → AreCopies sequences (copies_of sequences) }
 {}
 
+/// The sequences of groups whose paths have a vertex or more have three or more (`long`), and all their vertices are in
+/// range where those of the groups are (`ordinary`).
+pub fn words_are_long()
+    ensures long { (groups : List Barred) → All HasPath groups → All (λ s. 3 ≤ length s) (words_in groups) }
+    ensures ordinary { (n : ℕ) (groups : List Barred) → All (IsBelow n) groups → All (λ s. All (λ v. v < n) s) (words_in groups) }
+{}
+
+/// Without sequences there are no copies (`copies`), and the arcs are the turns (`arcs`).
+pub fn without_sequences_arcs_are_turns()
+    ensures copies { copies_of [] ≡ [] }
+    ensures arcs { (n : ℕ) (turns : List (ℕ × ℕ)) → expanded_arcs n [] [] turns ≡ turns }
+{}
+
 /// Each arc of the graph with copies joins two of its vertices and stands for a turn (`arcs`), and the arc of a
-/// turn's number stands for that turn (`turns`).
+/// turn's number stands for that turn (`turns`); so there are no fewer arcs than turns (`more`).
 pub fn arcs_stand_for_turns()
     ensures arcs { (n : ℕ) (sequences copies : List (List ℕ)) (turns : List (ℕ × ℕ)) (p q : ℕ) →
         All (λ s. 3 ≤ length s) sequences → All (λ t. (t.0 < n) × (t.1 < n)) turns → AreCopies sequences copies →
@@ -72,6 +86,8 @@ pub fn arcs_stand_for_turns()
         All (λ s. 3 ≤ length s) sequences → All (λ t. (t.0 < n) × (t.1 < n)) turns → AreCopies sequences copies →
         slice_get turns i ≡ Some (d, e) →
         (q : ℕ) × (slice_get (expanded_arcs n sequences copies turns) i ≡ Some (d, q)) × (standing n (map last_of copies) q ≡ e) }
+    ensures more { (n : ℕ) (sequences copies : List (List ℕ)) (turns : List (ℕ × ℕ)) →
+        length turns ≤ length (expanded_arcs n sequences copies turns) }
 {}
 
 /// Where an arc costs by what its two ends stand for, and a copy what its vertex costs, the weights are alike.

@@ -1,10 +1,11 @@
 //! Small expansions, worked by hand, and what is refused. A list of numbers is a text, since a proof takes time for
 //! each value of a list, and none for a text.
 
-ghost use Rattle.std.specs.Prelude.{◌<◌, ◌≤◌, length, All, IfOk};
-ghost use Rattle.via_paths.specs.Forbidden.{words_in};
+ghost use Rattle.std.specs.Prelude.{◌≡◌, ◌<◌, All, IfOk};
+ghost use Rattle.via_paths.specs.Forbidden.{HasPath, IsBelow};
+ghost use Rattle.via_paths.specs.Made.{ordinary_of};
 
-use crate::{ExpandError, Expanded, expand};
+use crate::{ArcsError, Barred, Copies, ViaError};
 use std::alloc::{AllocError, Global};
 use std::process::Abort;
 use std::test::Fail;
@@ -29,23 +30,41 @@ fn row_of(rt: &impl Abort, alloc: Global, row: &str) -> Result<Vec<u32>, AllocEr
 {
     let mut vertices = Vec::new(alloc);
     for text in row.split(' ') {
-        vertices.push(vertex(rt, text))?;
+        if !text.is_empty() {
+            vertices.push(vertex(rt, text))?;
+        }
     }
     Ok(vertices)
 }
 
-// The sequences of a text, one a line.
-fn sequences_of(rt: &impl Abort, alloc: Global, text: &str) -> Result<Vec<Vec<u32>>, AllocError>
-    ensures long { IfOk result (λ rows. All (λ s. 3 ≤ length s) (words_in rows.items)) }
-    ensures ordinary { IfOk result (λ rows. All (λ s. All (λ v. v < 8) s) (words_in rows.items)) }
+// The group `starts/path/ends`.
+fn group_of(rt: &impl Abort, alloc: Global, line: &str) -> Result<Barred, AllocError>
+    ensures path { IfOk result HasPath }
+    ensures ordinary { IfOk result (IsBelow 8) }
 {
-    let mut sequences = Vec::new(alloc);
+    let Some((starts, rest)) = line.split_once('/') else {
+        panic!(rt; "starts");
+    };
+    let Some((path, ends)) = rest.split_once('/') else {
+        panic!(rt; "a path");
+    };
+    let starts = row_of(rt, alloc, starts)?;
+    let path = row_of(rt, alloc, path)?;
+    let ends = row_of(rt, alloc, ends)?;
+    assert!(rt; path.len() >= 1);
+    Ok(Barred { starts, path, ends })
+}
+
+// The groups of a text, one a line.
+fn groups_of(rt: &impl Abort, alloc: Global, text: &str) -> Result<Vec<Barred>, AllocError>
+    ensures paths { IfOk result (λ groups. All HasPath groups.items) }
+    ensures ordinary { IfOk result (λ groups. All (IsBelow 8) groups.items) }
+{
+    let mut groups = Vec::new(alloc);
     for line in text.lines() {
-        let row = row_of(rt, alloc, line)?;
-        assert!(rt; row.len() >= 3);
-        sequences.push(row)?;
+        groups.push(group_of(rt, alloc, line)?)?;
     }
-    Ok(sequences)
+    Ok(groups)
 }
 
 // The turn `tail-head`.
@@ -70,30 +89,34 @@ fn turns_of(rt: &impl Abort, alloc: Global, text: &str) -> Result<Vec<(u32, u32)
     Ok(turns)
 }
 
+// The copies for the groups of a text.
+fn made(rt: &impl Abort, alloc: Global, groups: &str) -> Result<Copies, ViaError>
+    ensures { IfOk result (λ copies. ordinary_of copies ≡ 8) }
+{
+    let groups = groups_of(rt, alloc, groups)?;
+    Copies::of(alloc, VERTICES, &groups)
+}
+
 // The arcs of a graph with copies, and behind a bar the vertices for which the copies stand.
-fn told(alloc: Global, x: &Expanded) -> Result<String, AllocError> {
+fn told(alloc: Global, arcs: &[(u32, u32)], stands_for: &[u32]) -> Result<String, AllocError> {
     let mut text = String::new(alloc);
-    for arc in x.arcs.as_slice() {
+    for arc in arcs {
         text.push_str(format!(in alloc; "{}-{} ", arc.0, arc.1)?.as_str())?;
     }
     text.push_str("|")?;
-    for v in x.stands_for.as_slice() {
+    for v in stands_for {
         text.push_str(format!(in alloc; " {}", v)?.as_str())?;
     }
     Ok(text)
 }
 
-// What the turns of a text come to with the sequences of another.
-fn expanded(
-    rt: &impl Abort,
-    alloc: Global,
-    sequences: &str,
-    turns: &str,
-) -> Result<String, ExpandError> {
-    let sequences = sequences_of(rt, alloc, sequences)?;
+// What the turns of a text come to with the groups of another.
+fn expanded(rt: &impl Abort, alloc: Global, groups: &str, turns: &str) -> Result<String, Fail> {
     let turns = turns_of(rt, alloc, turns)?;
-    let x = expand(alloc, VERTICES, &sequences, &turns)?;
-    Ok(told(alloc, &x)?)
+    let copies = made(rt, alloc, groups)?;
+    let stands_for = copies.stands_for(alloc)?;
+    let arcs = copies.expand(alloc, turns)?;
+    Ok(told(alloc, &arcs, &stands_for)?)
 }
 
 // Streets 0 and 1, 2 and 3, 4 and 5, one behind the other, and 6 and 7 beside the last one.
@@ -108,7 +131,7 @@ fn without_sequences_the_arcs_are_the_turns(rt: HostRuntime) -> Result<(), Fail>
 
 #[test]
 fn a_via_way_gets_one_copy(rt: HostRuntime) -> Result<(), Fail> {
-    let text = expanded(&rt, rt.alloc(), "0 2 4", STREETS)?;
+    let text = expanded(&rt, rt.alloc(), "0/2/4", STREETS)?;
     assert_eq!(rt;
         text.as_str(),
         "0-8 1-0 2-4 2-6 3-1 4-5 5-3 5-6 6-7 7-3 7-4 8-6 | 2"
@@ -118,15 +141,37 @@ fn a_via_way_gets_one_copy(rt: HostRuntime) -> Result<(), Fail> {
 
 #[test]
 fn sequences_that_begin_alike_share_copies(rt: HostRuntime) -> Result<(), Fail> {
-    let text = expanded(&rt, rt.alloc(), "0 1 2\n0 1 2\n0 1 3", "0-1 1-2 1-3 1-4")?;
+    let text = expanded(&rt, rt.alloc(), "0/1/2\n0/1/2\n0/1/3", "0-1 1-2 1-3 1-4")?;
     assert_eq!(rt; text.as_str(), "0-8 1-2 1-3 1-4 8-4 | 1");
+    Ok(())
+}
+
+// Each start goes with each end: who comes from 0 or from 1 may go on to 6 alone, and who comes from 5 anywhere.
+#[test]
+fn each_start_goes_with_each_end(rt: HostRuntime) -> Result<(), Fail> {
+    let text = expanded(&rt, rt.alloc(), "0 1/2/3 4", "0-2 1-2 5-2 2-3 2-4 2-6")?;
+    assert_eq!(rt; text.as_str(), "0-8 1-9 5-2 2-3 2-4 2-6 8-6 9-6 | 2 2");
+    Ok(())
+}
+
+#[test]
+fn the_ends_of_another_group_are_open(rt: HostRuntime) -> Result<(), Fail> {
+    let text = expanded(&rt, rt.alloc(), "0/1/2\n5/1/3", "0-1 5-1 1-2 1-3")?;
+    assert_eq!(rt; text.as_str(), "0-8 5-9 1-2 1-3 8-3 9-2 | 1 1");
+    Ok(())
+}
+
+#[test]
+fn a_group_without_a_start_or_an_end_is_none(rt: HostRuntime) -> Result<(), Fail> {
+    let text = expanded(&rt, rt.alloc(), "/1/2\n0/1/", "0-1 1-2")?;
+    assert_eq!(rt; text.as_str(), "0-1 1-2 |");
     Ok(())
 }
 
 // Behind 0 1 2 both 3 and 4 are forbidden; the copy of 1 2 is that of one who came from 1 alone, and may go to 3.
 #[test]
 fn a_copy_falls_back_to_a_shorter_one(rt: HostRuntime) -> Result<(), Fail> {
-    let text = expanded(&rt, rt.alloc(), "0 1 2 3\n1 2 4", "0-1 1-2 2-3 2-4 2-5")?;
+    let text = expanded(&rt, rt.alloc(), "0/1 2/3\n1/2/4", "0-1 1-2 2-3 2-4 2-5")?;
     assert_eq!(rt;
         text.as_str(),
         "0-8 1-9 2-3 2-4 2-5 8-10 9-3 9-5 10-5 | 1 2 2"
@@ -137,7 +182,7 @@ fn a_copy_falls_back_to_a_shorter_one(rt: HostRuntime) -> Result<(), Fail> {
 // The copy of 0 1 2 3, in which the other has run, is there, but no arc leads to it.
 #[test]
 fn a_sequence_may_stand_inside_another(rt: HostRuntime) -> Result<(), Fail> {
-    let text = expanded(&rt, rt.alloc(), "1 2 3\n0 1 2 3 4", "0-1 1-2 2-3 3-4")?;
+    let text = expanded(&rt, rt.alloc(), "1/2/3\n0/1 2 3/4", "0-1 1-2 2-3 3-4")?;
     assert_eq!(rt; text.as_str(), "0-9 1-8 2-3 3-4 9-10 | 2 1 2 3");
     Ok(())
 }
@@ -145,35 +190,45 @@ fn a_sequence_may_stand_inside_another(rt: HostRuntime) -> Result<(), Fail> {
 // Who goes round once more is still on the way to the forbidden end.
 #[test]
 fn a_walk_that_repeats_stays_on_its_sequence(rt: HostRuntime) -> Result<(), Fail> {
-    let text = expanded(&rt, rt.alloc(), "0 1 0 1 2", "0-1 1-0 1-2")?;
+    let text = expanded(&rt, rt.alloc(), "0/1 0 1/2", "0-1 1-0 1-2")?;
     assert_eq!(rt; text.as_str(), "0-8 1-0 1-2 8-9 8-2 9-10 10-9 | 1 0 1");
     Ok(())
 }
 
-// A text, and behind it another as many times.
-fn repeated(alloc: Global, first: &str, again: &str, times: u32) -> Result<String, AllocError> {
+// A text, and between it and a last one another as many times.
+fn repeated(
+    alloc: Global,
+    first: &str,
+    again: &str,
+    last: &str,
+    times: u32,
+) -> Result<String, AllocError> {
     let mut text = String::from_str(alloc, first)?;
     for _ in 0..times {
         text.push_str(again)?;
     }
+    text.push_str(last)?;
     Ok(text)
 }
 
 // A sequence of 2^20 + 3 vertices has one proper prefix too many.
 #[test]
 fn one_copy_too_many_is_refused(rt: HostRuntime) -> Result<(), Fail> {
-    let sequence = repeated(rt.alloc(), "0", " 1", 1048578)?;
-    let refused = expanded(&rt, rt.alloc(), sequence.as_str(), "0-1").err();
-    assert_eq!(rt; refused, Some(ExpandError::TooManyVias));
+    let group = repeated(rt.alloc(), "0/", " 1", "/1", 1048577)?;
+    let refused = made(&rt, rt.alloc(), group.as_str()).err();
+    assert_eq!(rt; refused, Some(ViaError::TooManyVias));
     Ok(())
 }
 
 // 2^10 copies of 1, from which 2^17 turns lead: with these there are more than 2^27 arcs, and none is made.
 #[test]
 fn too_many_arcs_are_refused(rt: HostRuntime) -> Result<(), Fail> {
-    let sequence = repeated(rt.alloc(), "0", " 1", 1025)?;
-    let turns = repeated(rt.alloc(), "1-0", " 1-0", 131071)?;
-    let refused = expanded(&rt, rt.alloc(), sequence.as_str(), turns.as_str()).err();
-    assert_eq!(rt; refused, Some(ExpandError::TooManyTurns));
+    let group = repeated(rt.alloc(), "0/", " 1", "/1", 1024)?;
+    let turns = repeated(rt.alloc(), "1-0", " 1-0", "", 131071)?;
+    let turns = turns_of(&rt, rt.alloc(), turns.as_str())?;
+    let refused = made(&rt, rt.alloc(), group.as_str())?
+        .expand(rt.alloc(), turns)
+        .err();
+    assert_eq!(rt; refused, Some(ArcsError::TooManyTurns));
     Ok(())
 }

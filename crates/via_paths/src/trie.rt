@@ -1,15 +1,19 @@
 //! The words of the copies as a trie: which state has a state's word with one vertex more, and where a walk falls
 //! back to.
 
-ghost use Rattle.std.specs.Prelude.{◌≡◌, ℕ, ◌+◌, ◌^◌, ◌<◌, ◌≤◌, List, [], ◌∷◌, ◌++◌, length, take, All, IfOk, OnOk, IsErrOf};
-ghost use Rattle.via_paths.specs.declared.errors.TrieError.TheVariants.{TooManyVias};
+ghost use Rattle.std.specs.Prelude.{◌≡◌, ℕ, ◌+◌, ◌^◌, ◌<◌, ◌≤◌, List, [], ◌∷◌, ◌++◌, length, map, take, All, IfOk, OnOk, IsErrOf};
+ghost use Rattle.via_paths.specs.declared.errors.ViaError.TheVariants.{TooManyVias};
 ghost use Rattle.via_paths.specs.Copies.{with_new, with_prefix, layer};
 ghost use Rattle.via_paths.specs.Expansion.{word_of, onward};
-ghost use Rattle.via_paths.specs.Forbidden.{words_in};
+ghost use Rattle.via_paths.specs.Forbidden.{IsBelow};
+ghost use Rattle.via_paths.specs.Stems.{word_by};
 ghost use Rattle.via_paths.specs.Tries.{IsSound, IsTrie, AreUpTo, IsExtended, IsAdvanced, IsLaid, fallen};
 
+use crate::barred::Barred;
 use crate::copied::Copied;
-use crate::errors::TrieError;
+use crate::errors::ViaError;
+use crate::stem::Stem;
+use crate::stems::{path_of, stem_at};
 use std::alloc::Global;
 use std::collections::HashMap;
 
@@ -80,7 +84,7 @@ impl Trie {
     }
 
     /// The copy of a state's word with a vertex behind it, made where there is none.
-    pub fn extend(&mut self, state: u32, vertex: u32) -> Result<u32, TrieError>
+    pub fn extend(&mut self, state: u32, vertex: u32) -> Result<u32, ViaError>
         requires state { state < self.old.vertices + length self.old.copied.items }
         requires vertex { vertex < self.old.vertices }
         ensures vertices { self.new.vertices ≡ self.old.vertices }
@@ -96,7 +100,7 @@ impl Trie {
             return Ok(*copy);
         }
         if self.copied.len() >= MOST_COPIES {
-            return Err(TrieError::TooManyVias);
+            return Err(ViaError::TooManyVias);
         }
         let copy = self.vertices + self.copied.len() as u32;
         let back = self.fallen(state, vertex);
@@ -105,49 +109,54 @@ impl Trie {
         Ok(copy)
     }
 
-    // From the state of the first k vertices of a sequence to that of one more, where it is longer.
-    fn advance(&mut self, state: u32, sequence: &[u32], k: usize) -> Result<u32, TrieError>
+    // From the state of the first m + 1 vertices of a sequence to that of one more, where there is a copy of these. The
+    // path is what stands between the start and the end of the sequence.
+    fn advance(&mut self, state: u32, path: &[u32], m: usize) -> Result<u32, ViaError>
         requires state { state < self.old.vertices + length self.old.copied.items }
-        requires ordinary { All (λ v. v < self.old.vertices) sequence.now }
+        requires ordinary { All (λ v. v < self.old.vertices) path.now }
         ensures vertices { self.new.vertices ≡ self.old.vertices }
         ensures more { length self.old.copied.items ≤ length self.new.copied.items }
         ensures within { IfOk result (λ next. next < self.new.vertices + length self.new.copied.items) }
-        ensures is { IfOk result (λ next. (copies : List (List ℕ)) → IsTrie self.old.vertices copies self.old.next self.old.copied.items → AreUpTo (k + 1) copies →
-            (k < length sequence.now → word_of self.old.vertices copies state ≡ take k sequence.now) →
-            IsAdvanced self.old.vertices copies sequence.now k self.new.next self.new.copied.items next) }
-        ensures many { IsErrOf result TooManyVias → (copies : List (List ℕ)) → IsTrie self.old.vertices copies self.old.next self.old.copied.items →
-            (k < length sequence.now → word_of self.old.vertices copies state ≡ take k sequence.now) →
-            2 ^ 20 < length (with_prefix (k + 1) copies sequence.now) }
+        ensures is { IfOk result (λ next. (d e : ℕ) (copies : List (List ℕ)) → IsTrie self.old.vertices copies self.old.next self.old.copied.items →
+            AreUpTo ((m + 1) + 1) copies →
+            (m + 1 < length (d ∷ (path.now ++ e ∷ [])) → word_of self.old.vertices copies state ≡ take (m + 1) (d ∷ (path.now ++ e ∷ []))) →
+            IsAdvanced self.old.vertices copies (d ∷ (path.now ++ e ∷ [])) (m + 1) self.new.next self.new.copied.items next) }
+        ensures many { IsErrOf result TooManyVias → (d e : ℕ) (copies : List (List ℕ)) → IsTrie self.old.vertices copies self.old.next self.old.copied.items →
+            (m + 1 < length (d ∷ (path.now ++ e ∷ [])) → word_of self.old.vertices copies state ≡ take (m + 1) (d ∷ (path.now ++ e ∷ []))) →
+            2 ^ 20 < length (with_prefix ((m + 1) + 1) copies (d ∷ (path.now ++ e ∷ []))) }
     {
-        let most = sequence.len().saturating_sub(1);
-        if k < most {
-            self.extend(state, sequence[k])
+        if m < path.len() {
+            self.extend(state, path[m])
         } else {
             Ok(state)
         }
     }
 
-    /// Adds the prefixes of k + 1 vertices, with the states of those of k.
+    /// Adds the prefixes of m + 2 vertices, with the states of those of m + 1.
     pub fn lay(
         &mut self,
-        sequences: &[Vec<u32>],
+        groups: &[Barred],
+        stems: &[Stem],
         states: &mut [u32],
-        k: usize,
-    ) -> Result<(), TrieError>
-        requires states { length states.old ≡ length sequences.now }
+        m: usize,
+    ) -> Result<(), ViaError>
+        requires states { length states.old ≡ length stems.now }
         requires within { All (λ q. q < self.old.vertices + length self.old.copied.items) states.old }
-        requires ordinary { All (λ s. All (λ v. v < self.old.vertices) s) (words_in sequences.now) }
-        requires some { 1 ≤ k }
+        requires ordinary { All (IsBelow self.old.vertices) groups.now }
+        requires groups { All (λ s. s.group < length groups.now) stems.now }
         ensures vertices { self.new.vertices ≡ self.old.vertices }
         ensures more { length self.old.copied.items ≤ length self.new.copied.items }
         ensures within { OnOk result (All (λ q. q < self.new.vertices + length self.new.copied.items) states.new) }
-        ensures is { OnOk result ((copies : List (List ℕ)) → IsLaid self.old.vertices copies (words_in sequences.now) k self.old.next self.old.copied.items states.old →
-            IsLaid self.old.vertices (layer (k + 1) copies (words_in sequences.now)) (words_in sequences.now) (k + 1) self.new.next self.new.copied.items states.new) }
-        ensures many { IsErrOf result TooManyVias → (copies : List (List ℕ)) → IsLaid self.old.vertices copies (words_in sequences.now) k self.old.next self.old.copied.items states.old →
-            2 ^ 20 < length (layer (k + 1) copies (words_in sequences.now)) }
+        ensures is { OnOk result ((copies : List (List ℕ)) →
+            IsLaid self.old.vertices copies (map (word_by groups.now) stems.now) (m + 1) self.old.next self.old.copied.items states.old →
+            IsLaid self.old.vertices (layer ((m + 1) + 1) copies (map (word_by groups.now) stems.now)) (map (word_by groups.now) stems.now) ((m + 1) + 1) self.new.next self.new.copied.items states.new) }
+        ensures many { IsErrOf result TooManyVias → (copies : List (List ℕ)) →
+            IsLaid self.old.vertices copies (map (word_by groups.now) stems.now) (m + 1) self.old.next self.old.copied.items states.old →
+            2 ^ 20 < length (layer ((m + 1) + 1) copies (map (word_by groups.now) stems.now)) }
     {
-        for i in 0..sequences.len() {
-            let next = self.advance(states[i], sequences[i].as_slice(), k)?;
+        for i in 0..stems.len() {
+            let path = path_of(groups, stem_at(stems, i));
+            let next = self.advance(states[i], path, m)?;
             states[i] = next;
         }
         Ok(())
