@@ -9,3 +9,7 @@ pub mod RangeLemmas
 pub mod CountLemmas
 mod Drops
 pub mod DepartureLemmas
+pub mod CourseLemmas
+pub mod ViaLemmas
+pub mod FindLemmas
+pub mod CopyLemmas

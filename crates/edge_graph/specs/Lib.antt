@@ -14,3 +14,8 @@ pub mod Departures
 pub mod DepartureParts
 pub mod Limits
 pub mod LimitLaws
+pub mod Sound
+pub mod GraphLaws
+pub mod ViaWays
+pub mod WaySets
+pub mod ViaParts

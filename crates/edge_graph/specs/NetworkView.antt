@@ -1,31 +1,50 @@
 -- What a road network is to those who use it.
-use Rattle.std.specs.Prelude.{ℕ, ◌*◌, List, length}
+use Rattle.std.specs.Prelude.{ℕ, ◌+◌, ◌*◌, ◌==◌, not, List, length, map, filter, count_by}
+use Rattle.std.specs.List.{range_with_len}
 use Rattle.search_graph.specs.Digraph.{Digraph}
+use Rattle.via_paths.specs.Copies.{copies_of}
+use Rattle.via_paths.specs.Expansion.{expanded, standing}
+use Rattle.via_paths.specs.Forbidden.{last_of}
 use Rattle.road_base.specs.declared.osm_objects.Object.{Object}
 use Rattle.turn_rules.specs.Rules.{RulesView, rules_of}
 use Rattle.way_profile.specs.Vehicle.{ProfileView}
 use Rattle.edge_graph.specs.Restrictions.{applied_rules}
 use Rattle.road_segments.specs.Segment.{Segment, segments}
 use Rattle.edge_graph.specs.Turn.{turns}
+use Rattle.edge_graph.specs.ViaWays.{forbidden_words, forbids_some}
 use Rattle.road_segments.specs.Vertex.{Vertex, vertices}
 
--- the segments and the turns in their order, the profile of the vehicle that uses them, and how many turn
--- restrictions of the map apply to it and how many are ignored
+-- the segments and the turns in their order, the sequences of vertices that no walk may run through, the profile of the
+-- vehicle that uses them, and how many turn restrictions of the map apply to it and how many are ignored
 pub record NetworkView : Type 0 where
   pub segments : List Segment
   pub turns : List (ℕ × ℕ)
+  pub forbidden : List (List ℕ)
   pub profile : ProfileView
   pub applied : ℕ
   pub ignored : ℕ
 
--- the network of these segments under the rules that apply there
+-- the sequences of vertices that the rules over via ways forbid on these segments
+unfoldable pub forbidden_on : List Segment → RulesView → List (List ℕ)
+forbidden_on segments rules = forbidden_words (vertices segments) rules.kept rules.along
+
+-- how many rules over via ways forbid a sequence there, and so apply
+unfoldable pub applied_along : List Segment → RulesView → ℕ
+applied_along segments rules = count_by (forbids_some (vertices segments) rules.kept) rules.along
+
+-- and how many forbid none
+unfoldable pub ignored_along : List Segment → RulesView → ℕ
+ignored_along segments rules = count_by (λ rule. not (forbids_some (vertices segments) rules.kept rule)) rules.along
+
+-- the network of these segments under these rules, of which those over nodes apply there
 abbrev pub network_with : List Segment → RulesView → ProfileView → NetworkView
 network_with segments rules profile = record {
   segments = segments;
   turns = turns (vertices segments) rules.kept;
+  forbidden = forbidden_on segments rules;
   profile = profile;
-  applied = length rules.kept;
-  ignored = rules.ignored;
+  applied = length rules.kept + applied_along segments rules;
+  ignored = rules.ignored + ignored_along segments rules;
 }
 
 -- the network of a map for a vehicle
@@ -41,6 +60,19 @@ vertices_of network = vertices network.segments
 abbrev pub turn_graph : NetworkView → Digraph
 turn_graph network = record { vertices = 2 * length network.segments; arcs = network.turns }
 
--- the graph that is searched: today that of the turns
-abbrev pub graph_of : NetworkView → Digraph
-graph_of network = turn_graph network
+-- the words of the copies of vertices: the proper prefixes of the forbidden sequences
+abbrev pub copies_in : NetworkView → List (List ℕ)
+copies_in network = copies_of network.forbidden
+
+-- the vertex that a vertex of the searched graph stands for: itself, or the last one of its copy's word
+abbrev pub stands : NetworkView → ℕ → ℕ
+stands network q = standing (2 * length network.segments) (map last_of (copies_in network)) q
+
+-- the graph that is searched: that of the turns with a copy of a vertex for each way to come onto it along a forbidden
+-- sequence. Arc i is turn i for each turn, though its head may be a copy; behind them come the arcs out of the copies
+unfoldable pub graph_of : NetworkView → Digraph
+graph_of network = expanded (2 * length network.segments) network.forbidden (copies_in network) network.turns
+
+-- the copies of a vertex, in the order of their numbers
+abbrev pub copies_at : NetworkView → ℕ → List ℕ
+copies_at network v = filter (λ q. stands network q == v) (range_with_len (2 * length network.segments) (length (copies_in network)))

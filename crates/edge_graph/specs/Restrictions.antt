@@ -19,6 +19,7 @@ applies segments rule = list_all (meets segments rule.via) (rule.from ++ rule.to
 abbrev pub applied_rules : List Segment → RulesView → RulesView
 applied_rules segments rules = record {
   kept = filter (applies segments) rules.kept;
+  along = rules.along;
   ignored = rules.ignored + count_by (λ rule. not (applies segments rule)) rules.kept;
 }
 

@@ -1,48 +1,56 @@
 //! Road networks.
 
-ghost use Rattle.std.specs.Prelude.{◌≡◌, ℕ, IfNone, IfSome, ◌*◌, ◌/◌, ◌^◌, ◌<◌, ◌≤◌, IfOk, IfErr, OnOk, Some, All, length, MatchOption, option_map};
+ghost use Rattle.std.specs.Prelude.{◌≡◌, ℕ, ◌+◌, ◌*◌, ◌/◌, ◌^◌, ◌<◌, ◌≤◌, IfOk, IfErr, OnOk, Some, All, length, MatchOption, option_map};
 ghost use Rattle.std.specs.List.{slice_get};
-ghost use Rattle.edge_graph.specs.BuildCause.{IsBuildFault, IsTurnsFault, IsWithinLimits};
+ghost use Rattle.edge_graph.specs.BuildCause.{IsBuildFault, IsWithinLimits};
 ghost use Rattle.edge_graph.specs.Departures.{vertices_from};
-ghost use Rattle.edge_graph.specs.Leaving.{AreLeaving};
 ghost use Rattle.edge_graph.specs.Limits.{most_turns};
 ghost use Rattle.road_segments.specs.Limits.{most_segments};
-ghost use Rattle.edge_graph.specs.NetworkView.{graph_of, network_of, vertices_of};
+ghost use Rattle.edge_graph.specs.NetworkView.{copies_at, graph_of, network_of, stands, vertices_of};
+ghost use Rattle.edge_graph.specs.NetworkParts.{copies_in_map};
+ghost use Rattle.edge_graph.specs.Sound.{IsSoundNetwork};
 ghost use Rattle.edge_graph.specs.Restrictions.{applied_rules};
-ghost use Rattle.edge_graph.specs.Turn.{IsSimple, exits, turns};
+ghost use Rattle.edge_graph.specs.Turn.{IsSimple, exits};
 ghost use Rattle.turn_rules.specs.Rules.{rules_of};
-ghost use Rattle.road_segments.specs.Vertex.{vertices};
 ghost use Rattle.road_segments.specs.Segment.{segments};
-ghost use Rattle.edge_graph.specs.Fans.{AreExits, AreFans};
 ghost use Rattle.geo_integer.specs.Position.{position_of};
 ghost use Rattle.geo_integer.specs.Project.{position_at};
 ghost use Rattle.search_graph.specs.Digraph.{IsArc};
-ghost use Rattle.search_graph.specs.Faults.{AllInRange};
+ghost use Rattle.via_paths.specs.Expansion.{standing};
 ghost use Rattle.way_profile.specs.Vehicle.{IsSpeed};
 
 use crate::build_faults::BuildFault;
 use crate::departures::Departures;
-use crate::fans::fans_of;
-use crate::leaving::Leaving;
+use crate::parts::{Parts, parts_of};
 use crate::restrictions::Restrictions;
-use crate::turn_counts::turn_count;
-use crate::turn_lists::{Exits, exit_counts, turn_list};
+use crate::searched::{Arcs, copies_by_vertex, searched_graph};
 use geo_integer::point_at;
 use road_base::{Object, Place, Point, Words};
 use road_segments::{RoadFault, Roads};
-use search_graph::{Graph, GraphFault};
+use search_graph::Graph;
 use std::alloc::{AllocError, Global};
+use std::collections::HashMap;
 use std::marker::Model;
 use turn_rules::{Rules, rules};
+use via_paths::Barred;
 use way_profile::Profile;
 
-/// The road network of one vehicle. Contracts see the segments, the turns, the vehicle's profile, and how
-/// many turn restrictions apply and how many are ignored.
+/// The road network of one vehicle. Contracts see the segments, the turns, the sequences of vertices that no walk may run
+/// through, the vehicle's profile, and how many turn restrictions apply and how many are ignored.
 pub struct Network {
     roads: Roads,
     exits: Vec<u32>,
     departures: Departures,
+    /// the graph that is searched, with the copies of vertices
     graph: Graph,
+    /// how many of its arcs, from the first on, are turns
+    turns: u32,
+    /// the sequences of vertices that no walk may run through
+    forbidden: Vec<Barred>,
+    /// the vertex that each copy stands for
+    stands_for: Vec<u32>,
+    /// the copies of each vertex that has some
+    copies: HashMap<u32, Vec<u32>>,
     profile: Profile,
     applied: u64,
     ignored: u64,
@@ -55,6 +63,10 @@ impl Drop for Network {
             exits: _exits,
             departures: _departures,
             graph: _graph,
+            turns: _turns,
+            forbidden: _forbidden,
+            stands_for: _stands_for,
+            copies: _copies,
             profile: _profile,
             applied: _applied,
             ignored: _ignored,
@@ -63,31 +75,24 @@ impl Drop for Network {
 }
 
 impl Model for Network {
-    ghost use Rattle.edge_graph.specs.Leaving.{AreLeaving};
     ghost use Rattle.edge_graph.specs.NetworkView.{NetworkView};
 
     ghost Value = { NetworkView };
 
-    ghost use Rattle.edge_graph.specs.NetworkParts.{AreNetworkParts};
+    ghost use Rattle.std.specs.Prelude.{◌*◌, length};
+    ghost use Rattle.edge_graph.specs.NetworkParts.{AreNetworkParts, turns_of};
+    ghost use Rattle.via_paths.specs.Forbidden.{words_in};
 
-    ghost view = { λ n. record { segments = n.roads; turns = n.graph.arcs; profile = n.profile; applied = n.applied; ignored = n.ignored } };
+    ghost view = { λ n. record {
+      segments = n.roads;
+      turns = turns_of (2 * length n.roads) n.turns n.stands_for.items n.graph.arcs;
+      forbidden = words_in n.forbidden.items;
+      profile = n.profile;
+      applied = n.applied;
+      ignored = n.ignored;
+    } };
 
-    ghost invariant = { λ n. AreNetworkParts n.roads n.exits.items n.departures.order.items n.graph };
-}
-
-// The first arc from `d` to `e`, or None where there is none.
-fn arc_between(graph: &Graph, d: u32, e: u32) -> Option<u32>
-    requires { d < graph.now.vertices }
-    ensures { MatchOption result ((i : ℕ) → ¬ IsArc graph.now i d e) (λ i. IsArc graph.now i d e) }
-{
-    let row = graph.out(d);
-    for place in 0..row.len() {
-        let arc = row.get(place);
-        if graph.arc(arc).1 == e {
-            return Some(arc);
-        }
-    }
-    None
+    ghost invariant = { λ n. AreNetworkParts n.roads n.exits.items n.departures.order.items n.graph n.turns (words_in n.forbidden.items) n.stands_for.items n.copies };
 }
 
 // The segments of the roads that the vehicle may use.
@@ -111,81 +116,70 @@ fn restrictions_of(
     profile: &Profile,
     roads: &Roads,
 ) -> Result<Restrictions, AllocError>
-    ensures { IfOk result (λ r. r ≡ applied_rules roads.now (rules_of objects.now profile.now.vehicle)) }
+    ensures value { IfOk result (λ r. r ≡ applied_rules roads.now (rules_of objects.now profile.now.vehicle)) }
+    ensures few { IfOk result (λ r. length r.kept + length r.along + r.ignored < 2 ^ 64) }
 {
     let stated = rules(alloc, objects, profile.vehicle())?;
     Restrictions::of(alloc, stated, roads)
 }
 
-// What leaves the nodes of these roads.
-fn exits_of(alloc: Global, roads: &Roads, restrictions: &Restrictions) -> Result<Exits, AllocError>
-    ensures fans { IfOk result (λ e. AreFans (vertices roads.now) 0 e.fans.next.items e.fans.by_node) }
-    ensures counts { IfOk result (λ e. AreExits (vertices roads.now) e.counts.items) }
-    ensures leaving { IfOk result (λ e. AreLeaving (vertices roads.now) restrictions.now.kept e.leaving.runs e.leaving.groups) }
+// How many restrictions apply, where so many of those over via ways do, and how many are ignored.
+fn counts_of(restrictions: &Restrictions, along: u64) -> (u64, u64)
+    requires few { length restrictions.now.kept + length restrictions.now.along + restrictions.now.ignored < 2 ^ 64 }
+    requires along { along ≤ length restrictions.now.along }
+    ensures applied { result.0 ≡ length restrictions.now.kept + along }
+    ensures ignored { result.1 + along ≡ restrictions.now.ignored + length restrictions.now.along }
 {
-    let fans = fans_of(alloc, roads)?;
-    let counts = exit_counts(alloc, roads, &fans)?;
-    let leaving = Leaving::of(alloc, roads, restrictions)?;
-    Ok(Exits {
-        counts,
-        fans,
-        leaving,
-    })
+    let all = restrictions.along().len() as u64;
+    let applied = restrictions.applied() + along;
+    let ignored = restrictions.ignored() + (all - along);
+    (applied, ignored)
 }
 
-// All turns, unless they are more than a network may have: they are counted before any is stored.
-fn turns_of(
-    alloc: Global,
-    roads: &Roads,
-    exits: &Exits,
-    restrictions: &Restrictions,
-) -> Result<Vec<(u32, u32)>, BuildFault>
-    requires fans { AreFans (vertices roads.now) 0 exits.now.fans.next.items exits.now.fans.by_node }
-    requires counts { AreExits (vertices roads.now) exits.now.counts.items }
-    requires leaving { AreLeaving (vertices roads.now) restrictions.now.kept exits.now.leaving.runs exits.now.leaving.groups }
-    ensures list { IfOk result (λ list. list.items ≡ turns (vertices roads.now) restrictions.now.kept) }
-    ensures few { OnOk result (length (turns (vertices roads.now) restrictions.now.kept) ≤ most_turns) }
-    ensures err { IfErr result (IsTurnsFault (length (turns (vertices roads.now) restrictions.now.kept))) }
+// The vertex that a vertex of a graph with copies stands for, of `ordinary` ordinary vertices.
+fn stands_at(ordinary: u32, stands_for: &[u32], q: u32) -> u32
+    requires { q < ordinary + length stands_for.now }
+    ensures { result ≡ standing ordinary stands_for.now q }
 {
-    let Some(count) = turn_count(alloc, roads, exits, restrictions)? else {
-        return Err(BuildFault::TooManyTurns);
-    };
-    Ok(turn_list(alloc, roads, exits, restrictions, count)?)
+    if q < ordinary {
+        q
+    } else {
+        stands_for[(q - ordinary) as usize]
+    }
 }
 
-// How many exits each vertex has, and all turns, unless they are more than a network may have. What else they are
-// found by is let go of here, before there is a graph.
-fn exits_and_turns(
-    alloc: Global,
-    roads: &Roads,
-    restrictions: &Restrictions,
-) -> Result<(Vec<u32>, Vec<(u32, u32)>), BuildFault>
-    ensures counts { IfOk result (λ found. AreExits (vertices roads.now) found.0.items) }
-    ensures list { IfOk result (λ found. found.1.items ≡ turns (vertices roads.now) restrictions.now.kept) }
-    ensures few { OnOk result (length (turns (vertices roads.now) restrictions.now.kept) ≤ most_turns) }
-    ensures err { IfErr result (IsTurnsFault (length (turns (vertices roads.now) restrictions.now.kept))) }
+// The first arc from vertex `d` onto a vertex that stands for vertex `e`, if there is one.
+fn arc_between(graph: &Graph, ordinary: u32, stands_for: &[u32], d: u32, e: u32) -> Option<u32>
+    requires vertex { d < graph.now.vertices }
+    requires all { graph.now.vertices ≤ ordinary + length stands_for.now }
+    ensures { MatchOption result ((i q : ℕ) → IsArc graph.now i d q → ¬ (standing ordinary stands_for.now q ≡ e)) (λ i. (q : ℕ) × IsArc graph.now i d q × (standing ordinary stands_for.now q ≡ e)) }
 {
-    let exits = exits_of(alloc, roads, restrictions)?;
-    let turns = turns_of(alloc, roads, &exits, restrictions)?;
-    Ok((exits.counts, turns))
+    let row = graph.out(d);
+    for place in 0..row.len() {
+        let arc = row.get(place);
+        let head = graph.arc(arc).1;
+        if stands_at(ordinary, stands_for, head) == e {
+            return Some(arc);
+        }
+    }
+    None
 }
 
-// The graph of the turns, which keeps their list. Each is from a vertex to a vertex, so nothing but memory can be wanting.
-#[tactic(auto, unfolding(crate::specs::Limits::most_turns))]
-fn turn_graph(alloc: Global, roads: &Roads, list: Vec<(u32, u32)>) -> Result<Graph, GraphFault>
-    requires few { length list.items ≤ most_turns }
-    requires in_range { AllInRange (2 * length roads.now) list.items }
-    ensures vertices { IfOk result (λ graph. graph.vertices ≡ 2 * length roads.now) }
-    ensures arcs { IfOk result (λ graph. graph.arcs ≡ list.items) }
-    ensures err { IfErr result (λ fault. fault ≡ GraphFault.Memory) }
+// The copies of a vertex, none where it has no entry.
+fn copies_of(copies: &HashMap<u32, Vec<u32>>, v: u32) -> &[u32]
+    ensures { result.now ≡ copies_in_map copies.now v }
 {
-    Graph::of(alloc, 2 * roads.len(), list)
+    match copies.get(&v) {
+        Some(list) => list.as_slice(),
+        None => &[],
+    }
 }
 
 impl Network {
     /// The network of the roads among these objects that the vehicle of the profile may use, under the turn
     /// restrictions among them that apply to it. `TooManySegments` comes where it has more than 2^24
-    /// segments, `TooManyTurns` where it has no more than that but more than 2^27 turns; `Memory` at any
+    /// segments, `TooManyVias` where it has no more than that but the searched graph more than 2^20 copies of
+    /// vertices, `TooManyTurns` where it has no more than these but that graph more than 2^27 arcs; `Memory` at any
     /// time.
     pub fn build(
         alloc: Global,
@@ -199,9 +193,18 @@ impl Network {
         let roads = roads_of(alloc, objects, profile)?;
         let departures = Departures::of(alloc, &roads)?;
         let restrictions = restrictions_of(alloc, objects, profile, &roads)?;
-        let (applied, ignored) = (restrictions.applied(), restrictions.ignored());
-        let (exits, turns) = exits_and_turns(alloc, &roads, &restrictions)?;
-        let Ok(graph) = turn_graph(alloc, &roads, turns) else {
+        let Parts {
+            exits,
+            found,
+            turns,
+            arcs,
+        } = parts_of(alloc, &roads, &departures, &restrictions)?;
+        let (applied, ignored) = counts_of(&restrictions, found.applied);
+        let ordinary = 2 * roads.len();
+        let copies = copies_by_vertex(alloc, ordinary, &arcs.stands_for)?;
+        let Arcs { list, stands_for } = arcs;
+        let vertices = ordinary + stands_for.len() as u32;
+        let Ok(graph) = searched_graph(alloc, vertices, list) else {
             return Err(BuildFault::Memory);
         };
         let profile = profile.try_clone(alloc)?;
@@ -210,6 +213,10 @@ impl Network {
             exits,
             departures,
             graph,
+            turns,
+            forbidden: found.groups,
+            stands_for,
+            copies,
             profile,
             applied,
             ignored,
@@ -333,7 +340,7 @@ impl Network {
         ensures value { result ≡ length self.now.turns }
         ensures few { result ≤ most_turns }
     {
-        self.graph.arcs()
+        self.turns
     }
 
     /// The number of the turn from vertex `d` onto vertex `e`, or None exactly where there is none. There is
@@ -343,20 +350,36 @@ impl Network {
         ensures value { MatchOption result ((i : ℕ) → ¬ (slice_get self.now.turns i ≡ Some (d, e))) (λ i. slice_get self.now.turns i ≡ Some (d, e)) }
         ensures simple { IsSimple self.now.turns }
     {
-        arc_between(&self.graph, d, e)
+        arc_between(&self.graph, 2 * self.roads.len(), &self.stands_for, d, e)
     }
 
-    /// The graph of the vertices, whose arcs are the turns: arc i is turn i. The turns are numbered from 0
-    /// by the vertex that they leave and then by the one that they enter, and no two are from one vertex
-    /// onto the same other. There are no more vertices than a graph that is searched may have.
+    /// The graph that is searched: its first vertices are those of the network, each of which stands for itself, and behind
+    /// them come copies. Arc i is turn i for each turn, and its head stands for that of the turn; behind them come the arcs
+    /// out of the copies. The turns are numbered from 0 by the vertex that they leave and then by the one that they enter,
+    /// and no two are from one vertex onto the same other. There are no more vertices than a graph that is searched may have.
     pub fn graph(&self) -> &Graph
         ensures value { result.now ≡ graph_of self.now }
         ensures limits { IsWithinLimits self.now }
         ensures few { (graph_of self.now).vertices ≤ 2 ^ 27 }
-        ensures simple { IsSimple self.now.turns }
-        ensures in_range { AllInRange (2 * length self.now.segments) self.now.turns }
+        ensures sound { IsSoundNetwork self.now }
     {
         &self.graph
+    }
+
+    /// The vertex of the network that a vertex of the searched graph stands for.
+    pub fn stands_for(&self, q: u32) -> u32
+        requires { q < (graph_of self.now).vertices }
+        ensures value { result ≡ stands self.now q }
+        ensures ordinary { result < 2 * length self.now.segments }
+    {
+        stands_at(2 * self.roads.len(), &self.stands_for, q)
+    }
+
+    /// The copies of vertex `v` in the searched graph, in ascending order of their numbers.
+    pub fn copies(&self, v: u32) -> &[u32]
+        ensures { result.now ≡ copies_at self.now v }
+    {
+        copies_of(&self.copies, v)
     }
 
     /// The profile of the vehicle.

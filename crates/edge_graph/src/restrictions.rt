@@ -1,10 +1,10 @@
 //! The turn restrictions that apply in a network, by the nodes at which they forbid turns.
 
-ghost use Rattle.std.specs.Prelude.{◌≡◌, ℤ, false, not, ◌&&◌, ◌+◌, ◌*◌, ◌^◌, ◌<◌, ◌≤◌, ◌↔◌, IfOk, IsTrue, length, map, count_by};
+ghost use Rattle.std.specs.Prelude.{◌≡◌, ℤ, false, not, All, ◌&&◌, ◌+◌, ◌*◌, ◌^◌, ◌<◌, ◌≤◌, ◌↔◌, IfOk, IsTrue, length, map, count_by};
 ghost use Rattle.std.specs.HashSet.{contains};
 ghost use Rattle.std.specs.List.{items_where_true, list_all};
 ghost use Rattle.std.specs.Ordering.{int_eq};
-ghost use Rattle.turn_rules.specs.Rules.{forbids};
+ghost use Rattle.turn_rules.specs.Rules.{HasVias, forbids};
 ghost use Rattle.edge_graph.specs.Restrictions.{applies, applied_rules, is_forbidden_at};
 ghost use Rattle.edge_graph.specs.RestrictionParts.{AreMet, has_via, pair_eq};
 ghost use Rattle.edge_graph.specs.Decisions.{MatchOnto};
@@ -14,7 +14,7 @@ use road_segments::Roads;
 use std::alloc::{AllocError, Global};
 use std::collections::HashSet;
 use std::marker::Model;
-use turn_rules::Rules;
+use turn_rules::{Rules, ViaRestriction};
 
 /// The turn restrictions that apply in a network: an entry or two for each of their ways beside the
 /// restrictions of the map. Contracts see the rules that apply, and how many others are ignored.
@@ -46,7 +46,7 @@ impl Model for Restrictions {
     ghost use Rattle.std.specs.List.{items_where_true};
     ghost use Rattle.edge_graph.specs.Decisions.{AreRestrictionParts};
 
-    ghost view = { λ r. record { kept = items_where_true r.applies.items r.rules.kept; ignored = r.ignored } };
+    ghost view = { λ r. record { kept = items_where_true r.applies.items r.rules.kept; along = r.rules.along; ignored = r.ignored } };
 
     ghost invariant = { λ r. AreRestrictionParts r.rules.kept r.applies.items r.nodes r.decisions.forbidden r.decisions.no_u_turn r.decisions.only };
 }
@@ -155,7 +155,16 @@ impl Restrictions {
         })
     }
 
-    /// How many restrictions apply.
+    /// The restrictions over via ways, whether they forbid something in the network or not. Each has one to four via
+    /// ways.
+    pub fn along(&self) -> &[ViaRestriction]
+        ensures value { result.now ≡ self.now.along }
+        ensures vias { All HasVias result.now }
+    {
+        self.rules.along()
+    }
+
+    /// How many restrictions over nodes apply.
     pub fn applied(&self) -> u64
         ensures { result ≡ length self.now.kept }
     {

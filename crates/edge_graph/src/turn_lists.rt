@@ -23,8 +23,8 @@ pub struct Exits {
     pub leaving: Leaving,
 }
 
-// The other direction of a vertex's segment.
-fn other_way(v: u32) -> u32
+/// The other direction of a vertex's segment.
+pub fn other_way(v: u32) -> u32
     ensures { result ≡ opposite v }
 {
     if v % 2 == 0 { v + 1 } else { v - 1 }

@@ -30,7 +30,7 @@ returns c =
     ∙ ap (count_by (λ flag. not flag)) (c.deref-3.ensures.value ∙ c.in_ok-applies.ensures)
     ∙ count_by-map (applies segments) rules.kept in
     let ignored : c.ignored.result + c.count_unmet.result ≡ rules.ignored + count_by (λ r. not (applies segments r)) rules.kept = omega (arith, c.ignored.ensures, counted) in
-    λ i. record { kept = kept i; ignored = ignored i }
+    λ i. record { kept = kept i; along = rules.along; ignored = ignored i }
 
 pub invariant_of-result : goal.invariant_of-result
 invariant_of-result c =

@@ -1,0 +1,166 @@
+//! What a network is made of beside its roads.
+
+ghost use Rattle.std.specs.Prelude.{◌≡◌, ◌*◌, ◌≤◌, All, IfOk, IfErr, OnOk, length};
+ghost use Rattle.via_paths.specs.Copies.{copies_of};
+ghost use Rattle.via_paths.specs.Forbidden.{HasPath, IsBelow, words_in};
+ghost use Rattle.edge_graph.specs.BuildCause.{IsSearchedFault, IsTurnsFault};
+ghost use Rattle.edge_graph.specs.DepartureParts.{AreDepartures};
+ghost use Rattle.edge_graph.specs.Fans.{AreExits, AreFans};
+ghost use Rattle.edge_graph.specs.Leaving.{AreLeaving};
+ghost use Rattle.edge_graph.specs.Limits.{most_copies, most_turns};
+ghost use Rattle.edge_graph.specs.NetworkParts.{AreArcsOf, searched};
+ghost use Rattle.edge_graph.specs.NetworkView.{applied_along, forbidden_on};
+ghost use Rattle.edge_graph.specs.Turn.{turns};
+ghost use Rattle.road_segments.specs.Limits.{most_segments};
+ghost use Rattle.road_segments.specs.Vertex.{vertices};
+
+use crate::build_faults::BuildFault;
+use crate::courses::Courses;
+use crate::departures::Departures;
+use crate::fans::fans_of;
+use crate::leaving::Leaving;
+use crate::restrictions::Restrictions;
+use crate::searched::{Arcs, arcs_of, copies_for};
+use crate::turn_counts::turn_count;
+use crate::turn_lists::{Exits, exit_counts, turn_list};
+use crate::turning::Turning;
+use crate::via_ways::ViaWays;
+use crate::via_words::{Found, Vias};
+use road_segments::Roads;
+use std::alloc::{AllocError, Global};
+
+/// How many exits each vertex has, what the restrictions over via ways forbid, how many turns there are, and the arcs of
+/// the graph that is searched.
+#[derive(Drop)]
+pub struct Parts {
+    pub exits: Vec<u32>,
+    pub found: Found,
+    pub turns: u32,
+    pub arcs: Arcs,
+}
+
+// What leaves the nodes of these roads.
+fn exits_of(alloc: Global, roads: &Roads, restrictions: &Restrictions) -> Result<Exits, AllocError>
+    ensures fans { IfOk result (λ e. AreFans (vertices roads.now) 0 e.fans.next.items e.fans.by_node) }
+    ensures counts { IfOk result (λ e. AreExits (vertices roads.now) e.counts.items) }
+    ensures leaving { IfOk result (λ e. AreLeaving (vertices roads.now) restrictions.now.kept e.leaving.runs e.leaving.groups) }
+{
+    let fans = fans_of(alloc, roads)?;
+    let counts = exit_counts(alloc, roads, &fans)?;
+    let leaving = Leaving::of(alloc, roads, restrictions)?;
+    Ok(Exits {
+        counts,
+        fans,
+        leaving,
+    })
+}
+
+// What the restrictions over via ways forbid. Without such restrictions nothing is looked for.
+#[tactic(auto, unfolding(crate::specs::NetworkView::forbidden_on, crate::specs::NetworkView::applied_along))]
+fn found_of(
+    alloc: Global,
+    roads: &Roads,
+    departures: &Departures,
+    restrictions: &Restrictions,
+    exits: &[u32],
+) -> Result<Found, AllocError>
+    requires departures { AreDepartures (vertices roads.now) departures.now.order.items }
+    requires exits { AreExits (vertices roads.now) exits.now }
+    ensures words { IfOk result (λ found. words_in found.groups.items ≡ forbidden_on roads.now restrictions.now) }
+    ensures paths { IfOk result (λ found. All HasPath found.groups.items) }
+    ensures below { IfOk result (λ found. All (IsBelow (2 * length roads.now)) found.groups.items) }
+    ensures applied { IfOk result (λ found. found.applied ≡ applied_along roads.now restrictions.now) }
+    ensures few { IfOk result (λ found. found.applied ≤ length restrictions.now.along) }
+{
+    let rules = restrictions.along();
+    if rules.is_empty() {
+        let groups = Vec::new(alloc);
+        return Ok(Found { groups, applied: 0 });
+    }
+    let vias = Vias {
+        turning: Turning {
+            roads,
+            restrictions,
+            counts: exits,
+        },
+        departures,
+        rules,
+        ways: ViaWays::of(alloc, roads, rules)?,
+        courses: Courses::of(alloc, rules)?,
+    };
+    vias.find(alloc)
+}
+
+// All turns, unless they are more than a network may have: they are counted before any is stored.
+fn turns_of(
+    alloc: Global,
+    roads: &Roads,
+    exits: &Exits,
+    restrictions: &Restrictions,
+) -> Result<Vec<(u32, u32)>, BuildFault>
+    requires fans { AreFans (vertices roads.now) 0 exits.now.fans.next.items exits.now.fans.by_node }
+    requires counts { AreExits (vertices roads.now) exits.now.counts.items }
+    requires leaving { AreLeaving (vertices roads.now) restrictions.now.kept exits.now.leaving.runs exits.now.leaving.groups }
+    ensures list { IfOk result (λ list. list.items ≡ turns (vertices roads.now) restrictions.now.kept) }
+    ensures few { OnOk result (length (turns (vertices roads.now) restrictions.now.kept) ≤ most_turns) }
+    ensures err { IfErr result (IsTurnsFault (length (turns (vertices roads.now) restrictions.now.kept))) }
+{
+    let Some(count) = turn_count(alloc, roads, exits, restrictions)? else {
+        return Err(BuildFault::TooManyTurns);
+    };
+    Ok(turn_list(alloc, roads, exits, restrictions, count)?)
+}
+
+// How many exits each vertex has, and all turns. What else they are found by is let go of here.
+fn counts_and_turns(
+    alloc: Global,
+    roads: &Roads,
+    restrictions: &Restrictions,
+    exits: Exits,
+) -> Result<(Vec<u32>, Vec<(u32, u32)>), BuildFault>
+    requires fans { AreFans (vertices roads.now) 0 exits.fans.next.items exits.fans.by_node }
+    requires counts { AreExits (vertices roads.now) exits.counts.items }
+    requires leaving { AreLeaving (vertices roads.now) restrictions.now.kept exits.leaving.runs exits.leaving.groups }
+    ensures counts { IfOk result (λ found. AreExits (vertices roads.now) found.0.items) }
+    ensures list { IfOk result (λ found. found.1.items ≡ turns (vertices roads.now) restrictions.now.kept) }
+    ensures few { OnOk result (length (turns (vertices roads.now) restrictions.now.kept) ≤ most_turns) }
+    ensures err { IfErr result (IsTurnsFault (length (turns (vertices roads.now) restrictions.now.kept))) }
+{
+    let turns = turns_of(alloc, roads, &exits, restrictions)?;
+    Ok((exits.counts, turns))
+}
+
+/// The parts of the network of these roads. The copies of vertices are counted before the turns, and these before any is
+/// stored.
+pub fn parts_of(
+    alloc: Global,
+    roads: &Roads,
+    departures: &Departures,
+    restrictions: &Restrictions,
+) -> Result<Parts, BuildFault>
+    requires few { length roads.now ≤ most_segments }
+    requires departures { AreDepartures (vertices roads.now) departures.now.order.items }
+    ensures exits { IfOk result (λ p. AreExits (vertices roads.now) p.exits.items) }
+    ensures words { IfOk result (λ p. words_in p.found.groups.items ≡ forbidden_on roads.now restrictions.now) }
+    ensures paths { IfOk result (λ p. All HasPath p.found.groups.items) }
+    ensures below { IfOk result (λ p. All (IsBelow (2 * length roads.now)) p.found.groups.items) }
+    ensures applied { IfOk result (λ p. p.found.applied ≡ applied_along roads.now restrictions.now) }
+    ensures few { IfOk result (λ p. p.found.applied ≤ length restrictions.now.along) }
+    ensures turns { IfOk result (λ p. p.turns ≡ length (turns (vertices roads.now) restrictions.now.kept)) }
+    ensures arcs { IfOk result (λ p. AreArcsOf (2 * length roads.now) (turns (vertices roads.now) restrictions.now.kept) (forbidden_on roads.now restrictions.now) p.arcs.stands_for.items p.arcs.list.items) }
+    ensures few_copies { OnOk result (length (copies_of (forbidden_on roads.now restrictions.now)) ≤ most_copies) }
+    ensures err { IfErr result (IsSearchedFault (length (copies_of (forbidden_on roads.now restrictions.now))) (length (searched roads.now restrictions.now).arcs)) }
+{
+    let exits = exits_of(alloc, roads, restrictions)?;
+    let found = found_of(alloc, roads, departures, restrictions, &exits.counts)?;
+    let copies = copies_for(alloc, 2 * roads.len(), &found.groups)?;
+    let (exits, list) = counts_and_turns(alloc, roads, restrictions, exits)?;
+    let turns = list.len() as u32;
+    let arcs = arcs_of(alloc, copies, list)?;
+    Ok(Parts {
+        exits,
+        found,
+        turns,
+        arcs,
+    })
+}
