@@ -11,6 +11,7 @@ use Rattle.road_segments.specs.Vertex.{Vertex}
 use Rattle.search_graph.specs.declared.costs.WeightDurLen.{WeightDurLen}
 use Rattle.search_graph.specs.Digraph.{Weighting}
 use Rattle.metric_make.specs.Avoiding.{avoided, avoided_cost, avoided_costs, set_at}
+use Rattle.metric_make.specs.MetricOf.{with_copies}
 use Rattle.metric_make.proofs.MatchLemmas.{field-at}
 
 -- one vertex more
@@ -37,7 +38,7 @@ avoided_costs-step set vs all costs new v classes cost lt read paid pushed so_fa
 pub avoided-made : (network : NetworkView) (k : ℕ) (set : List (List ℕ)) (kept w made : Weighting WeightDurLen) (vertex : List (Option WeightDurLen)) → k < length network.profile.excludable
     → set ≡ get_or network.profile.excludable k set
     → kept ≡ w
-    → vertex ≡ avoided_costs set (vertices_of network) kept.vertex
+    → vertex ≡ with_copies network (avoided_costs set (vertices_of network) kept.vertex)
     → made ≡ record { vertex = vertex; arc = kept.arc }
     → made ≡ avoided network (Some k) w
 avoided-made network k set kept w made vertex lt read same costs is =
@@ -45,5 +46,5 @@ avoided-made network k set kept w made vertex lt read same costs is =
     let set_is : set_at network.profile k ≡ set = ap (λ (o : Option (List (List ℕ))). unwrap_or o []) (slice_get-get_or network.profile.excludable k set lt) ∙ sym read in
     is
     ∙ ap (λ (costs : List (Option WeightDurLen)). record { vertex = costs; arc = kept.arc }) costs
-    ∙ ap (λ (names : List (List ℕ)). record { vertex = avoided_costs names vs kept.vertex; arc = kept.arc }) (sym set_is)
-    ∙ ap (λ (u : Weighting WeightDurLen). record { vertex = avoided_costs (set_at network.profile k) vs u.vertex; arc = u.arc }) same
+    ∙ ap (λ (names : List (List ℕ)). record { vertex = with_copies network (avoided_costs names vs kept.vertex); arc = kept.arc }) (sym set_is)
+    ∙ ap (λ (u : Weighting WeightDurLen). record { vertex = with_copies network (avoided_costs (set_at network.profile k) vs u.vertex); arc = u.arc }) same

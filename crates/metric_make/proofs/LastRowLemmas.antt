@@ -1,8 +1,9 @@
 -- The rows of a file by the nodes that they are for, and which of them are matched.
 use Rattle.std.proofs.Common.{◌≡◌, ℕ, zero, suc, ◌+◌, ◌-◌, ◌<◌, Bool, true, false, cond, List, [], ◌∷◌, ◌++◌, length, get_or, take, reverse, Option, Some, None, All, arith, refl, sym, subst, ap, ◌∙◌}
 use Rattle.std.specs.Prelude.{◌&&◌, ◌||◌, count_by, find, ℤ}
-use Rattle.std.specs.HashMap.{HashMap, get}
-use Rattle.std.specs.List.{slice_get}
+use Rattle.std.specs.HashMap.{HashMap, get, values}
+use Rattle.std.specs.List.{list_all, slice_get}
+use Rattle.std.specs.Map.{lookup, values_of}
 use Rattle.std.specs.Option.{ForSome, option_map_or}
 use Rattle.std.specs.Ordering.{int_eq}
 use Rattle.std.specs.declared.hash.FoldHasher.{FoldHasher}
@@ -11,7 +12,7 @@ use Rattle.std.proofs.lemmas.Bool.{and_from, and_parts}
 use Rattle.std.proofs.lemmas.Bool.Decides.{Decides-int_eq}
 use Rattle.std.proofs.lemmas.List.{get_or-reverse, length-reverse, reverse-append, take_more}
 use Rattle.std.proofs.lemmas.List.Elements.{All-head, All-tail}
-use Rattle.std.proofs.lemmas.List.Sums.{count_by_more_yes, count_by_more_no}
+use Rattle.std.proofs.lemmas.List.Sums.{count_by_more_yes, count_by_more_no, sum_by-cons}
 use Rattle.std.proofs.lemmas.Option.{get_or_from_slice_get, none-some, same_Some, slice_get_within}
 use Rattle.metric_make.specs.LastRows.{AreMarked, pair_eq, triple_eq, row_in}
 use Rattle.metric_make.specs.TrafficRows.{last_where}
@@ -140,6 +141,36 @@ matched-at {A} {K} eq last key rows i row test at for rows_are matched marks = b
   by-entry : (o : Option LastRow) → get eq last key ≡ o → option_map_or (λ entry. entry.matched) (get eq last key) false ≡ matched key
   by-entry None h = absurd (last_where-absent test rows i row at for (sym rows_are ∙ ap (row_in rows) h))
   by-entry (Some e) h = ap (λ (o : Option LastRow). option_map_or (λ entry. entry.matched) o false) h ∙ marks key e h
+
+one-or-later : (b : Bool) (one found : LastRow) (later : Option LastRow) → cond b (Some one) later ≡ Some found → one.matched ≡ true → (later ≡ Some found → found.matched ≡ true) → found.matched ≡ true
+one-or-later true one found later there first others = ap (λ (e : LastRow). e.matched) (sym (same_Some one found there)) ∙ first
+one-or-later false one found later there first others = others there
+
+-- an entry is matched where all are
+found-matched : {K : Type 0} (test : K → Bool) (entries : List (K × LastRow)) (found : LastRow) → list_all (λ e. e.matched) (values_of entries) ≡ true → lookup test entries ≡ Some found → found.matched ≡ true
+found-matched {K} test [] found all there = absurd (none-some found there)
+found-matched {K} test (x ∷ xs) found all there =
+    let parts = and_parts x.1.matched (list_all (λ e. e.matched) (values_of xs)) all in
+    one-or-later (test x.0) x.1 found (lookup test xs) there parts.0 (found-matched test xs found parts.1)
+
+-- the entry of a row's own nodes is matched where all are
+pub matched-of-all : {A K : Type 0} (eq : K → K → Bool) (last : Entries K) (key : K) (rows : List A) (i : ℕ) (row : A) (test : A → Bool)
+    → slice_get rows i ≡ Some row → test row ≡ true → row_in rows (get eq last key) ≡ last_where test rows → list_all (λ e. e.matched) (values last) ≡ true
+    → (matched : K → Bool) → AreMarked eq matched last → matched key ≡ true
+matched-of-all {A} {K} eq last key rows i row test at for rows_are all matched marks = by-entry (get eq last key) refl where
+  by-entry : (o : Option LastRow) → get eq last key ≡ o → matched key ≡ true
+  by-entry None h = absurd (last_where-absent test rows i row at for (sym rows_are ∙ ap (row_in rows) h))
+  by-entry (Some e) h = sym (marks key e h) ∙ found-matched (eq key) last.entries e all h
+
+-- where none is counted there are none
+pub none-counted : {A : Type 0} (p : A → Bool) (rows : List A) → ((i : ℕ) (row : A) → slice_get rows i ≡ Some row → p row ≡ false) → 0 ≡ count_by p rows
+none-counted {A} p [] none = refl
+none-counted {A} p (x ∷ xs) none =
+    let number : Bool → ℕ = λ b. cond b 1 0 in
+    let first : number (p x) ≡ 0 = ap number (none 0 x refl) in
+    let rest : 0 ≡ count_by p xs = none-counted p xs (λ i row at. none (suc i) row at) in
+    let both : count_by p (x ∷ xs) ≡ number (p x) + count_by p xs = sum_by-cons (λ y. number (p y)) x xs in
+    omega (arith, first, rest, both)
 
 -- one row more is counted or not
 pub count-step : {A : Type 0} (p : A → Bool) (rows : List A) (i count more : ℕ) (row : A) (b : Bool)

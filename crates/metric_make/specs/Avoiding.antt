@@ -7,6 +7,7 @@ use Rattle.search_graph.specs.declared.costs.WeightDurLen.{WeightDurLen}
 use Rattle.search_graph.specs.Digraph.{Weighting}
 use Rattle.edge_graph.specs.NetworkView.{NetworkView, vertices_of}
 use Rattle.road_segments.specs.Vertex.{Vertex}
+use Rattle.metric_make.specs.MetricOf.{with_copies}
 use Rattle.metric_make.specs.RoadMetric.{RoadMetric}
 use Rattle.way_profile.specs.Vehicle.{ProfileView}
 
@@ -29,7 +30,7 @@ set_at profile set = unwrap_or (slice_get profile.excludable set) []
 abbrev pub avoided : NetworkView → Option ℕ → Weighting WeightDurLen → Weighting WeightDurLen
 avoided network None weights = weights
 avoided network (Some set) weights = record {
-  vertex = avoided_costs (set_at network.profile set) (vertices_of network) weights.vertex;
+  vertex = with_copies network (avoided_costs (set_at network.profile set) (vertices_of network) weights.vertex);
   arc = weights.arc;
 }
 

@@ -1,5 +1,6 @@
 pub mod AvoidLaws
 pub mod Avoiding
+pub mod CopyLaws
 pub mod LastRows
 pub mod MetricOf
 pub mod RoadMetric

@@ -1,6 +1,6 @@
 -- What the vertices and turns of a network cost by the profile of the vehicle and the rows of traffic files (this
 -- project's rule).
-use Rattle.std.specs.Prelude.{ℕ, ◌+◌, ◌*◌, ◌/◌, ◌^◌, ◌<◌, ◌==◌, nat_le, max, map, Bool, false, List, [], Option, Some, None, All, if◌then◌else◌}
+use Rattle.std.specs.Prelude.{ℕ, ◌+◌, ◌*◌, ◌/◌, ◌^◌, ◌<◌, ◌==◌, nat_le, max, map, Bool, false, List, [], ◌++◌, get_or, Option, Some, None, All, if◌then◌else◌}
 use Rattle.std.specs.List.{slice_get}
 use Rattle.std.specs.Option.{ForSome}
 use Rattle.geo_integer.specs.Bearing.{bearing_of, modifier_of}
@@ -10,12 +10,14 @@ use Rattle.search_graph.specs.Digraph.{Weighting}
 use Rattle.search_graph.specs.RoadCosts.{road_cost_ops}
 use Rattle.search_graph.specs.Weighted.{IsWeighting}
 use Rattle.search_graph.specs.declared.costs.WeightDurLen.{WeightDurLen}
-use Rattle.edge_graph.specs.NetworkView.{NetworkView, graph_of, vertices_of}
+use Rattle.edge_graph.specs.NetworkView.{NetworkView, copies_in, graph_of, stands, turn_graph, vertices_of}
 use Rattle.edge_graph.specs.Turn.{exits}
 use Rattle.road_segments.specs.Vertex.{Vertex, opposite}
 use Rattle.metric_make.specs.TrafficRows.{speed_for, turn_for, unmatched_of}
 use Rattle.traffic_files.specs.declared.rows.SpeedRow.{SpeedRow}
 use Rattle.traffic_files.specs.declared.rows.TurnRow.{TurnRow}
+use Rattle.via_paths.specs.Forbidden.{last_of}
+use Rattle.via_paths.specs.Standing.{IsCostedAlike}
 use Rattle.way_profile.specs.Vehicle.{ProfileView, penalty_of}
 
 -- the deciseconds for so many decimetres at so many thousandths of km/h, rounded down, at least 1
@@ -89,7 +91,15 @@ turn_cost_at network rows from to _ _ = record { weight = 0; duration = 0; lengt
 abbrev pub turn_cost : NetworkView → List TurnRow → ℕ × ℕ → WeightDurLen
 turn_cost network rows turn = turn_cost_at network rows turn.0 turn.1 (slice_get (vertices_of network) turn.0) (slice_get (vertices_of network) turn.1)
 
--- what the metric of a network is to those who use it: the costs, and how many rows matched nothing
+-- a copy of a vertex costs what the vertex does: behind the costs of the vertices those of the copies
+abbrev pub with_copies : NetworkView → List (Option WeightDurLen) → List (Option WeightDurLen)
+with_copies network costs = costs ++ map (λ word. get_or costs (last_of word) None) (copies_in network)
+
+-- an arc of the searched graph costs what the turn does for which it stands
+abbrev pub arc_cost : NetworkView → List TurnRow → ℕ × ℕ → WeightDurLen
+arc_cost network rows arc = turn_cost network rows (stands network arc.0, stands network arc.1)
+
+-- what the metric of a network is to those who use it: the costs of the graph that is searched, and how many rows matched nothing
 pub record MetricView : Type 0 where
   pub weights : Weighting WeightDurLen
   pub unmatched : ℕ
@@ -99,7 +109,10 @@ pub record MetricView : Type 0 where
 -- and a vertex that is closed leaves all turns as they are
 abbrev pub metric_of : NetworkView → List SpeedRow → List TurnRow → MetricView
 metric_of network speeds turns = record {
-  weights = record { vertex = map (vertex_cost network.profile.by_distance speeds) (vertices_of network); arc = map (turn_cost network turns) network.turns };
+  weights = record {
+    vertex = with_copies network (map (vertex_cost network.profile.by_distance speeds) (vertices_of network));
+    arc = map (arc_cost network turns) (graph_of network).arcs;
+  };
   unmatched = unmatched_of network speeds turns;
 }
 
@@ -117,6 +130,12 @@ pub record AreWithinUnit (weights : Weighting WeightDurLen) : Type 0 where
   pub arc : All (λ a. road_cost_ops.units a 1) weights.arc
   pub short : All (λ o. ForSome o IsShort) weights.vertex
 
--- what a metric of a network owes to those who search under it: its costs are a weighting of the graph that is searched
+-- each vertex and each arc of the searched graph costs what the vertex and the turn do for which it stands
+abbrev pub AreAlike : NetworkView → Weighting WeightDurLen → Type 0
+AreAlike network weights = IsCostedAlike (stands network) (turn_graph network) weights (graph_of network) weights
+
+-- what a metric of a network owes to those who search under it: its costs are a weighting of the graph that is searched, in
+-- which each vertex and each arc costs what the vertex and the turn do for which it stands
 pub record IsMetricOn (network : NetworkView) (weights : Weighting WeightDurLen) : Type 0 where
   pub weighting : IsWeighting road_cost_ops (graph_of network) weights
+  pub alike : AreAlike network weights

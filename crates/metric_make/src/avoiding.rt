@@ -1,6 +1,6 @@
 //! What the vertices of a network cost those who avoid some classes of ways.
 
-ghost use Rattle.std.specs.Prelude.{◌≡◌, ◌*◌, IfOk, None, length, if◌then◌else◌};
+ghost use Rattle.std.specs.Prelude.{◌≡◌, ◌*◌, ◌≤◌, IfOk, None, length, if◌then◌else◌};
 ghost use Rattle.std.specs.List.{list_any};
 ghost use Rattle.edge_graph.specs.NetworkView.{vertices_of};
 ghost use Rattle.metric_make.specs.Avoiding.{avoided_costs};
@@ -33,18 +33,18 @@ fn avoided_cost(set: &Words, classes: &Words, cost: Option<WeightDurLen>) -> Opt
     }
 }
 
-/// What each vertex costs those who avoid the set.
+/// What each vertex of the network costs those who avoid the set. There is room behind them for the copies.
 pub(crate) fn avoided_costs(
     alloc: Global,
     network: &Network,
     weights: &Weights<WeightDurLen>,
     set: &Words,
 ) -> Result<CostList<WeightDurLen>, AllocError>
-    requires { length weights.now.vertex ≡ 2 * length network.now.segments }
+    requires { 2 * length network.now.segments ≤ length weights.now.vertex }
     ensures { IfOk result (λ costs. costs ≡ avoided_costs set.now (vertices_of network.now) weights.now.vertex) }
 {
     let vertices = 2 * network.segments();
-    let mut costs = CostList::with_capacity(alloc, vertices as usize)?;
+    let mut costs = CostList::with_capacity(alloc, network.graph().vertices() as usize)?;
     for v in 0..vertices {
         costs.push(avoided_cost(set, network.classes(v), weights.vertex(v)))?;
     }

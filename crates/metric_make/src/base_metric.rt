@@ -9,6 +9,7 @@ ghost use Rattle.search_graph.specs.RoadCosts.{road_cost_ops};
 ghost use Rattle.traffic_files.specs.Ranges.{ArePenaltiesInRange, AreSpeedsInRange};
 
 use crate::avoiding::avoided_costs;
+use crate::copies::{with_arcs_out_of_copies, with_copies};
 use crate::turns::turn_costs;
 use crate::vertices::vertex_costs;
 use edge_graph::Network;
@@ -17,9 +18,10 @@ use std::alloc::{AllocError, Global};
 use std::marker::Model;
 use traffic_files::{SpeedRow, TurnRow};
 
-/// What each vertex and each turn of a network costs: 8 bytes a vertex and 8 bytes a turn, and 24 more for one whose
-/// weight is neither its duration nor its length, as a rate or the weight of a row may make it. Each cost is within one
-/// unit, 2^32 of each part.
+/// What each vertex and each arc of the graph that is searched costs, the vertices and turns of a network and behind them
+/// the copies and the arcs out of these: 8 bytes a vertex and 8 bytes an arc, and 24 more for one whose weight is neither
+/// its duration nor its length, as a rate or the weight of a row may make it. Each cost is within one unit, 2^32 of each
+/// part.
 pub struct BaseMetric {
     weights: Weights<WeightDurLen>,
     unmatched: u64,
@@ -67,7 +69,8 @@ pub fn base(alloc: Global, network: &Network) -> Result<BaseMetric, AllocError>
 /// metre per unit of weight, the vertex weighs its decimetres * 1000 / rate in tenths of that unit, rounded down, at
 /// least 1, however the profile weighs. A row of turns is for each turn over its three nodes: its penalty counts in
 /// place of the profile's whole one, and so does its weight, in tenths, where it has one. Of several rows for one vertex
-/// or turn the last counts alone. It answers an error only where memory runs out.
+/// or turn the last counts alone. A copy of a vertex costs what the vertex does, and an arc of the searched graph what the
+/// turn does for which it stands. It answers an error only where memory runs out.
 pub fn metric(
     alloc: Global,
     network: &Network,
@@ -81,17 +84,19 @@ pub fn metric(
 {
     let vertex = vertex_costs(alloc, network, speeds)?;
     let arc = turn_costs(alloc, network, turns)?;
+    let vertices = with_copies(network, vertex.costs)?;
+    let arcs = with_arcs_out_of_copies(network, arc.costs)?;
     Ok(BaseMetric {
-        weights: small_weights(alloc, network.graph(), vertex.costs, arc.costs)?,
+        weights: small_weights(alloc, network.graph(), vertices, arcs)?,
         unmatched: vertex.unmatched + arc.unmatched,
     })
 }
 
 impl BaseMetric {
     /// The metric of those who avoid the classes of a set, that of this number among the profile's `excludable`:
-    /// each vertex of a way with one of these classes is closed. All else is as here: turns keep their costs, whose
-    /// memory both share, and so the number of exits that they were made by. It takes 8 bytes a vertex, and answers
-    /// an error only where memory runs out.
+    /// each vertex of a way with one of these classes is closed, and so are its copies. All else is as here: turns keep
+    /// their costs, whose memory both share, and so the number of exits that they were made by. It takes 8 bytes a
+    /// vertex, and answers an error only where memory runs out.
     pub fn avoid(
         &self,
         alloc: Global,
@@ -104,7 +109,8 @@ impl BaseMetric {
         ensures on { OnOk result (IsMetricOn network.now (avoided network.now (Some set) self.now.weights)) }
     {
         let names = &network.profile().excludable()[set as usize];
-        let vertex = avoided_costs(alloc, network, &self.weights, names)?;
+        let ordinary = avoided_costs(alloc, network, &self.weights, names)?;
+        let vertex = with_copies(network, ordinary)?;
         let _few = network.graph();
         Ok(BaseMetric {
             weights: self.weights.with_vertices(alloc, vertex)?,
@@ -123,7 +129,7 @@ impl BaseMetric {
         self.weights.vertex(v)
     }
 
-    /// What turn `i` costs.
+    /// What turn `i` costs, or behind the turns what arc `i` out of a copy does.
     pub fn turn(&self, i: u32) -> WeightDurLen
         requires { i < length self.now.weights.arc }
         ensures value { slice_get self.now.weights.arc i ≡ Some result }

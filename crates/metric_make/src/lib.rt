@@ -5,6 +5,7 @@
 
 mod avoiding;
 mod base_metric;
+mod copies;
 mod last_rows;
 mod speed_rows;
 mod turn_rows;

@@ -1,7 +1,8 @@
 //! The rows of a speeds file by the two nodes that they are for.
 
 ghost use Rattle.std.specs.Prelude.{◌≡◌, ℤ, Bool, false, not, ◌||◌, IfOk, count_by};
-ghost use Rattle.std.specs.HashMap.{get};
+ghost use Rattle.std.specs.HashMap.{get, values};
+ghost use Rattle.std.specs.List.{list_all};
 ghost use Rattle.std.specs.Option.{option_map_or};
 ghost use Rattle.metric_make.specs.LastRows.{AreLastSpeeds, AreMarked, pair_eq};
 ghost use Rattle.metric_make.specs.TrafficRows.{speed_for};
@@ -38,6 +39,9 @@ pub(crate) fn matching_speed(
     ensures rows { AreLastSpeeds rows.now last.new }
     ensures matched { (matched : ℤ × ℤ → Bool) → AreMarked pair_eq matched last.old → AreMarked pair_eq (λ q. matched q || pair_eq (tail, head) q) last.new }
 {
+    if last.is_empty() {
+        return None;
+    }
     match last.get_mut(&(tail, head)) {
         Some(entry) => {
             entry.matched = true;
@@ -57,11 +61,21 @@ fn is_matched(row: &SpeedRow, last: &LastSpeeds) -> bool
     }
 }
 
+// Whether each last row is matched.
+fn are_all_matched(last: &LastSpeeds) -> bool
+    ensures { result ≡ list_all (λ entry. entry.matched) (values last.now) }
+{
+    last.values().all(|entry| entry.matched)
+}
+
 /// How many of the rows are not matched.
 pub(crate) fn unmatched_speeds(rows: &[SpeedRow], last: &LastSpeeds) -> u64
     requires { AreLastSpeeds rows.now last.now }
     ensures { (matched : ℤ × ℤ → Bool) → AreMarked pair_eq matched last.now → result ≡ count_by (λ row. not (matched (row.from, row.to))) rows.now }
 {
+    if are_all_matched(last) {
+        return 0;
+    }
     let mut count: u64 = 0;
     for row in rows {
         if !is_matched(row, last) {

@@ -1,7 +1,8 @@
 //! The rows of a turns file by the three nodes that they are for.
 
 ghost use Rattle.std.specs.Prelude.{◌≡◌, ℤ, Bool, false, not, ◌||◌, IfOk, count_by};
-ghost use Rattle.std.specs.HashMap.{get};
+ghost use Rattle.std.specs.HashMap.{get, values};
+ghost use Rattle.std.specs.List.{list_all};
 ghost use Rattle.std.specs.Option.{option_map_or};
 ghost use Rattle.metric_make.specs.LastRows.{AreLastTurns, AreMarked, triple_eq};
 ghost use Rattle.metric_make.specs.TrafficRows.{turn_for};
@@ -58,11 +59,21 @@ fn is_matched(row: &TurnRow, last: &LastTurns) -> bool
     }
 }
 
+// Whether each last row is matched.
+fn are_all_matched(last: &LastTurns) -> bool
+    ensures { result ≡ list_all (λ entry. entry.matched) (values last.now) }
+{
+    last.values().all(|entry| entry.matched)
+}
+
 /// How many of the rows are not matched.
 pub(crate) fn unmatched_turns(rows: &[TurnRow], last: &LastTurns) -> u64
     requires { AreLastTurns rows.now last.now }
     ensures { (matched : ℤ × ℤ × ℤ → Bool) → AreMarked triple_eq matched last.now → result ≡ count_by (λ row. not (matched (row.from, row.via, row.to))) rows.now }
 {
+    if are_all_matched(last) {
+        return 0;
+    }
     let mut count: u64 = 0;
     for row in rows {
         if !is_matched(row, last) {

@@ -3,6 +3,8 @@
 ghost use Rattle.std.specs.Prelude.{◌≡◌, ℕ, ◌+◌, ◌*◌, ◌<◌, ◌≤◌, ◌++◌, ◌∷◌, [], List, IfOk, OnOk, Some, All, length, map, false, not, count_by};
 ghost use Rattle.std.specs.List.{slice_get};
 ghost use Rattle.edge_graph.specs.NetworkView.{vertices_of};
+ghost use Rattle.geo_integer.specs.Bearing.{bearing_of};
+ghost use Rattle.geo_integer.specs.Position.{position_of};
 ghost use Rattle.road_segments.specs.Vertex.{opposite};
 ghost use Rattle.metric_make.specs.LastRows.{AreLastTurns, AreMarked, triple_eq};
 ghost use Rattle.metric_make.specs.MetricOf.{bearing_along, turn_cost, turn_cost_under, turn_weight};
@@ -10,10 +12,12 @@ ghost use Rattle.metric_make.specs.TrafficRows.{is_turn_over};
 ghost use Rattle.metric_make.specs.TurnParts.{row_at, turning_at, waiting_at};
 ghost use Rattle.search_graph.specs.RoadCosts.{road_cost_ops};
 
+use crate::copies::turn_at;
 use crate::turn_rows::{LastTurns, last_turns, matching_turn, unmatched_turns};
 use cost_lists::FullCostList;
 use edge_graph::Network;
 use geo_integer::{bearing, modifier};
+use road_base::Point;
 use search_graph::WeightDurLen;
 use std::alloc::{AllocError, Global};
 use traffic_files::TurnRow;
@@ -25,6 +29,18 @@ pub(crate) struct TurnCosts {
     pub unmatched: u64,
 }
 
+// The bearing from `to` to `from`, by the one there: the other way round, where the points lie at two latitudes.
+fn bearing_back(from: Point, to: Point, there: u32) -> u32
+    requires { there ≡ bearing_of (position_of from) (position_of to) }
+    ensures { result ≡ bearing_of (position_of to) (position_of from) }
+{
+    if from.lat == to.lat {
+        bearing(to, from)
+    } else {
+        (there + 180) % 360
+    }
+}
+
 // The bearing of each vertex from its tail to its head, in degrees.
 fn bearings_of(alloc: Global, network: &Network) -> Result<Vec<u32>, AllocError>
     ensures { IfOk result (λ bearings. bearings.items ≡ map bearing_along (vertices_of network.now)) }
@@ -32,8 +48,9 @@ fn bearings_of(alloc: Global, network: &Network) -> Result<Vec<u32>, AllocError>
     let mut bearings = Vec::with_capacity(alloc, 2 * network.segments() as usize)?;
     for s in 0..network.segments() {
         let (from, to) = network.ends(s);
-        bearings.push(bearing(from, to))?;
-        bearings.push(bearing(to, from))?;
+        let there = bearing(from, to);
+        bearings.push(there)?;
+        bearings.push(bearing_back(from, to, there))?;
     }
     Ok(bearings)
 }
@@ -102,6 +119,9 @@ fn row_for(
     ensures rows { AreLastTurns rows.now last.new }
     ensures matched { (before : List (ℕ × ℕ)) → AreMarked triple_eq (λ q. is_turn_over (vertices_of network.now) before q.0 q.1 q.2) last.old → AreMarked triple_eq (λ q. is_turn_over (vertices_of network.now) (before ++ (from, to) ∷ []) q.0 q.1 q.2) last.new }
 {
+    if last.is_empty() {
+        return None;
+    }
     let (tail, via) = (network.tail(from), network.head(from));
     matching_turn(rows, last, tail, via, network.head(to))
 }
@@ -133,7 +153,7 @@ fn cost_under(by_distance: bool, penalty: u32, row: Option<TurnRow>) -> WeightDu
     }
 }
 
-// What each turn costs; the rows for them are matched.
+// What each turn costs; the rows for them are matched. There is room behind them for the arcs out of copies.
 fn costs_by(
     alloc: Global,
     network: &Network,
@@ -148,11 +168,10 @@ fn costs_by(
     ensures matched { OnOk result (AreMarked triple_eq (λ q. is_turn_over (vertices_of network.now) network.now.turns q.0 q.1 q.2) last.new) }
 {
     let bearings = bearings_of(alloc, network)?;
-    let graph = network.graph();
     let by_distance = network.profile().by_distance();
-    let mut costs = FullCostList::with_capacity(alloc, graph.arcs() as usize)?;
-    for i in 0..graph.arcs() {
-        let (from, to) = graph.arc(i);
+    let mut costs = FullCostList::with_capacity(alloc, network.graph().arcs() as usize)?;
+    for i in 0..network.turns() {
+        let (from, to) = turn_at(network, i);
         let row = row_for(network, rows, last, from, to);
         let penalty = profile_penalty(network, &bearings, from, to);
         costs.push(cost_under(by_distance, penalty, row))?;

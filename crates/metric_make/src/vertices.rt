@@ -122,7 +122,8 @@ fn cost(
     }
 }
 
-// What each vertex costs; the rows for them are matched. Both directions of a segment are equally long.
+// What each vertex costs; the rows for them are matched. Both directions of a segment are equally long. There is room
+// behind them for the copies.
 fn costs_by(
     alloc: Global,
     network: &Network,
@@ -138,7 +139,7 @@ fn costs_by(
     ensures rows { OnOk result (AreLastSpeeds rows.now last.new) }
     ensures matched { OnOk result (AreMarked pair_eq (λ q. is_way (vertices_of network.now) q.0 q.1) last.new) }
 {
-    let mut costs = CostList::with_capacity(alloc, 2 * network.segments() as usize)?;
+    let mut costs = CostList::with_capacity(alloc, network.graph().vertices() as usize)?;
     for s in 0..network.segments() {
         let (from, to) = network.ends(s);
         let decimetres = length(from, to);

@@ -1,4 +1,4 @@
-use Rattle.std.proofs.Common.{◌≡◌, length, arith, refl, sym, ◌∙◌}
+use Rattle.std.proofs.Common.{◌≡◌, length, arith, refl, ◌∙◌}
 use Rattle.std.proofs.lemmas.List.{take_all}
 use Rattle.edge_graph.specs.NetworkView.{vertices_of}
 use Rattle.road_segments.specs.Laws.{length-vertices}
@@ -21,5 +21,5 @@ returns c =
     let all = c.args.weights.now.vertex in
     let whole = avoided_costs c.args.set.now vs all in
     let twice = length-vertices c.args.network.now.segments in
-    let size : length whole ≡ length all = length-avoided_costs c.args.set.now vs all (c.requires ∙ sym twice) in
-    c.loop-v.invariant ∙ take_all c.loop-v.v whole (omega (arith, size, c.requires, c.segments-vertices.ensures.value, c.loop-v-test.false, c.loop-v.auto.v-end))
+    let size : length whole ≡ length vs = length-avoided_costs c.args.set.now vs all (omega (arith, c.requires, twice)) in
+    c.loop-v.invariant ∙ take_all c.loop-v.v whole (omega (arith, size, twice, c.segments-vertices.ensures.value, c.loop-v-test.false, c.loop-v.auto.v-end))

@@ -5,10 +5,18 @@ use Rattle.std.specs.List.{slice_get}
 use Rattle.std.specs.Ordering.{int_eq}
 use Rattle.std.proofs.lemmas.Option.{slice_get-get_or}
 use Rattle.metric_make.specs.LastRows.{triple_eq}
-use Rattle.metric_make.proofs.LastRowLemmas.{count-step, matched-at, triple_eq-itself}
+use Rattle.metric_make.proofs.LastRowLemmas.{count-step, matched-at, matched-of-all, none-counted, triple_eq-itself}
 use Rattle.traffic_files.specs.declared.rows.TurnRow.{TurnRow}
 use Rattle.metric_make.proofs.turn_rows.unmatched_turns.Goals.{then-not-is_matched, else-not-is_matched}
 use Rattle.metric_make.proofs.turn_rows.unmatched_turns.Goals as goal
+
+pub returns-then-are_all_matched : goal.returns-then-are_all_matched
+returns-then-are_all_matched c matched marks =
+    let rows = c.args.rows.now in
+    let all = sym c.are_all_matched.ensures ∙ c.if-are_all_matched.true in
+    none-counted (λ r. not (matched (r.from, r.via, r.to))) rows (λ i row at.
+    let key : ℤ × ℤ × ℤ = (row.from, row.via, row.to) in
+    ap not (matched-of-all triple_eq c.args.last.now key rows i row (λ r. (int_eq r.from row.from && int_eq r.via row.via) && int_eq r.to row.to) at (triple_eq-itself key) (c.requires row.from row.via row.to) all matched marks))
 
 pub loop-row-preserved : goal.loop-row-preserved
 loop-row-preserved c =

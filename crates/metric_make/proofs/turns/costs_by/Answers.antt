@@ -1,10 +1,9 @@
 -- A turn costs what the row for it says, or the two parts of the profile's penalty.
-use Rattle.std.proofs.Common.{◌≡◌, ℕ, ◌+◌, ◌<◌, ◌*◌, Bool, List, take, length, ◌∙◌, Some, arith, rules, subst, sym, ap}
+use Rattle.std.proofs.Common.{◌≡◌, ℕ, ◌+◌, ◌<◌, ◌*◌, Bool, List, take, length, ◌∙◌, Some, arith, subst, sym, ap}
 use Rattle.std.specs.List.{slice_get}
 use Rattle.std.proofs.lemmas.List.{take_all}
 use Rattle.std.proofs.lemmas.List.Elements.{All-push}
 use Rattle.list_lemmas.proofs.Gets.{get_some}
-use Rattle.search_graph.specs.Digraph.{Digraph}
 use Rattle.search_graph.specs.RoadCosts.{road_cost_ops}
 use Rattle.road_segments.specs.Laws.{length-vertices}
 use Rattle.edge_graph.specs.NetworkView.{vertices_of}
@@ -22,12 +21,11 @@ loop-i-preserved c =
     let network = c.args.network.now in
     let vs = vertices_of c.args.network.now in
     let turns = c.args.network.now.turns in
-    let from = c.arc-from.result.0 in
-    let to = c.arc-from.result.1 in
-    let at : slice_get c.args.network.now.turns c.loop-i.i ≡ Some (c.arc-from.result.0, c.arc-from.result.1) =
-    ap (λ (g : Digraph). slice_get g.arcs c.loop-i.i) (sym c.graph-graph.ensures.value) ∙ c.arc-from.ensures.is in
-    let from_in : c.arc-from.result.0 < 2 * length c.args.network.now.segments = search rules in
-    let to_in : c.arc-from.result.1 < 2 * length c.args.network.now.segments = search rules in
+    let from = c.turn_at-from.result.0 in
+    let to = c.turn_at-from.result.1 in
+    let at : slice_get c.args.network.now.turns c.loop-i.i ≡ Some (c.turn_at-from.result.0, c.turn_at-from.result.1) = c.turn_at-from.ensures.is in
+    let from_in : c.turn_at-from.result.0 < 2 * length c.args.network.now.segments = c.turn_at-from.ensures.from in
+    let to_in : c.turn_at-from.result.1 < 2 * length c.args.network.now.segments = c.turn_at-from.ensures.to in
     let d = get_some vs from (omega (arith, length-vertices c.args.network.now.segments, from_in)) in
     let e = get_some vs to (omega (arith, length-vertices c.args.network.now.segments, to_in)) in
     let kind : c.by_distance-by_distance.result ≡ c.args.network.now.profile.by_distance = c.by_distance-by_distance.ensures ∙ ap (λ (p : ProfileView). p.by_distance) c.profile.ensures in
@@ -50,5 +48,5 @@ loop-i-preserved c =
 pub returns-clause-matched : goal.returns-clause-matched
 returns-clause-matched c =
     let turns = c.args.network.now.turns in
-    let all : take c.loop-i.i c.args.network.now.turns ≡ c.args.network.now.turns = take_all {A = ℕ × ℕ} c.loop-i.i c.args.network.now.turns (search rules) in
+    let all : take c.loop-i.i c.args.network.now.turns ≡ c.args.network.now.turns = take_all {A = ℕ × ℕ} c.loop-i.i c.args.network.now.turns (omega (arith, c.loop-i-test.false, c.turns-i-end.ensures.value)) in
     subst (λ (l : List (ℕ × ℕ)). AreMarked triple_eq (λ q. is_turn_over (vertices_of c.args.network.now) l q.0 q.1 q.2) c.loop-i.last) all c.loop-i.invariant.matched
