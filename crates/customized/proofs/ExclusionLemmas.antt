@@ -1,6 +1,6 @@
 -- The costs and cliques that stand side by side in a metric, place by place.
-use Rattle.std.proofs.Common.{◌≡◌, ℕ, zero, suc, ◌+◌, ◌<◌, ◌≤◌, List, [], ◌∷◌, ◌++◌, length, get_or, take, All, Option, Some, None, refl, sym, ap, ap₂, subst, arith, add-one, ◌∙◌}
-use Rattle.std.specs.Prelude.{map, option_map, sum_by}
+use Rattle.std.proofs.Common.{◌≡◌, ℕ, zero, suc, ◌+◌, ◌<◌, List, [], ◌∷◌, ◌++◌, length, get_or, take, All, Option, Some, None, refl, sym, ap, ap₂, subst, arith, add-one, ◌∙◌}
+use Rattle.std.specs.Prelude.{map, option_map}
 use Rattle.std.specs.List.{AllZip, range_with_len, slice_get, zip}
 use Rattle.std.specs.Option.{ForSome}
 use Rattle.std.proofs.lemmas.List.{length-map, map-append}
@@ -8,15 +8,16 @@ use Rattle.std.proofs.lemmas.List.Elements.{All-map}
 use Rattle.std.proofs.lemmas.List.FromFn.{get_or-range_with_len, length-range_with_len}
 use Rattle.std.proofs.lemmas.Option.{same_Some, slice_get-map, slice_get_within}
 use Rattle.list_lemmas.proofs.Fronts.{all_zip-each, all_zip-length, all_zip-more, all_zip-second, slice_get-zip, take-get}
-use Rattle.list_lemmas.proofs.Gets.{All_get, get_is, get_some}
+use Rattle.list_lemmas.proofs.Gets.{get_is, get_some}
 use Rattle.search_graph.specs.declared.costs.WeightDurLen.{WeightDurLen}
 use Rattle.search_graph.specs.Digraph.{Digraph, Weighting}
 use Rattle.search_graph.specs.RoadCosts.{road_cost_ops}
 use Rattle.search_graph.specs.Weighted.{AreSmall}
 use Rattle.edge_graph.specs.NetworkView.{NetworkView, graph_of}
+use Rattle.edge_graph.specs.Sound.{IsSoundNetwork}
 use Rattle.metric_make.specs.Avoiding.{avoided}
-use Rattle.metric_make.specs.AvoidLaws.{avoided-small}
-use Rattle.metric_make.specs.MetricOf.{MetricView}
+use Rattle.metric_make.specs.AvoidLaws.{avoided-alike, avoided-small}
+use Rattle.metric_make.specs.MetricOf.{AreAlike, MetricView}
 use Rattle.metric_make.specs.RoadMetric.{road_of}
 use Rattle.cell_frame.specs.Borders.{Framed}
 use Rattle.cell_frame.specs.Cliqued.{AreExact, Rows}
@@ -135,6 +136,12 @@ pub small-under : (m : Customized) (set : Option ℕ) (all : List (List (Rows We
     → AreSmall road_cost_ops (graph_of m.road.network) (avoided m.road.network set m.road.weights)
 small-under m set all exact = avoided-small m.road.network set m.road.weights (all_zip-second (λ s c. IsExact (excluding s m) c) (exclusions m.road.network) all 0 None exact refl).1.small
 
+-- and alike for all that stands for one vertex or turn
+pub alike-under : (m : Customized) (set : Option ℕ) (all : List (List (Rows WeightDurLen))) → ForSome set (λ k. k < length m.road.network.profile.excludable)
+    → AllZip (λ s c. IsExact (excluding s m) c) (exclusions m.road.network) all
+    → AreAlike m.road.network (avoided m.road.network set m.road.weights)
+alike-under m set all h exact = (all_zip-second (λ s c. IsExact (excluding s m) c) (exclusions m.road.network) all (place_of set) set exact (exclusion-at m.road.network set h)).1.alike
+
 -- what is read of a metric is exact
 pub exact-under : (m : Customized) (set : Option ℕ) (network : NetworkView) (frame : Framed) (base : MetricView) (cliques : List (Rows WeightDurLen))
     → network ≡ m.road.network
@@ -163,21 +170,29 @@ pub exact-for_each : (roads : RoadsView) (bases : Bases) (all : List (List (Rows
     → weights_in bases ≡ weights_under network base.weights
     → weights ≡ weights_in bases
     → roads.frame.graph ≡ graph_of roads.network
+    → IsSoundNetwork roads.network
     → AreSmall road_cost_ops (graph_of roads.network) base.weights
+    → AreAlike roads.network base.weights
     → AllZip (λ w cliques. AreExact road_cost_ops frame w cliques (length frame.cells.levels)) weights all
     → IsExactForEach (customized_on roads bases.plain) (weights_in bases) all
-exact-for_each roads bases all network frame base weights networks frames plain under listed graph small made =
+exact-for_each roads bases all network frame base weights networks frames plain under listed graph sound small alike made =
     let m = customized_on roads bases.plain in
     let same : weights_in bases ≡ weights_under roads.network bases.plain.weights = under ∙ ap₂ (λ (n : NetworkView) (b : MetricView). weights_under n b.weights) networks (sym plain) in
     let here : AllZip (λ w cliques. AreExact road_cost_ops roads.frame w cliques (length roads.frame.cells.levels)) (weights_under roads.network bases.plain.weights) all =
     subst (λ (l : List (Weighting WeightDurLen)). AllZip (λ w cliques. AreExact road_cost_ops roads.frame w cliques (length roads.frame.cells.levels)) l all) (listed ∙ same)
     (subst (λ (f : Framed). AllZip (λ w cliques. AreExact road_cost_ops f w cliques (length f.cells.levels)) weights all) frames made) in
     let plain_small : AreSmall road_cost_ops (graph_of roads.network) bases.plain.weights = subst (λ (b : MetricView). AreSmall road_cost_ops (graph_of roads.network) b.weights) (sym plain) small in
+    let plain_alike : AreAlike roads.network bases.plain.weights = subst (λ (b : MetricView). AreAlike roads.network b.weights) (sym plain) alike in
     record {
       weights = same;
       exact =
           all_zip-each (λ set cliques. AreExact road_cost_ops roads.frame (avoided roads.network set bases.plain.weights) cliques (length roads.frame.cells.levels)) (λ set cliques. IsExact (excluding set m) cliques)
-          (λ set cliques exact. record { graph = graph; small = avoided-small roads.network set bases.plain.weights plain_small; exact = exact }) (exclusions roads.network) all
+          (λ set cliques exact. record {
+            graph = graph;
+            small = avoided-small roads.network set bases.plain.weights plain_small;
+            alike = avoided-alike roads.network sound set bases.plain.weights plain_small.vertices plain_alike;
+            exact = exact;
+          }) (exclusions roads.network) all
           (all_zip-from_map (λ set. avoided roads.network set bases.plain.weights) (λ w cliques. AreExact road_cost_ops roads.frame w cliques (length roads.frame.cells.levels)) (exclusions roads.network) all here);
     }
 

@@ -8,7 +8,7 @@ use Rattle.search_graph.specs.RoadCosts.{road_cost_ops}
 use Rattle.search_graph.specs.Weighted.{AreSmall}
 use Rattle.edge_graph.specs.NetworkView.{graph_of}
 use Rattle.metric_make.specs.Avoiding.{avoided, avoiding}
-use Rattle.metric_make.specs.MetricOf.{MetricView}
+use Rattle.metric_make.specs.MetricOf.{AreAlike, MetricView}
 use Rattle.metric_make.specs.RoadMetric.{RoadMetric, road_of}
 use Rattle.cell_frame.specs.Borders.{Framed}
 use Rattle.cell_frame.specs.Cliqued.{AreExact, Rows}
@@ -27,11 +27,12 @@ pub record Customized : Type 0 where
 abbrev pub customized_on : RoadsView → MetricView → Customized
 customized_on roads base = record { road = road_of roads.network base; frame = roads.frame }
 
--- The frame is over the network's graph, the costs are small, and in all levels the cliques are the least costs inside the
+-- The frame is over the network's graph, the costs are small and alike for all that stands for one vertex or turn, and in all levels the cliques are the least costs inside the
 -- cells under just these costs.
 pub record IsExact (m : Customized) (cliques : List (Rows WeightDurLen)) : Type 0 where
   pub graph : m.frame.graph ≡ graph_of m.road.network
   pub small : AreSmall road_cost_ops (graph_of m.road.network) m.road.weights
+  pub alike : AreAlike m.road.network m.road.weights
   pub exact : AreExact road_cost_ops m.frame m.road.weights cliques (length m.frame.cells.levels)
 
 -- the two are of one network and one frame

@@ -1,10 +1,11 @@
 -- A road network cut into cells by where its vertices lie (this project's rule).
-use Rattle.std.specs.Prelude.{◌≡◌, ℕ, ℤ, ◌+ℤ◌, List, map}
+use Rattle.std.specs.Prelude.{◌≡◌, ℕ, ℤ, pos, ◌+ℤ◌, List, ◌++◌, get_or, map}
 use Rattle.road_base.specs.declared.coordinates.Point.{Point}
-use Rattle.edge_graph.specs.NetworkView.{NetworkView, graph_of, vertices_of}
+use Rattle.edge_graph.specs.NetworkView.{NetworkView, copies_in, graph_of, vertices_of}
 use Rattle.road_segments.specs.Vertex.{Vertex}
 use Rattle.cell_partition.specs.Halving.{IsHalvedBy}
 use Rattle.cell_frame.specs.Borders.{Framed, IsFramed}
+use Rattle.via_paths.specs.Forbidden.{last_of}
 
 -- a network, and a frame
 pub record RoadsView : Type 0 where
@@ -18,9 +19,15 @@ midpoint_between from to = (from.lon +ℤ to.lon, from.lat +ℤ to.lat)
 abbrev pub midpoint_of : Vertex → ℤ × ℤ
 midpoint_of v = midpoint_between v.from v.to
 
--- where the vertices of a network lie, in their order
+-- a copy lies where its vertex does
+abbrev pub midpoint_for : List (ℤ × ℤ) → List ℕ → ℤ × ℤ
+midpoint_for ordinary word = get_or ordinary (last_of word) (pos 0, pos 0)
+
+-- where the vertices of the searched graph lie, in their order
 abbrev pub midpoints_of : NetworkView → List (ℤ × ℤ)
-midpoints_of network = map midpoint_of (vertices_of network)
+midpoints_of network =
+    let ordinary = map midpoint_of (vertices_of network) in
+    ordinary ++ map (midpoint_for ordinary) (copies_in network)
 
 -- the frame is that of the network's graph: its cells are halved by these limits, and have their entries and exits
 pub record IsFrameOf (network : NetworkView) (limits : List ℕ) (frame : Framed) : Type 0 where

@@ -6,7 +6,8 @@ ghost use Rattle.cell_frame.specs.Cliqued.{AreExact};
 ghost use Rattle.edge_graph.specs.NetworkView.{graph_of};
 ghost use Rattle.customized.specs.Exact.{IsRemadeBy, ShareRoads, customized_on, excluding, roads_of};
 ghost use Rattle.metric_make.specs.Avoiding.{avoided};
-ghost use Rattle.metric_make.specs.MetricOf.{IsMetricOn};
+ghost use Rattle.edge_graph.specs.Sound.{IsSoundNetwork};
+ghost use Rattle.metric_make.specs.MetricOf.{AreAlike, IsMetricOn};
 ghost use Rattle.search_graph.specs.RoadCosts.{road_cost_ops};
 ghost use Rattle.search_graph.specs.Weighted.{AreSmall};
 
@@ -154,6 +155,7 @@ impl Metric {
         requires { ForSome set (λ k. k < length self.now.road.network.profile.excludable) }
         ensures value { result.now.weights ≡ avoided self.now.road.network set self.now.road.weights }
         ensures small { AreSmall road_cost_ops (graph_of self.now.road.network) (avoided self.now.road.network set self.now.road.weights) }
+        ensures alike { AreAlike self.now.road.network (avoided self.now.road.network set self.now.road.weights) }
     {
         self.bases.get(set)
     }
@@ -190,14 +192,17 @@ impl Metric {
     }
 }
 
-// Tells a proof that the costs of roads are small, and that their frame is over their graph. It does nothing.
+// Tells a proof that the costs of roads are small and alike for all that stands for one vertex or turn, and that their
+// frame is over the graph of a sound network. It does nothing.
 fn known_small(roads: &Roads, base: &BaseMetric)
     requires { IsMetricOn roads.now.network base.now.weights }
     ensures network { AreSmall road_cost_ops (graph_of roads.now.network) base.now.weights }
     ensures frame { AreSmall road_cost_ops roads.now.frame.graph base.now.weights }
     ensures graph { roads.now.frame.graph ≡ graph_of roads.now.network }
+    ensures sound { IsSoundNetwork roads.now.network }
+    ensures alike { AreAlike roads.now.network base.now.weights }
 {
     let _graph = roads.frame();
-    let _few = roads.network().segments();
+    let _sound = roads.network().graph();
     let _units = base.weights();
 }

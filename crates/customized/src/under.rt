@@ -3,6 +3,7 @@
 ghost use Rattle.std.specs.Prelude.{◌≡◌, length};
 ghost use Rattle.cell_frame.specs.Cliqued.{AreExact};
 ghost use Rattle.edge_graph.specs.NetworkView.{graph_of};
+ghost use Rattle.metric_make.specs.MetricOf.{AreAlike};
 ghost use Rattle.search_graph.specs.RoadCosts.{road_cost_ops};
 ghost use Rattle.search_graph.specs.Weighted.{AreSmall};
 
@@ -53,6 +54,7 @@ impl<'a> Under<'a> {
     pub fn base(&self) -> &BaseMetric
         ensures value { result.now.weights ≡ self.now.road.weights }
         ensures small { AreSmall road_cost_ops (graph_of self.now.road.network) self.now.road.weights }
+        ensures alike { AreAlike self.now.road.network self.now.road.weights }
     {
         self.base
     }

@@ -1,6 +1,5 @@
 pub mod EndLaws
 pub mod Ends
-pub mod GraphLaws
 pub mod Paid
 pub mod PaidLaws
 pub mod PartLaws

@@ -13,6 +13,7 @@ use Rattle.search_graph.specs.Walks.{IsBetween}
 use Rattle.edge_graph.specs.NetworkView.{turn_graph}
 use Rattle.road_places.specs.Places.{IsDirection, parts_along, before}
 use Rattle.metric_make.specs.RoadMetric.{RoadMetric}
+use Rattle.via_paths.specs.Forbidden.{IsFree}
 
 -- `walk` is the open vertex v alone, a direction of both places' segment on which p lies no farther on than
 -- q; it costs what the part between the two costs: with what lies before p, that is what lies before q
@@ -52,14 +53,15 @@ abbrev pub IsTarget : Weighting WeightDurLen → Place → Target WeightDurLen �
 IsTarget w q t = (v : ℕ) × IsDirection q.segment v × IsTargetAlong w q v t
 
 -- `walk` is two or more open vertices, from a direction of p's segment by permitted turns to a direction of
--- q's; it costs what is left of the first behind p, all turns, the whole of the vertices in the middle, and
--- what lies of the last before q
+-- q's, along which no forbidden sequence runs; it costs what is left of the first behind p, all turns, the whole of the
+-- vertices in the middle, and what lies of the last before q
 pub record IsByTurns (road : RoadMetric) (p q : Place) (walk : List ℕ) (d : WeightDurLen) : Type 0 where
   pub first : Start WeightDurLen
   pub last : Target WeightDurLen
   pub begins : IsStart road.weights p first
   pub ends : IsTarget road.weights q last
   pub runs : IsBetween road_cost_ops (turn_graph road.network) road.weights (first ∷ []) last walk d
+  pub free : IsFree road.network.forbidden walk
 
 -- `walk` is a permitted walk from p to q and costs d
 abbrev pub IsPermitted : RoadMetric → Place → Place → List ℕ → WeightDurLen → Type 0

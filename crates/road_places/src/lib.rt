@@ -5,8 +5,7 @@
 //! `specs/` is to be read in this order: `RoadMetric` (a network with its costs), `Places` (how a place lies on the
 //! two directions of its segment, and what a part of a vertex costs), `Permitted` (walks from place to place), `Paid`
 //! (what a walk pays at each of its vertices and turns) and `Ends` (where walks from a place start, and where walks
-//! to one end). `PartLaws`, `PaidLaws` and `EndLaws` have what follows from these, and `GraphLaws` how the graph that
-//! is searched lies beside that of the turns.
+//! to one end). `PartLaws`, `PaidLaws` and `EndLaws` have what follows from these.
 //!
 //! Nothing here knows of a search. A segment's parts and their costs are this project's rule.
 #![tactic(auto)]

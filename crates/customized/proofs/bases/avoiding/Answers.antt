@@ -1,4 +1,4 @@
-use Rattle.std.proofs.Common.{◌≡◌, arith, ap, length, map, take, ◌∙◌}
+use Rattle.std.proofs.Common.{arith, ap, map, ◌∙◌}
 use Rattle.std.proofs.lemmas.List.{take_all}
 use Rattle.metric_make.specs.Avoiding.{avoided}
 use Rattle.metric_make.specs.MetricOf.{MetricView}

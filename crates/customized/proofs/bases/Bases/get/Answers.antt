@@ -1,5 +1,5 @@
-use Rattle.std.proofs.Common.{◌≡◌, Some, arith, add-one, ap, get_or, sym, ◌∙◌}
-use Rattle.std.specs.Prelude.{map, option_map}
+use Rattle.std.proofs.Common.{◌≡◌, Some, add-one, ap, sym, ◌∙◌}
+use Rattle.std.specs.Prelude.{option_map}
 use Rattle.std.specs.List.{slice_get}
 use Rattle.std.proofs.lemmas.Option.{slice_get-map}
 use Rattle.list_lemmas.proofs.Gets.{get_is}

@@ -1,11 +1,12 @@
-use Rattle.std.proofs.Common.{◌≡◌, ℕ, ◌<◌, length, arith, sym, ap, subst, ◌∙◌}
+use Rattle.std.proofs.Common.{◌<◌, length, arith, sym, ap, subst, ◌∙◌}
 use Rattle.std.specs.Option.{ForSome}
 use Rattle.search_graph.specs.RoadCosts.{road_cost_ops}
 use Rattle.search_graph.specs.Weighted.{AreSmall}
 use Rattle.edge_graph.specs.NetworkView.{graph_of}
 use Rattle.metric_make.specs.Avoiding.{avoided}
 use Rattle.customized.specs.Exact.{Customized, customized_on}
-use Rattle.customized.proofs.ExclusionLemmas.{length-avoiding, small-under, weights-at}
+use Rattle.metric_make.specs.MetricOf.{AreAlike}
+use Rattle.customized.proofs.ExclusionLemmas.{alike-under, length-avoiding, small-under, weights-at}
 use Rattle.customized.proofs.metrics.Metric.base.Goals as goal
 
 pub get-requires : goal.get-requires
@@ -24,3 +25,9 @@ pub returns-clause-small : goal.returns-clause-small
 returns-clause-small c =
     let own = c.self.inside in
     subst (λ (m : Customized). AreSmall road_cost_ops (graph_of m.road.network) (avoided m.road.network c.args.set m.road.weights)) c.self.view_is (small-under (customized_on own.roads own.bases.plain) c.args.set own.cliques c.self.invariant.exact)
+
+pub returns-clause-alike : goal.returns-clause-alike
+returns-clause-alike c =
+    let own = c.self.inside in
+    let among : ForSome c.args.set (λ k. k < length own.roads.network.profile.excludable) = subst (λ (m : Customized). ForSome c.args.set (λ k. k < length m.road.network.profile.excludable)) (sym c.self.view_is) c.requires in
+    subst (λ (m : Customized). AreAlike m.road.network (avoided m.road.network c.args.set m.road.weights)) c.self.view_is (alike-under (customized_on own.roads own.bases.plain) c.args.set own.cliques among c.self.invariant.exact)

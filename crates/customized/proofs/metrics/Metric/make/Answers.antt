@@ -21,4 +21,5 @@ customize_all-requires-after_bounds g c κs within =
 pub invariant_of-result : goal.invariant_of-result
 invariant_of-result g c =
     exact-for_each c.in_ok-roads.roads c.in_ok-bases.bases c.in_ok-cliques.cliques c.network.result.now c.frame.result.now c.args.base c.deref.result.now c.network.ensures c.frame.ensures.value
-    c.in_ok-bases.ensures.plain c.in_ok-bases.ensures.weights (c.deref.ensures.value ∙ c.in_ok-weights.ensures) c.frame.ensures.graph c.known_small.ensures.network c.in_ok-cliques.ensures
+    c.in_ok-bases.ensures.plain c.in_ok-bases.ensures.weights (c.deref.ensures.value ∙ c.in_ok-weights.ensures) c.frame.ensures.graph c.known_small.ensures.sound c.known_small.ensures.network c.known_small.ensures.alike
+    c.in_ok-cliques.ensures

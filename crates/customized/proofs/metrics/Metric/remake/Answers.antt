@@ -59,7 +59,8 @@ pub invariant_of-metric : goal.invariant_of-metric
 invariant_of-metric g c =
     let frames : c.frame-frame.result.now ≡ c.in_ok-roads.roads.frame = c.frame-frame.ensures.value ∙ sym (ap (λ (m : Customized). m.frame) c.old.view_is) ∙ sym (ap (λ (r : RoadsView). r.frame) c.in_ok-roads.ensures) in
     exact-for_each c.in_ok-roads.roads c.in_ok-bases.bases c.in_ok-made.made.sets c.network.result.now c.frame-frame.result.now c.args.base c.deref-3.result.now c.network.ensures frames
-    c.in_ok-bases.ensures.plain c.in_ok-bases.ensures.weights (c.deref-3.ensures.value ∙ c.in_ok-after.ensures) c.known_small.ensures.graph c.known_small.ensures.network c.in_ok-made.ensures.cliques
+    c.in_ok-bases.ensures.plain c.in_ok-bases.ensures.weights (c.deref-3.ensures.value ∙ c.in_ok-after.ensures) c.known_small.ensures.graph c.known_small.ensures.sound c.known_small.ensures.network
+    c.known_small.ensures.alike c.in_ok-made.ensures.cliques
 
 pub returns-clause-searches : goal.returns-clause-searches
 returns-clause-searches g c =

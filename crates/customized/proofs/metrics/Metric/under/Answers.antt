@@ -10,4 +10,4 @@ invariant_of-result c =
     let graph : m.frame.graph ≡ graph_of m.road.network = subst (λ (x : Customized). x.frame.graph ≡ graph_of x.road.network) c.self.view_is c.frame.ensures.graph in
     exact-under m c.args.set c.network.result.now c.frame.result.now c.base.result.now c.cliques.result.now (c.network.ensures ∙ ap (λ (x : Customized). x.road.network) c.self.view_is)
     (c.frame.ensures.value ∙ ap (λ (x : Customized). x.frame) c.self.view_is) c.base.ensures.value
-    (record { graph = graph; small = c.base.ensures.small; exact = c.cliques.ensures })
+    (record { graph = graph; small = c.base.ensures.small; alike = c.base.ensures.alike; exact = c.cliques.ensures })
