@@ -1,5 +1,5 @@
 -- A table of what least walks cost, as the best order takes it.
-use Rattle.std.proofs.Common.{◌≡◌, ◌^◌, ◌≤◌, List, [], ◌∷◌, Option, Vec, All, length, get_or, arith, sym, ap, subst, ◌∙◌}
+use Rattle.std.proofs.Common.{◌≡◌, ◌+◌, ◌*◌, ◌^◌, List, [], ◌∷◌, Option, Vec, All, length, get_or, arith, sym, ap, subst, ◌∙◌}
 use Rattle.std.specs.Prelude.{option_map}
 use Rattle.std.specs.Global.{Global}
 use Rattle.std.specs.Option.{ForSome}
@@ -12,7 +12,10 @@ use Rattle.road_base.specs.declared.segments.Place.{Place}
 use Rattle.road_segments.specs.Limits.{most_segments}
 use Rattle.search_graph.specs.declared.costs.WeightDurLen.{WeightDurLen}
 use Rattle.search_graph.specs.RoadCosts.{road_cost_laws, road_cost_ops}
-use Rattle.edge_graph.specs.NetworkView.{NetworkView}
+use Rattle.edge_graph.specs.BuildCause.{IsWithinLimits}
+use Rattle.edge_graph.specs.GraphLaws.{graph-vertices}
+use Rattle.edge_graph.specs.Limits.{most_copies}
+use Rattle.edge_graph.specs.NetworkView.{NetworkView, copies_in, graph_of}
 use Rattle.trip_query.specs.Trips.{lists_of}
 use Rattle.metric_make.specs.RoadMetric.{RoadMetric}
 use Rattle.road_walks.specs.Least.{most_units}
@@ -39,10 +42,13 @@ row-widths road (p ∷ sources) destinations [] h = absurd h
 row-widths road (p ∷ sources) destinations (row ∷ rows) h =
     All-cons (λ (r : List (Option WeightDurLen)). length r ≡ length destinations) row rows (all_zip-length (IsCellOf road p) destinations row h.0) (row-widths road sources destinations rows h.1)
 
--- no cost of a table over a network of so many segments at most is too much
-pub few-units : (network : NetworkView) (rows : List (List (Option WeightDurLen))) → length network.segments ≤ most_segments → AreWithin (most_units network) rows → AreWithin (2 ^ 27) rows
-unfolding most_segments
-few-units network rows few within =
+-- no cost of a table over a network within the limits is too much
+pub few-units : (network : NetworkView) (rows : List (List (Option WeightDurLen))) → IsWithinLimits network → AreWithin (most_units network) rows → AreWithin (2 ^ 27) rows
+unfolding most_copies most_segments
+few-units network rows limits within =
+    let segments = limits.segments in
+    let copies = limits.copies in
+    let all : (graph_of network).vertices ≡ 2 * length network.segments + length (copies_in network) = graph-vertices network in
     All-weaker (All (λ (value : Option WeightDurLen). ForSome value (λ d. road_cost_ops.units d (most_units network)))) (All (λ (value : Option WeightDurLen). ForSome value (λ d. road_cost_ops.units d (2 ^ 27))))
     (λ row h. All-weaker (λ (value : Option WeightDurLen). ForSome value (λ d. road_cost_ops.units d (most_units network))) (λ (value : Option WeightDurLen). ForSome value (λ d. road_cost_ops.units d (2 ^ 27)))
-    (λ value k d is. road_cost_laws.units_more d (most_units network) (2 ^ 27) (k d is) (omega (arith, few))) row h) rows within
+    (λ value k d is. road_cost_laws.units_more d (most_units network) (2 ^ 27) (k d is) (omega (arith, segments, copies, all))) row h) rows within

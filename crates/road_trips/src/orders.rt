@@ -55,8 +55,8 @@ pub(crate) fn best_order(
     ensures best { IfOk result (IsBestThrough under.now.road places.now rule) }
     ensures size { IfOk result (λ answer. IfSome answer (λ trip. length trip.order ≡ length places.now)) }
 {
-    // so few segments that no least walk costs too many units
-    let _segments = under.network().segments();
+    // so few vertices of the searched graph that no least walk costs too many units
+    let _few = under.network().graph();
     let rows = cost_rows(rt, alloc, under, places, places)?;
     best_by(alloc, &rows, rule)
 }

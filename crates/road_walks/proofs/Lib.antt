@@ -1,7 +1,9 @@
 pub mod BetweenLemmas
+pub mod CopyLemmas
 pub mod KeptLemmas
 pub mod LeastLemmas
 pub mod LegLemmas
+pub mod StandLemmas
 pub mod StateLemmas
 pub mod TableLemmas
 pub mod TurnLemmas

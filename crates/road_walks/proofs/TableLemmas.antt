@@ -15,13 +15,16 @@ use Rattle.search_graph.specs.WeightLaws.{least_walk_units}
 use Rattle.search_graph.specs.Weighted.{AreSmall}
 use Rattle.table_query.specs.LeastCosts.{IsLeastAmong, IsLesserOf}
 use Rattle.table_query.specs.LesserLaws.{EitherOf, least-either, least-same}
-use Rattle.table_query.specs.Tables.{CostsBetween, IsCell, IsRow, IsTable}
-use Rattle.edge_graph.specs.NetworkView.{graph_of, turn_graph}
-use Rattle.road_places.specs.Permitted.{IsAlongOne}
+use Rattle.table_query.specs.Tables.{IsCell, IsRow, IsTable}
+use Rattle.edge_graph.specs.NetworkView.{graph_of}
+use Rattle.edge_graph.specs.Sound.{IsSoundNetwork}
+use Rattle.metric_make.specs.MetricOf.{AreAlike}
+use Rattle.road_places.specs.Permitted.{IsAlongOne, IsTarget}
 use Rattle.metric_make.specs.RoadMetric.{RoadMetric}
 use Rattle.road_places.specs.declared.walks.Route.{Route}
 use Rattle.road_walks.specs.Choosing.{IsLeastOf}
 use Rattle.road_walks.specs.Least.{most_units}
+use Rattle.road_walks.specs.Searched.{CanCostFreely}
 use Rattle.road_walks.specs.TableParts.{AreStartsFrom, AreTargetsTo, CanCostAlong, CanCostByTurns, IsCellByTurns, IsCellWithin, IsRowByTurns, IsRowWithin, IsWithin}
 use Rattle.road_walks.specs.Tables.{AreRowsOf, AreWithin, CanCost, IsCellOf, IsRowOf}
 use Rattle.road_walks.specs.WalkLaws.{stands_for_cells}
@@ -48,19 +51,19 @@ all-from_get : {A : Type 0} (Q : A → Type 0) (xs : List A) → ((k : ℕ) (a :
 all-from_get Q xs h = λ k a lt. h k (get_or xs k a) (slice_get-get_or xs k a lt)
 
 -- each of the starts is one of the vertices, and costs at most one unit
-pub starts-fit : (n : ℕ) (w : Weighting WeightDurLen) (sources : List Place) (lists : List (List (Start WeightDurLen))) → AllZip (AreStartsFrom n w) sources lists
+pub starts-fit : (n : ℕ) (road : RoadMetric) (sources : List Place) (lists : List (List (Start WeightDurLen))) → AllZip (AreStartsFrom n road) sources lists
     → (list : List (Start WeightDurLen)) (s : Start WeightDurLen) → Contains lists list → Contains list s → (s.vertex < n) × road_cost_ops.units s.cost 1
-starts-fit n w sources lists h list s in_lists in_list =
+starts-fit n road sources lists h list s in_lists in_list =
     let at = get_Contains lists list in_lists in
-    let source = all_zip-first (AreStartsFrom n w) sources lists at.0 list h at.1 in
+    let source = all_zip-first (AreStartsFrom n road) sources lists at.0 list h at.1 in
     source.1.fit s in_list
 
 -- and so the targets
-pub targets-fit : (n : ℕ) (w : Weighting WeightDurLen) (destinations : List Place) (lists : List (List (Target WeightDurLen))) → AllZip (AreTargetsTo n w) destinations lists
+pub targets-fit : (n : ℕ) (road : RoadMetric) (destinations : List Place) (lists : List (List (Target WeightDurLen))) → AllZip (AreTargetsTo n road) destinations lists
     → (list : List (Target WeightDurLen)) (t : Target WeightDurLen) → Contains lists list → Contains list t → (t.vertex < n) × road_cost_ops.units t.cost 1
-targets-fit n w destinations lists h list t in_lists in_list =
+targets-fit n road destinations lists h list t in_lists in_list =
     let at = get_Contains lists list in_lists in
-    let destination = all_zip-first (AreTargetsTo n w) destinations lists at.0 list h at.1 in
+    let destination = all_zip-first (AreTargetsTo n road) destinations lists at.0 list h at.1 in
     destination.1.fit t in_list
 
 -- the least cost between starts and targets over a network's graph is no more than the graph's vertices allow
@@ -75,28 +78,28 @@ cell-within road starts targets small start_units target_units (Some c) h = λ d
     (least_walk_units road_cost_laws (graph_of road.network) road.weights small starts t start_units (target_units t among) h.0.2.0 c
     (record { leads = h.0.2.1; least = λ other x r. h.1 x (t, among, (other, r)) }))
 
-module _ (road : RoadMetric) (n : ℕ) (small : AreSmall road_cost_ops (graph_of road.network) road.weights) where
+module _ (road : RoadMetric) (n : ℕ) (small : AreSmall road_cost_ops (graph_of road.network) road.weights) (sound : IsSoundNetwork road.network) (alike : AreAlike road.network road.weights) where
   -- a cell between all starts and all targets of two places is the least by turns
-  cell-by_turns : (p q : Place) (starts : List (Start WeightDurLen)) (targets : List (Target WeightDurLen)) (value : Option WeightDurLen) → AreStartsFrom n road.weights p starts → AreTargetsTo n road.weights q targets
+  cell-by_turns : (p q : Place) (starts : List (Start WeightDurLen)) (targets : List (Target WeightDurLen)) (value : Option WeightDurLen) → AreStartsFrom n road p starts → AreTargetsTo n road q targets
       → IsCell road_cost_ops (graph_of road.network) road.weights starts targets value → IsCellByTurns road p q value
   cell-by_turns p q starts targets value s t h = (
-    least-same road_cost_ops (CostsBetween road_cost_ops (turn_graph road.network) road.weights starts targets) (CanCostByTurns road p q)
-        (λ d k. (k.2.0, by_turns-from road p q starts targets s.all t.all k.0 k.1 k.2.0 d k.2.1))
-        (λ d k. (k.1.last, t.all.every k.1.last k.1.ends, (k.0, by_turns-to road p q starts targets s.all t.all k.0 d k.1)))
-        value (stands_for_cells road.network road.weights starts targets value h),
+    least-same road_cost_ops (CanCostFreely road starts (IsTarget road.weights q)) (CanCostByTurns road p q)
+        (λ d k. (k.0, by_turns-from road p q starts s.all k.0 d k.1))
+        (λ d k. (k.0, by_turns-to road p q starts s.all k.0 d k.1))
+        value (stands_for_cells road sound alike starts s.ordinary (IsTarget road.weights q) targets t.all value h),
     cell-within road starts targets small (λ x k. (s.fit x k).1) (λ x k. (t.fit x k).1) value h,
   )
 
-  row-by_turns : (p : Place) (destinations : List Place) (starts : List (Start WeightDurLen)) (targets : List (List (Target WeightDurLen))) (row : List (Option WeightDurLen)) → AreStartsFrom n road.weights p starts → AllZip (AreTargetsTo n road.weights) destinations targets
+  row-by_turns : (p : Place) (destinations : List Place) (starts : List (Start WeightDurLen)) (targets : List (List (Target WeightDurLen))) (row : List (Option WeightDurLen)) → AreStartsFrom n road p starts → AllZip (AreTargetsTo n road) destinations targets
       → IsRow road_cost_ops (graph_of road.network) road.weights targets starts row → IsRowByTurns road destinations p row
   row-by_turns p destinations starts targets row s t h =
-      all_zip-through (AreTargetsTo n road.weights) (IsCell road_cost_ops (graph_of road.network) road.weights starts) (IsCellByTurns road p)
+      all_zip-through (AreTargetsTo n road) (IsCell road_cost_ops (graph_of road.network) road.weights starts) (IsCellByTurns road p)
       (λ q list value k cell. cell-by_turns p q starts list value s k cell) destinations targets row t h
 
-  pub table-by_turns : (sources destinations : List Place) (starts : List (List (Start WeightDurLen))) (targets : List (List (Target WeightDurLen))) (rows : List (List (Option WeightDurLen))) → AllZip (AreStartsFrom n road.weights) sources starts → AllZip (AreTargetsTo n road.weights) destinations targets
+  pub table-by_turns : (sources destinations : List Place) (starts : List (List (Start WeightDurLen))) (targets : List (List (Target WeightDurLen))) (rows : List (List (Option WeightDurLen))) → AllZip (AreStartsFrom n road) sources starts → AllZip (AreTargetsTo n road) destinations targets
       → IsTable road_cost_ops (graph_of road.network) road.weights starts targets rows → AllZip (IsRowByTurns road destinations) sources rows
   table-by_turns sources destinations starts targets rows s t h =
-      all_zip-through (AreStartsFrom n road.weights) (IsRow road_cost_ops (graph_of road.network) road.weights targets) (IsRowByTurns road destinations)
+      all_zip-through (AreStartsFrom n road) (IsRow road_cost_ops (graph_of road.network) road.weights targets) (IsRowByTurns road destinations)
       (λ p list row k cells. row-by_turns p destinations list targets row k t cells) sources starts rows s h
 
 -- what the least walk of one vertex costs is the least that such a walk does

@@ -4,6 +4,8 @@ pub mod Choosing
 pub mod FirstFailure
 pub mod Least
 pub mod Legs
+pub mod Searched
+pub mod StateLaws
 pub mod TableParts
 pub mod Tables
 pub mod WalkLaws

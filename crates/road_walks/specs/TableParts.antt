@@ -1,5 +1,5 @@
 -- The crate's own: of what a table of costs is made.
-use Rattle.std.specs.Prelude.{ℕ, ◌<◌, List, Option}
+use Rattle.std.specs.Prelude.{ℕ, ◌*◌, ◌<◌, List, Option, length}
 use Rattle.std.specs.List.{AllZip, Contains}
 use Rattle.std.specs.Option.{ForSome}
 use Rattle.road_base.specs.declared.segments.Place.{Place}
@@ -10,19 +10,21 @@ use Rattle.search_graph.specs.Digraph.{Weighting}
 use Rattle.search_graph.specs.RoadCosts.{road_cost_ops}
 use Rattle.table_query.specs.LeastCosts.{IsLeastAmong}
 use Rattle.road_places.specs.Ends.{AreAll}
-use Rattle.road_places.specs.Permitted.{IsAlongOne, IsByTurns, IsStart, IsTarget}
+use Rattle.road_places.specs.Permitted.{IsAlongOne, IsByTurns, IsStart}
 use Rattle.metric_make.specs.RoadMetric.{RoadMetric}
 use Rattle.road_walks.specs.Least.{most_units}
+use Rattle.road_walks.specs.Searched.{IsTargetIn}
 use Rattle.road_walks.specs.Tables.{IsCellOf}
 
--- the starts are all where walks from p may start, each one of n vertices and at most of one unit
-pub record AreStartsFrom (n : ℕ) (w : Weighting WeightDurLen) (p : Place) (starts : List (Start WeightDurLen)) : Type 0 where
-  pub all : AreAll (IsStart w p) starts
+-- the starts are all where walks from p may start, each a vertex of the network, one of n vertices and at most of one unit
+pub record AreStartsFrom (n : ℕ) (road : RoadMetric) (p : Place) (starts : List (Start WeightDurLen)) : Type 0 where
+  pub all : AreAll (IsStart road.weights p) starts
+  pub ordinary : (s : Start WeightDurLen) → Contains starts s → s.vertex < 2 * length road.network.segments
   pub fit : (s : Start WeightDurLen) → Contains starts s → (s.vertex < n) × road_cost_ops.units s.cost 1
 
--- the targets are all where walks to q may end, each one of n vertices and at most of one unit
-pub record AreTargetsTo (n : ℕ) (w : Weighting WeightDurLen) (q : Place) (targets : List (Target WeightDurLen)) : Type 0 where
-  pub all : AreAll (IsTarget w q) targets
+-- the targets are all of the searched graph where walks to q may end, each one of n vertices and at most of one unit
+pub record AreTargetsTo (n : ℕ) (road : RoadMetric) (q : Place) (targets : List (Target WeightDurLen)) : Type 0 where
+  pub all : AreAll (IsTargetIn road q) targets
   pub fit : (t : Target WeightDurLen) → Contains targets t → (t.vertex < n) × road_cost_ops.units t.cost 1
 
 -- some walk of one vertex from p to q costs d

@@ -1,13 +1,15 @@
 //! Walks of one vertex, which lead from a place to one farther on along the same segment.
 
 ghost use Rattle.std.specs.Prelude.{◌≡◌, ◌+◌, ◌*◌, ◌^◌, ◌<◌, ◌≤◌, IfOk, IfSome, length};
+ghost use Rattle.std.specs.List.{Contains};
 ghost use Rattle.search_graph.specs.RoadCosts.{road_cost_ops};
 ghost use Rattle.road_places.specs.Permitted.{IsAlong, IsAlongOne};
-ghost use Rattle.road_places.specs.Places.{IsDirection, before};
-ghost use Rattle.road_walks.specs.BetweenParts.{IsAlongBetween};
+ghost use Rattle.road_places.specs.Places.{IsDirection, IsPlaceOn, before};
+ghost use Rattle.road_walks.specs.Between.{IsAlongBetween, states_of};
 ghost use Rattle.road_walks.specs.Choosing.{IsLeastOf};
 
 use crate::cheapest::cheaper;
+use customized::Under;
 use metric_make::BaseMetric;
 use road_base::Place;
 use road_places::{Route, Walk, before, parts_along};
@@ -36,26 +38,28 @@ pub(crate) fn along_one(
     Ok(cheaper(forward, backward))
 }
 
-/// The walk of one vertex that begins with the one of these and ends with the other, or None where there is none.
+/// The walk of one vertex from the first of two states to the second, which are one and the same, or None where there is
+/// none.
 pub(crate) fn along_between(
     alloc: Global,
-    base: &BaseMetric,
+    under: &Under<'_>,
     from: Place,
     to: Place,
     ends: (u32, u32),
 ) -> Result<Option<Route>, AllocError>
-    requires in_range { ends.0 < length base.now.weights.vertex }
-    requires first { IsDirection from.segment ends.0 }
-    requires last { IsDirection to.segment ends.1 }
-    requires from { from.at ≤ 1024 }
-    requires to { to.at ≤ 1024 }
-    ensures least { IfOk result (IsLeastOf (IsAlongBetween base.now.weights from to ends.0 ends.1)) }
+    requires from { IsPlaceOn under.now.road.network from }
+    requires to { IsPlaceOn under.now.road.network to }
+    requires first { Contains (states_of under.now.road.network from) ends.0 }
+    requires last { Contains (states_of under.now.road.network to) ends.1 }
+    ensures least { IfOk result (IsLeastOf (IsAlongBetween under.now.road from to ends.0 ends.1)) }
     ensures unit { IfOk result (λ found. IfSome found (λ route. road_cost_ops.units route.cost 1)) }
 {
     if ends.0 != ends.1 {
         return Ok(None);
     }
-    let alone = along(alloc, base, from, to, ends.0)?;
+    let base = under.base();
+    let vertex = under.network().stands_for(ends.0);
+    let alone = along(alloc, base, from, to, vertex)?;
     Ok(alone)
 }
 

@@ -1,17 +1,19 @@
 //! Walks of two or more vertices between two places.
 
-ghost use Rattle.std.specs.Prelude.{◌<◌, IfOk, IfSome};
+ghost use Rattle.std.specs.Prelude.{◌*◌, ◌<◌, IfOk, IfSome, length};
 ghost use Rattle.std.specs.List.{Contains};
 ghost use Rattle.path_unpack.specs.Cheapest.{IsCheapest};
 ghost use Rattle.search_graph.specs.RoadCosts.{road_cost_ops};
 ghost use Rattle.edge_graph.specs.NetworkView.{graph_of};
 ghost use Rattle.road_places.specs.Ends.{AreAll};
-ghost use Rattle.road_places.specs.Permitted.{IsByTurns, IsStart, IsTarget};
+ghost use Rattle.road_places.specs.Permitted.{IsByTurns, IsStart};
 ghost use Rattle.road_places.specs.Places.{IsPlaceOn};
 ghost use Rattle.road_walks.specs.Choosing.{IsLeastOf};
 ghost use Rattle.road_walks.specs.Least.{most_units};
+ghost use Rattle.road_walks.specs.Searched.{IsTargetIn};
 
 use crate::cheapest::route_of;
+use crate::copies::add_copies;
 use customized::Under;
 use path_unpack::cheapest_from;
 use plain_search::{Found, SearchFault};
@@ -21,7 +23,7 @@ use search_graph::{Start, Target, WeightDurLen};
 use std::alloc::{AllocError, Global};
 use step_search::Search;
 
-/// Where a walk from a place may start: each is a vertex of the frame, and costs at most one unit.
+/// Where a walk from a place may start: each is a vertex of the network and of the frame, and costs at most one unit.
 pub(crate) fn starts_from(
     alloc: Global,
     under: &Under<'_>,
@@ -29,6 +31,7 @@ pub(crate) fn starts_from(
 ) -> Result<Vec<Start<WeightDurLen>>, AllocError>
     requires { IsPlaceOn under.now.road.network from }
     ensures all { IfOk result (λ starts. AreAll (IsStart under.now.road.weights from) starts.items) }
+    ensures ordinary { IfOk result (λ starts. (s : _) → Contains starts.items s → s.vertex < 2 * length under.now.road.network.segments) }
     ensures fit { IfOk result (λ starts. (s : _) → Contains starts.items s → (s.vertex < under.now.frame.graph.vertices) × road_cost_ops.units s.cost 1) }
 {
     let _graph = under.frame();
@@ -38,20 +41,22 @@ pub(crate) fn starts_from(
     Ok(starts)
 }
 
-/// Where a walk to a place may end: each is a vertex of the frame, and costs at most one unit.
+/// Where a walk over the searched graph to a place may end, at copies of vertices too: each is a vertex of the frame, and
+/// costs at most one unit.
 pub(crate) fn targets_to(
     alloc: Global,
     under: &Under<'_>,
     to: Place,
 ) -> Result<Vec<Target<WeightDurLen>>, AllocError>
     requires { IsPlaceOn under.now.road.network to }
-    ensures all { IfOk result (λ targets. AreAll (IsTarget under.now.road.weights to) targets.items) }
+    ensures all { IfOk result (λ targets. AreAll (IsTargetIn under.now.road to) targets.items) }
     ensures fit { IfOk result (λ targets. (t : _) → Contains targets.items t → (t.vertex < under.now.frame.graph.vertices) × road_cost_ops.units t.cost 1) }
 {
     let _graph = under.frame();
     let base = under.base();
     let _units = base.weights();
-    let targets = targets(alloc, base, to)?;
+    let mut targets = targets(alloc, base, to)?;
+    add_copies(under.network(), &mut targets)?;
     Ok(targets)
 }
 
@@ -99,6 +104,8 @@ pub(crate) fn by_turns(
     let starts = starts_from(alloc, under, from)?;
     let targets = targets_to(alloc, under, to)?;
     let _small = under.base();
+    let network = under.network();
+    let _sound = network.graph();
     let found = over_graph(alloc, under, &starts, &targets)?;
-    Ok(route_of(found))
+    Ok(route_of(network, found))
 }

@@ -1,8 +1,10 @@
 //! The cheaper of walks.
 
-ghost use Rattle.std.specs.Prelude.{◌≡◌, option_map};
+ghost use Rattle.std.specs.Prelude.{◌≡◌, ◌<◌, All, IfSome, map, option_map};
+ghost use Rattle.edge_graph.specs.NetworkView.{graph_of, stands};
 ghost use Rattle.road_walks.specs.Choosing.{IsCheaperOf, route_of};
 
+use edge_graph::Network;
 use plain_search::Found;
 use road_places::{Route, Walk};
 use search_graph::WeightDurLen;
@@ -24,13 +26,27 @@ pub(crate) fn cheaper(a: Option<Route>, b: Option<Route>) -> Option<Route>
     }
 }
 
-// The route of a walk that a search found.
-pub(crate) fn route_of(found: Option<Found<WeightDurLen>>) -> Option<Route>
-    ensures { result ≡ option_map route_of found }
+// Puts in place of each vertex of the searched graph the one of the network for which it stands.
+fn stand_for(network: &Network, walk: &mut Vec<u32>)
+    requires { All (λ v. v < (graph_of network.now).vertices) walk.old.items }
+    ensures { walk.new.items ≡ map (stands network.now) walk.old.items }
+{
+    for place in 0..walk.len() {
+        walk[place] = network.stands_for(walk[place]);
+    }
+}
+
+/// The route of a walk that a search over the searched graph found: its vertices are those of the network for which those
+/// of the walk stand.
+pub(crate) fn route_of(network: &Network, found: Option<Found<WeightDurLen>>) -> Option<Route>
+    requires { IfSome found (λ f. All (λ v. v < (graph_of network.now).vertices) f.walk) }
+    ensures { result ≡ option_map (route_of network.now) found }
 {
     let found = found?;
+    let mut walk = found.walk.into_vec();
+    stand_for(network, &mut walk);
     Some(Route {
         cost: found.cost,
-        walk: Walk::of(found.walk.into_vec()),
+        walk: Walk::of(walk),
     })
 }

@@ -1,9 +1,9 @@
 //! Least routes from one state of a place to one state of another.
 
 ghost use Rattle.std.specs.Prelude.{IfOk, IfSome};
-ghost use Rattle.road_places.specs.Places.{IsDirection, IsPlaceOn};
-ghost use Rattle.road_walks.specs.Between.{IsRouteBetween};
-ghost use Rattle.road_walks.specs.BetweenParts.{IsByTurnsBetween};
+ghost use Rattle.std.specs.List.{Contains};
+ghost use Rattle.road_places.specs.Places.{IsPlaceOn};
+ghost use Rattle.road_walks.specs.Between.{IsByTurnsBetween, IsRouteBetween, states_of};
 ghost use Rattle.road_walks.specs.Choosing.{IsLeastOf};
 ghost use Rattle.road_walks.specs.Least.{most_units};
 ghost use Rattle.search_graph.specs.RoadCosts.{road_cost_ops};
@@ -17,7 +17,7 @@ use road_base::Place;
 use road_places::Route;
 use std::alloc::{AllocError, Global};
 
-// The least walk of two or more vertices that begins and ends with these, or None where there is none.
+// The least walk of two or more vertices from the first of two states to the second, or None where there is none.
 fn by_turns_between(
     alloc: Global,
     under: &Under<'_>,
@@ -27,6 +27,8 @@ fn by_turns_between(
 ) -> Result<Option<Route>, AllocError>
     requires from { IsPlaceOn under.now.road.network from }
     requires to { IsPlaceOn under.now.road.network to }
+    requires first { Contains (states_of under.now.road.network from) ends.0 }
+    requires last { Contains (states_of under.now.road.network to) ends.1 }
     ensures least { IfOk result (IsLeastOf (IsByTurnsBetween under.now.road from to ends.0 ends.1)) }
     ensures bound { IfOk result (λ found. IfSome found (λ route. road_cost_ops.units route.cost (most_units under.now.road.network))) }
 {
@@ -34,12 +36,12 @@ fn by_turns_between(
     let targets = targets_at(alloc, under, to, ends.1)?;
     let _small = under.base();
     let found = over_graph(alloc, under, &starts, &targets)?;
-    Ok(route_of(found))
+    Ok(route_of(under.network(), found))
 }
 
-/// A least of the permitted walks from a place to another that begin with the first of two vertices and end with the
-/// second, or None exactly where there is no such walk. `ends` are these: a direction of the segment of each place. What
-/// it costs grows with the number of the network's vertices at most. It answers an error only where memory runs out.
+/// A least of the walks from a place to another that lead from the first of two states to the second, or None exactly where
+/// there is no such walk. `ends` are these: a state of each place. What it costs grows with the number of the network's
+/// vertices at most. It answers an error only where memory runs out.
 pub fn least_route_between(
     alloc: Global,
     under: &Under<'_>,
@@ -49,12 +51,12 @@ pub fn least_route_between(
 ) -> Result<Option<Route>, AllocError>
     requires from { IsPlaceOn under.now.road.network from }
     requires to { IsPlaceOn under.now.road.network to }
-    requires first { IsDirection from.segment ends.0 }
-    requires last { IsDirection to.segment ends.1 }
+    requires first { Contains (states_of under.now.road.network from) ends.0 }
+    requires last { Contains (states_of under.now.road.network to) ends.1 }
     ensures least { IfOk result (IsRouteBetween under.now.road from to ends.0 ends.1) }
     ensures bound { IfOk result (λ found. IfSome found (λ route. road_cost_ops.units route.cost (most_units under.now.road.network))) }
 {
-    let along = along_between(alloc, under.base(), from, to, ends)?;
+    let along = along_between(alloc, under, from, to, ends)?;
     let by_turns = by_turns_between(alloc, under, from, to, ends)?;
     Ok(cheaper(along, by_turns))
 }

@@ -19,7 +19,7 @@ pub(crate) fn starts_of(
     sources: &[Place],
 ) -> Result<Vec<Starts<WeightDurLen>>, AllocError>
     requires { (k : ℕ) (place : _) → slice_get sources.now k ≡ Some place → IsPlaceOn under.now.road.network place }
-    ensures { IfOk result (λ lists. AllZip (AreStartsFrom under.now.frame.graph.vertices under.now.road.weights) sources.now lists.items) }
+    ensures { IfOk result (λ lists. AllZip (AreStartsFrom under.now.frame.graph.vertices under.now.road) sources.now lists.items) }
 {
     let mut lists = Vec::with_capacity(alloc, sources.len())?;
     for source in sources {
@@ -36,7 +36,7 @@ pub(crate) fn targets_of(
     destinations: &[Place],
 ) -> Result<Vec<Targets<WeightDurLen>>, AllocError>
     requires { (k : ℕ) (place : _) → slice_get destinations.now k ≡ Some place → IsPlaceOn under.now.road.network place }
-    ensures { IfOk result (λ lists. AllZip (AreTargetsTo under.now.frame.graph.vertices under.now.road.weights) destinations.now lists.items) }
+    ensures { IfOk result (λ lists. AllZip (AreTargetsTo under.now.frame.graph.vertices under.now.road) destinations.now lists.items) }
 {
     let mut lists = Vec::with_capacity(alloc, destinations.len())?;
     for destination in destinations {

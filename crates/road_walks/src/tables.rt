@@ -58,6 +58,7 @@ fn rows_by_turns(
     let starts = starts_of(alloc, under, sources)?;
     let targets = targets_of(alloc, under, destinations)?;
     let _small = under.base();
+    let _sound = under.network().graph();
     let rows = over_graph(rt, alloc, under, &starts, &targets)?;
     Ok(rows)
 }

@@ -1,10 +1,10 @@
-use Rattle.std.proofs.Common.{ℕ, ◌≡◌, List, Option, All, ap, arith, length, subst, sym}
+use Rattle.std.proofs.Common.{ℕ, ◌≡◌, List, Option, All, arith, length, subst, sym}
 use Rattle.std.specs.Prelude.{IfOk, IfSome}
 use Rattle.std.proofs.lemmas.Result.{IfOk-weaker}
 use Rattle.list_lemmas.proofs.Fronts.{all_zip-length}
 use Rattle.search_graph.specs.declared.costs.WeightDurLen.{WeightDurLen}
 use Rattle.search_graph.specs.RoadCosts.{road_cost_ops}
-use Rattle.edge_graph.specs.NetworkView.{NetworkView}
+use Rattle.edge_graph.specs.BuildCause.{IsWithinLimits}
 use Rattle.trip_query.specs.Trips.{IsBestTrip}
 use Rattle.road_walks.specs.Tables.{IsRowOf}
 use Rattle.road_trips.specs.Trips.{IsBestThrough}
@@ -32,8 +32,7 @@ best_by-requires-clause-square g c =
 pub best_by-requires-clause-units : goal.best_by-requires-clause-units
 best_by-requires-clause-units g c =
     let network = c.args.under.now.road.network in
-    let same = ap (λ (n : NetworkView). length n.segments) c.network.ensures in
-    few-units network c.in_ok-rows.rows (omega (arith, c.segments-segments.ensures.value, c.segments-segments.ensures.few, same)) c.in_ok-rows.ensures.bound
+    few-units network c.in_ok-rows.rows (subst IsWithinLimits c.network.ensures c.graph-few.ensures.limits) c.in_ok-rows.ensures.bound
 
 pub returns-clause-best : goal.returns-clause-best
 returns-clause-best g c =

@@ -3,9 +3,9 @@ use Rattle.search_graph.specs.declared.costs.WeightDurLen.{WeightDurLen}
 use Rattle.search_graph.specs.Digraph.{Digraph, Weighting}
 use Rattle.metric_make.specs.MetricOf.{AreWithinUnit}
 use Rattle.road_places.specs.Ends.{AreAll}
-use Rattle.road_places.specs.GraphLaws.{segments-in-graph}
+use Rattle.edge_graph.specs.GraphLaws.{segments-in-graph}
 use Rattle.road_places.specs.Permitted.{IsStart}
-use Rattle.road_walks.proofs.TurnLemmas.{start-fits}
+use Rattle.road_walks.proofs.TurnLemmas.{start-fits, start-ordinary}
 use Rattle.road_walks.proofs.by_turns.starts_from.Goals as goal
 
 -- both vertices of a place's segment are vertices of the network
@@ -20,6 +20,9 @@ starts-requires-clause-in_range c =
 -- the starts are those under the road's own costs
 pub returns-clause-all : goal.returns-clause-all
 returns-clause-all c = subst (λ (w : Weighting WeightDurLen). AreAll (IsStart w c.args.from) c.in_ok-starts.starts.items) c.base-base.ensures.value c.in_ok-starts.ensures
+
+pub returns-clause-ordinary : goal.returns-clause-ordinary
+returns-clause-ordinary c = λ s h. start-ordinary c.args.under.now.road c.args.from c.requires s ((returns-clause-all c).each s h)
 
 pub returns-clause-fit : goal.returns-clause-fit
 returns-clause-fit c = λ s h.

@@ -1,11 +1,14 @@
-use Rattle.std.proofs.Common.{◌<◌, length, arith, ap, subst, sym, ◌∙◌}
+use Rattle.std.proofs.Common.{◌<◌, ◌++◌, length, arith, ap, subst, sym, ◌∙◌}
 use Rattle.search_graph.specs.declared.costs.WeightDurLen.{WeightDurLen}
 use Rattle.search_graph.specs.Digraph.{Digraph, Weighting}
 use Rattle.metric_make.specs.MetricOf.{AreWithinUnit}
 use Rattle.road_places.specs.Ends.{AreAll}
-use Rattle.road_places.specs.GraphLaws.{segments-in-graph}
+use Rattle.edge_graph.specs.GraphLaws.{segments-in-graph}
 use Rattle.road_places.specs.Permitted.{IsTarget}
+use Rattle.edge_graph.specs.NetworkView.{NetworkView}
+use Rattle.road_walks.specs.Searched.{all_at_copies}
 use Rattle.road_walks.proofs.TurnLemmas.{target-fits}
+use Rattle.road_walks.proofs.CopyLemmas.{targets-with_copies}
 use Rattle.road_walks.proofs.by_turns.targets_to.Goals as goal
 
 -- both vertices of a place's segment are vertices of the network
@@ -17,9 +20,14 @@ targets-requires-clause-in_range c =
     let same = ap (λ (w : Weighting WeightDurLen). length w.vertex) c.base-base.ensures.value in
     omega (arith, same, c.requires.on_segment, segments-in-graph c.args.under.now.road.network, c.base-base.ensures.small.vertices)
 
--- the targets are those under the road's own costs
+-- the targets are those under the road's own costs, with those at copies
 pub returns-clause-all : goal.returns-clause-all
-returns-clause-all c = subst (λ (w : Weighting WeightDurLen). AreAll (IsTarget w c.args.to) c.in_ok-targets.targets.items) c.base-base.ensures.value c.in_ok-targets.ensures
+returns-clause-all c =
+    let road = c.args.under.now.road in
+    let first = c.in_ok-targets.targets.items in
+    let own = subst (λ (w : Weighting WeightDurLen). AreAll (IsTarget w c.args.to) first) c.base-base.ensures.value c.in_ok-targets.ensures in
+    targets-with_copies road c.args.to c.requires first own c.add_copies.new.targets.items
+    (c.in_ok-add_copies.ensures ∙ ap (λ (network : NetworkView). first ++ all_at_copies network first) c.network.ensures)
 
 pub returns-clause-fit : goal.returns-clause-fit
 returns-clause-fit c = λ t h.

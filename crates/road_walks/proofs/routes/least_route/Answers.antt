@@ -2,7 +2,7 @@ use Rattle.std.proofs.Common.{arith, subst, ap}
 use Rattle.std.specs.Prelude.{length}
 use Rattle.search_graph.specs.declared.costs.WeightDurLen.{WeightDurLen}
 use Rattle.search_graph.specs.Digraph.{Weighting}
-use Rattle.road_places.specs.GraphLaws.{segments-in-graph}
+use Rattle.edge_graph.specs.GraphLaws.{segments-in-graph}
 use Rattle.road_places.specs.Permitted.{IsAlongOne, IsByTurns}
 use Rattle.road_walks.specs.Choosing.{IsLeastOf}
 use Rattle.road_walks.specs.Least.{most_units}

@@ -19,12 +19,12 @@ pub loop-source-preserved : goal.loop-source-preserved
 loop-source-preserved c =
     let under = c.args.under.now in
     let n = under.frame.graph.vertices in
-    let w = under.road.weights in
+    let road = under.road in
     let places = c.args.sources.now in
     let nowhere : Place = record { segment = 0; at = 0 } in
     let k = c.loop-source.source-index in
     let place = get_or places k nowhere in
-    subst (λ (lists : List (List (Start WeightDurLen))). AllZip (AreStartsFrom n w) (take (k + 1) places) lists) (sym c.in_ok-push.ensures.items)
-    (all_zip-more (AreStartsFrom n w) places c.loop-source.lists.items k place c.of.result c.loop-source.invariant
+    subst (λ (lists : List (List (Start WeightDurLen))). AllZip (AreStartsFrom n road) (take (k + 1) places) lists) (sym {A = List (List (Start WeightDurLen))} c.in_ok-push.ensures.items)
+    (all_zip-more (AreStartsFrom n road) places c.loop-source.lists.items k place c.of.result c.loop-source.invariant
     (slice_get-get_or places k nowhere c.loop-source-test.true)
-    (subst (λ (list : List (Start WeightDurLen)). AreStartsFrom n w place list) (sym c.of.ensures) (record { all = c.in_ok-starts.ensures.all; fit = c.in_ok-starts.ensures.fit })))
+    (subst (λ (list : List (Start WeightDurLen)). AreStartsFrom n road place list) (sym {A = List (Start WeightDurLen)} c.of.ensures) (record { all = c.in_ok-starts.ensures.all; ordinary = c.in_ok-starts.ensures.ordinary; fit = c.in_ok-starts.ensures.fit })))

@@ -5,4 +5,4 @@ use Rattle.road_walks.proofs.table_ends.starts_of.Given as goal
 
 -- each of the sources so far has its list
 abbrev pub invariant-loop-source : goal.invariant-loop-source
-invariant-loop-source l = AllZip (AreStartsFrom l.under.frame.graph.vertices l.under.road.weights) (take l.source-index l.sources) l.lists.items
+invariant-loop-source l = AllZip (AreStartsFrom l.under.frame.graph.vertices l.under.road) (take l.source-index l.sources) l.lists.items

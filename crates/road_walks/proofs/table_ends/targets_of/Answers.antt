@@ -19,12 +19,12 @@ pub loop-destination-preserved : goal.loop-destination-preserved
 loop-destination-preserved c =
     let under = c.args.under.now in
     let n = under.frame.graph.vertices in
-    let w = under.road.weights in
+    let road = under.road in
     let places = c.args.destinations.now in
     let nowhere : Place = record { segment = 0; at = 0 } in
     let k = c.loop-destination.destination-index in
     let place = get_or places k nowhere in
-    subst (λ (lists : List (List (Target WeightDurLen))). AllZip (AreTargetsTo n w) (take (k + 1) places) lists) (sym c.in_ok-push.ensures.items)
-    (all_zip-more (AreTargetsTo n w) places c.loop-destination.lists.items k place c.of.result c.loop-destination.invariant
+    subst (λ (lists : List (List (Target WeightDurLen))). AllZip (AreTargetsTo n road) (take (k + 1) places) lists) (sym {A = List (List (Target WeightDurLen))} c.in_ok-push.ensures.items)
+    (all_zip-more (AreTargetsTo n road) places c.loop-destination.lists.items k place c.of.result c.loop-destination.invariant
     (slice_get-get_or places k nowhere c.loop-destination-test.true)
-    (subst (λ (list : List (Target WeightDurLen)). AreTargetsTo n w place list) (sym c.of.ensures) (record { all = c.in_ok-targets.ensures.all; fit = c.in_ok-targets.ensures.fit })))
+    (subst (λ (list : List (Target WeightDurLen)). AreTargetsTo n road place list) (sym {A = List (Target WeightDurLen)} c.of.ensures) (record { all = c.in_ok-targets.ensures.all; fit = c.in_ok-targets.ensures.fit })))

@@ -4,7 +4,7 @@ use Rattle.search_graph.specs.declared.costs.WeightDurLen.{WeightDurLen}
 use Rattle.search_graph.specs.Digraph.{Weighting}
 use Rattle.search_graph.specs.RoadCosts.{road_cost_ops}
 use Rattle.table_query.specs.LeastCosts.{IsLeastAmong}
-use Rattle.road_places.specs.GraphLaws.{segments-in-graph}
+use Rattle.edge_graph.specs.GraphLaws.{segments-in-graph}
 use Rattle.road_places.specs.Permitted.{IsAlongOne}
 use Rattle.road_walks.specs.Choosing.{IsLeastOf}
 use Rattle.road_walks.specs.TableParts.{CanCostAlong, IsWithin}
