@@ -1,14 +1,13 @@
 -- The legs of a list of places by their numbers, and least routes along them between given states.
-use Rattle.std.proofs.Common.{◌≡◌, ℕ, zero, suc, ◌+◌, ◌-◌, ◌<◌, List, [], ◌∷◌, ◌++◌, Option, Some, None, length, drop, take, get_or, inl, inr, arith, length-drop, sym, subst, ◌∙◌}
+use Rattle.std.proofs.Common.{◌≡◌, ℕ, ◌+◌, ◌-◌, ◌<◌, List, [], ◌∷◌, ◌++◌, Option, Some, None, length, drop, take, get_or, arith, length-drop, sym, subst, ◌∙◌}
 use Rattle.std.specs.List.{AllZip, slice_get, zip}
-use Rattle.std.proofs.lemmas.Option.{slice_get-get_or}
+use Rattle.std.proofs.lemmas.Option.{same_Some, slice_get-get_or}
 use Rattle.std.proofs.lemmas.Slice.Zip.{length-zip}
 use Rattle.list_lemmas.proofs.Fronts.{all_zip-more, all_zip-second, slice_get-rest, slice_get-zip}
 use Rattle.road_base.specs.declared.segments.Place.{Place}
 use Rattle.metric_make.specs.RoadMetric.{RoadMetric}
-use Rattle.road_places.specs.Places.{IsDirection}
 use Rattle.road_places.specs.declared.walks.Route.{Route}
-use Rattle.road_walks.specs.Between.{IsRouteBetween, state_of}
+use Rattle.road_walks.specs.Between.{IsRouteBetween, states_of}
 use Rattle.road_walks.specs.Legs.{legs_of}
 use Rattle.road_through.specs.States.{HasRoutesBy, IsLeastBy, legs_by}
 
@@ -49,29 +48,27 @@ pub route-at : (road : RoadMetric) (places : List Place) (states : List ℕ) (k 
     → (route : Route) × IsLeastBy road (leg_by places states k) route
 route-at road places states k same lt routes = all_zip-second (IsLeastBy road) (legs_by places states) routes.0 k (leg_by places states k) routes.1 (by-at places states k same lt)
 
--- a state of a place is a direction of its segment
-pub state-direction : (place : Place) (x v : ℕ) → x < 2 → v ≡ state_of place x → IsDirection place.segment v
-state-direction place zero v two e = inl (omega (arith, e))
-state-direction place (suc zero) v two e = inr (omega (arith, e))
-state-direction place (suc (suc x)) v two e = absurd (omega arith)
+-- two states of one number are one
+same-state : (states : List ℕ) (x d e : ℕ) → slice_get states x ≡ Some d → slice_get states x ≡ Some e → d ≡ e
+same-state states x d e h k = same_Some d e (sym h ∙ k)
 
-module _ (road : RoadMetric) (leg : (Place × Place) × (ℕ × ℕ)) (v w : ℕ) (first : v ≡ state_of leg.0.0 leg.1.0) (last : w ≡ state_of leg.0.1 leg.1.1) where
-  by-states : (found : Option Route) → IsRouteBetween road leg.0.0 leg.0.1 v w found → IsRouteBetween road leg.0.0 leg.0.1 (state_of leg.0.0 leg.1.0) (state_of leg.0.1 leg.1.1) found
-  by-states found h =
-      subst (λ (b : ℕ). IsRouteBetween road leg.0.0 leg.0.1 (state_of leg.0.0 leg.1.0) b found) last
-      (subst (λ (a : ℕ). IsRouteBetween road leg.0.0 leg.0.1 a w found) first h)
-
-  -- what was found between the two vertices is a least route by the two states
-  pub found-by : (found : Option Route) (route : Route) → leg.1.0 < 2 → leg.1.1 < 2 → found ≡ Some route → IsRouteBetween road leg.0.0 leg.0.1 v w found → IsLeastBy road leg route
-  found-by found route h k e is = record {
-    first = h;
-    last = k;
-    least = subst (λ (o : Option Route). IsRouteBetween road leg.0.0 leg.0.1 (state_of leg.0.0 leg.1.0) (state_of leg.0.1 leg.1.1) o) e (by-states found is);
+module _ (road : RoadMetric) (leg : (Place × Place) × (ℕ × ℕ)) (d e : ℕ) (first : slice_get (states_of road.network leg.0.0) leg.1.0 ≡ Some d) (last : slice_get (states_of road.network leg.0.1) leg.1.1 ≡ Some e) where
+  -- what was found between the two states is a least route by their numbers
+  pub found-by : (found : Option Route) (route : Route) → found ≡ Some route → IsRouteBetween road leg.0.0 leg.0.1 d e found → IsLeastBy road leg route
+  found-by found route same is = record {
+    start = d;
+    end = e;
+    first = first;
+    last = last;
+    least = subst (λ (o : Option Route). IsRouteBetween road leg.0.0 leg.0.1 d e o) same is;
   }
 
   -- and something was where there is such a route
-  pub found-some : (found : Option Route) → found ≡ None → IsRouteBetween road leg.0.0 leg.0.1 v w found → (route : Route) → ¬ IsLeastBy road leg route
-  found-some found e is route = λ there.
-      let none : IsRouteBetween road leg.0.0 leg.0.1 (state_of leg.0.0 leg.1.0) (state_of leg.0.1 leg.1.1) None =
-      subst (λ (o : Option Route). IsRouteBetween road leg.0.0 leg.0.1 (state_of leg.0.0 leg.1.0) (state_of leg.0.1 leg.1.1) o) e (by-states found is) in
-      none route.walk route.cost there.least.permitted
+  pub found-some : (found : Option Route) → found ≡ None → IsRouteBetween road leg.0.0 leg.0.1 d e found → (route : Route) → ¬ IsLeastBy road leg route
+  found-some found same is route = λ there.
+      let none : IsRouteBetween road leg.0.0 leg.0.1 d e None = subst (λ (o : Option Route). IsRouteBetween road leg.0.0 leg.0.1 d e o) same is in
+      let start = same-state (states_of road.network leg.0.0) leg.1.0 there.start d there.first first in
+      let end = same-state (states_of road.network leg.0.1) leg.1.1 there.end e there.last last in
+      let here : IsRouteBetween road leg.0.0 leg.0.1 d e (Some route) =
+      subst (λ (b : ℕ). IsRouteBetween road leg.0.0 leg.0.1 d b (Some route)) end (subst (λ (a : ℕ). IsRouteBetween road leg.0.0 leg.0.1 a there.end (Some route)) start there.least) in
+      none route.walk route.cost here.permitted

@@ -1,7 +1,7 @@
 -- One walk through a list of places: a walk along each leg, each of which goes on along the very vertex on which the one
--- before it ends, so at each place the walk goes on as it came there (OSRM's `continue_straight`; that the walks are
--- least together is this project's rule).
-use Rattle.std.specs.Prelude.{◌≡◌, ℕ, ◌+◌, ◌<◌, List, [], ◌∷◌, ◌++◌, length, map, take}
+-- before it ends, so at each place the walk goes on as it came there, and no forbidden sequence runs along all of it, not
+-- across places either (OSRM's `continue_straight`; that the walks are least together is this project's rule).
+use Rattle.std.specs.Prelude.{◌≡◌, ℕ, ◌+◌, ◌<◌, List, [], ◌∷◌, ◌++◌, drop, length, map, take}
 use Rattle.road_base.specs.declared.segments.Place.{Place}
 use Rattle.search_graph.specs.declared.costs.WeightDurLen.{WeightDurLen}
 use Rattle.search_graph.specs.Costs.{NoDearer}
@@ -12,6 +12,7 @@ use Rattle.road_places.specs.declared.walks.Route.{Route}
 use Rattle.road_walks.specs.Legs.{AreAlong}
 use Rattle.road_walks.specs.declared.leg_faults.LegFault.{LegFault}
 use Rattle.road_walks.specs.declared.leg_faults.LegFault.TheVariants.{NoWalk, Memory}
+use Rattle.via_paths.specs.Forbidden.{IsFree}
 
 -- the walk begins with vertex v
 abbrev pub BeginsWith : List ℕ → ℕ → Type 0
@@ -31,10 +32,21 @@ AreJoined [] = Unit {0}
 AreJoined (route ∷ []) = Unit {0}
 AreJoined (route ∷ next ∷ more) = GoesOn route next × AreJoined (next ∷ more)
 
--- a permitted walk along each leg, and together they are one walk
+-- what these walks add to one before them: each of them without its first vertex, which is the last one before it
+abbrev pub walks_behind : List Route → List ℕ
+walks_behind [] = []
+walks_behind (route ∷ routes) = drop 1 route.walk ++ walks_behind routes
+
+-- the walks as one
+abbrev pub joined_walks : List Route → List ℕ
+joined_walks [] = []
+joined_walks (route ∷ routes) = route.walk ++ walks_behind routes
+
+-- a permitted walk along each leg, and together they are one walk along which no forbidden sequence runs
 pub record IsThrough (road : RoadMetric) (places : List Place) (routes : List Route) : Type 0 where
   pub along : AreAlong road places routes
   pub joined : AreJoined routes
+  pub free : IsFree road.network.forbidden (joined_walks routes)
 
 -- what the routes cost together; no bound is set to the sum
 abbrev pub cost_of_all : List Route → WeightDurLen

@@ -1,26 +1,28 @@
 //! Least routes along legs between given states of their places.
 
-ghost use Rattle.std.specs.Prelude.{◌≡◌, ℕ, ◌+◌, ◌^◌, ◌<◌, Some, IfOk, length};
+ghost use Rattle.std.specs.Prelude.{◌≡◌, ℕ, ◌<◌, Some, IfOk, length};
 ghost use Rattle.std.specs.List.{slice_get};
 ghost use Rattle.road_places.specs.Places.{IsPlaceOn};
-ghost use Rattle.road_walks.specs.Between.{state_of};
+ghost use Rattle.road_walks.specs.Between.{states_of};
 ghost use Rattle.road_walks.specs.Least.{most_units};
 ghost use Rattle.road_walks.specs.Legs.{AreWithinUnits};
 ghost use Rattle.road_through.specs.States.{AreRoutesBy, HasRoutesBy};
 
 use customized::Under;
+use edge_graph::Network;
 use road_base::Place;
 use road_places::Route;
-use road_walks::least_route_between;
+use road_walks::{least_route_between, states_of};
 use std::alloc::{AllocError, Global};
 
-// The vertex of a state: the segment of the place in one direction.
-fn vertex_of(place: Place, state: u32) -> u32
-    requires few { place.segment < 2 ^ 30 }
-    requires two { state < 2 }
-    ensures { result ≡ state_of place state }
+// The state of a place that has this number.
+fn state_at(alloc: Global, network: &Network, place: Place, number: u32) -> Result<u32, AllocError>
+    requires placed { IsPlaceOn network.now place }
+    requires inside { number < length (states_of network.now place) }
+    ensures { IfOk result (λ state. slice_get (states_of network.now place) number ≡ Some state) }
 {
-    2 * place.segment + state
+    let states = states_of(alloc, network, place)?;
+    Ok(states[number as usize])
 }
 
 /// A least route along each leg of those that begin and end in the states of its places.
@@ -37,12 +39,12 @@ pub(crate) fn routes_by(
     ensures routes { IfOk result (λ routes. AreRoutesBy under.now.road places.now states.now routes.items) }
     ensures bound { IfOk result (λ routes. AreWithinUnits (most_units under.now.road.network) routes.items) }
 {
-    let _small = under.base();
+    let network = under.network();
     let mut routes = Vec::with_capacity(alloc, places.len() - 1)?;
     for leg in 0..places.len() - 1 {
         let (from, to) = (places[leg], places[leg + 1]);
-        let first = vertex_of(from, states[leg]);
-        let last = vertex_of(to, states[leg + 1]);
+        let first = state_at(alloc, network, from, states[leg])?;
+        let last = state_at(alloc, network, to, states[leg + 1])?;
         let found = least_route_between(alloc, under, from, to, (first, last))?;
         match found {
             Some(route) => routes.push(route)?,

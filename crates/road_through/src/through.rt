@@ -18,9 +18,9 @@ use std::thread::Threads;
 use through_query::{Chain, least_chain};
 
 /// One least walk through all places: a route along each leg, each of which goes on along the vertex on which the one
-/// before it ends, so that together they cost the least that such routes can. Where no such walk leads through them it
-/// answers the first leg behind which none reaches. What each route costs grows with the number of the network's
-/// vertices at most.
+/// before it ends, and no forbidden sequence of vertices runs along all of them, so that together they cost the least that
+/// such routes can. Where no such walk leads through them it answers the first leg behind which none reaches. What each
+/// route costs grows with the number of the network's vertices at most.
 ///
 /// It answers `Memory` only where memory runs out.
 pub fn least_through(
@@ -37,6 +37,9 @@ pub fn least_through(
     ensures bound { IfOk result (λ routes. AreWithinUnits (most_units under.now.road.network) routes.items) }
     ensures err { IfErr result (IsThroughFault under.now.road places.now) }
 {
+    let _alike = under.base();
+    let network = under.network();
+    let _sound = network.graph();
     let tables = leg_tables(rt, alloc, under, places)?;
     let chain = least_chain(alloc, &tables)?;
     match chain {

@@ -1,10 +1,9 @@
 -- Each turn has one table more.
-use Rattle.std.proofs.Common.{◌+◌, ◌≤◌, List, get_or, length, refl, subst, arith}
+use Rattle.std.proofs.Common.{◌+◌, ◌≤◌, List, get_or, length, subst, arith}
 use Rattle.std.specs.List.{AllZip}
 use Rattle.std.proofs.lemmas.List.{take_all}
 use Rattle.road_base.specs.declared.segments.Place.{Place}
 use Rattle.road_walks.specs.Legs.{legs_of}
-use Rattle.through_query.specs.declared.legs.LegCosts.{LegCosts}
 use Rattle.road_through.specs.States.{IsTableOf}
 use Rattle.road_through.proofs.LegLemmas.{beside-more, pair-at, pairs-count}
 use Rattle.road_through.proofs.tables.leg_tables.Goals as goal
@@ -16,10 +15,8 @@ loop-leg-preserved g c =
     let k = c.loop-leg.leg in
     let nowhere : Place = record { segment = 0; at = 0 } in
     let test = c.loop-leg-test.true in
-    let table : LegCosts = record { starts = 2; ends = 2; costs = c.in_ok-costs.costs } in
-    beside-more (IsTableOf road) (legs_of places) c.loop-leg.tables.items _ k (get_or places k nowhere, get_or places (k + 1) nowhere) table c.in_ok-push.ensures.items c.loop-leg.invariant
-    (pair-at places k nowhere (omega (arith, test)))
-    (record { starts = refl; ends = refl; costs = c.in_ok-costs.ensures })
+    beside-more (IsTableOf road) (legs_of places) c.loop-leg.tables.items _ k (get_or places k nowhere, get_or places (k + 1) nowhere) c.in_ok-table.table c.in_ok-push.ensures.items c.loop-leg.invariant
+    (pair-at places k nowhere (omega (arith, test))) c.in_ok-table.ensures
 
 -- at the end all legs have theirs
 pub returns : goal.returns

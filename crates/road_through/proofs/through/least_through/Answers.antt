@@ -2,6 +2,7 @@
 use Rattle.std.proofs.Common.{ℕ, List, ap, arith, length, subst, sym}
 use Rattle.through_query.specs.Chains.{IsAnswer, IsBrokenAt, IsLeastChain}
 use Rattle.through_query.specs.declared.legs.LegCosts.{LegCosts}
+use Rattle.edge_graph.specs.Sound.{IsSoundNetwork}
 use Rattle.road_through.specs.States.{AreRoutesBy, HasRoutesBy}
 use Rattle.road_through.proofs.BridgeLemmas.{broken-through, least-through, routes-count, routes-some, states-count, tables-count}
 use Rattle.road_through.proofs.through.least_through.Goals as goal
@@ -36,7 +37,7 @@ routes_by-requires-clause-reach g c =
     let states = c.in-States.states.items in
     let chain : IsLeastChain c.deref.result.now states = subst (IsAnswer c.deref.result.now) c.in-States.is c.in_ok-chain.ensures in
     subst (HasRoutesBy road places) (sym c.as_slice.ensures.value)
-    (routes-some road places tables states c.requires.some c.in_ok-tables.ensures (subst (λ (legs : List LegCosts). IsLeastChain legs states) c.deref.ensures.value chain))
+    (routes-some road (subst IsSoundNetwork c.network-network.ensures c.graph-sound.ensures.sound) c.base-alike.ensures.alike places tables states c.requires.some c.in_ok-tables.ensures (subst (λ (legs : List LegCosts). IsLeastChain legs states) c.deref.ensures.value chain))
 
 pub returns-in-States-clause-through : goal.returns-in-States-clause-through
 returns-in-States-clause-through g c =
@@ -45,7 +46,7 @@ returns-in-States-clause-through g c =
     let tables = c.in_ok-tables.tables.items in
     let states = c.in-States.states.items in
     let chain : IsLeastChain c.deref.result.now states = subst (IsAnswer c.deref.result.now) c.in-States.is c.in_ok-chain.ensures in
-    least-through road places tables states c.in_ok-routes-in-States.routes.items c.requires.some c.in_ok-tables.ensures
+    least-through road (subst IsSoundNetwork c.network-network.ensures c.graph-sound.ensures.sound) c.base-alike.ensures.alike places tables states c.in_ok-routes-in-States.routes.items c.requires.some c.requires.placed c.in_ok-tables.ensures
     (subst (λ (legs : List LegCosts). IsLeastChain legs states) c.deref.ensures.value chain)
     (subst (λ (chosen : List ℕ). AreRoutesBy road places chosen c.in_ok-routes-in-States.routes.items) c.as_slice.ensures.value c.in_ok-routes-in-States.ensures.routes)
 
@@ -59,5 +60,5 @@ returns-clause-err g c =
     let road = c.args.under.now.road in
     let places = c.args.places.now in
     let broken : IsBrokenAt c.deref.result.now c.in-Broken.leg = subst (IsAnswer c.deref.result.now) c.in-Broken.is c.in_ok-chain.ensures in
-    broken-through road places c.in_ok-tables.tables.items c.in-Broken.leg c.requires.some c.in_ok-tables.ensures
+    broken-through road (subst IsSoundNetwork c.network-network.ensures c.graph-sound.ensures.sound) c.base-alike.ensures.alike places c.in_ok-tables.tables.items c.in-Broken.leg c.requires.some c.requires.placed c.in_ok-tables.ensures
     (subst (λ (legs : List LegCosts). IsBrokenAt legs c.in-Broken.leg) c.deref.ensures.value broken)
