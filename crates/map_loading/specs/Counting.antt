@@ -40,7 +40,7 @@ counts_text objects network =
     with_line restrictions (codes "ignored") network.ignored
 
 -- behind a text, where the settings have sets of classes that a request may exclude, how many, and how many bytes the
--- costs of the vertices take for each of these
+-- costs of the network's vertices take for each of these, those of copies not counted
 abbrev pub with_sets : List ℕ → NetworkView → List ℕ
 with_sets text network = if length network.profile.excludable == 0 then text else (
     let sets = with_line text (codes "excludable") (length network.profile.excludable) in

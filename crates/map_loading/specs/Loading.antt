@@ -2,9 +2,9 @@
 -- refuses them. The map is judged first, then the settings, then the limits.
 use Rattle.std.specs.Prelude.{ℕ, nat_le, List, ◌++◌, length, codes, Result, Ok, Err, if◌then◌else◌}
 use Rattle.std.specs.Fmt.{decimal}
-use Rattle.edge_graph.specs.Limits.{most_turns}
+use Rattle.edge_graph.specs.Limits.{most_copies, most_turns}
 use Rattle.road_segments.specs.Limits.{most_segments}
-use Rattle.edge_graph.specs.NetworkView.{NetworkView, network_of, graph_of}
+use Rattle.edge_graph.specs.NetworkView.{NetworkView, copies_in, graph_of, network_of}
 use Rattle.opl_read.specs.Objects.{opl_objects}
 use Rattle.opl_read.specs.declared.line_faults.FaultKind.{FaultKind}
 use Rattle.opl_read.specs.declared.line_faults.FaultKind.TheVariants as kind
@@ -41,13 +41,23 @@ settings_line setting.Memory = memory_line
 abbrev pub segments_line : List ℕ
 segments_line = codes "too many segments\n"
 
+abbrev pub vias_line : List ℕ
+vias_line = codes "too many vias\n"
+
 abbrev pub turns_line : List ℕ
 turns_line = codes "too many turns\n"
 
--- the network, where it has no more segments than a network may have, and the graph that is searched no more arcs
+-- the network, where the graph that is searched has no more arcs than that of a network may have
+abbrev pub within_turns : NetworkView → Result NetworkView (List ℕ)
+within_turns network = if nat_le (length (graph_of network).arcs) most_turns then Ok network else Err turns_line
+
+-- nor more copies of vertices
+abbrev pub within_vias : NetworkView → Result NetworkView (List ℕ)
+within_vias network = if nat_le (length (copies_in network)) most_copies then within_turns network else Err vias_line
+
+-- nor more segments itself
 abbrev pub within_limits : NetworkView → Result NetworkView (List ℕ)
-within_limits network =
-    if nat_le (length network.segments) most_segments then (if nat_le (length (graph_of network).arcs) most_turns then Ok network else Err turns_line) else Err segments_line
+within_limits network = if nat_le (length network.segments) most_segments then within_vias network else Err segments_line
 
 abbrev pub load_from : Result (List Object) LineFault → Result ProfileView SettingsFault → Result NetworkView (List ℕ)
 load_from (Err fault) settings = Err (opl_line fault)

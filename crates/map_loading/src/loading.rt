@@ -100,6 +100,10 @@ fn build(alloc: Global, objects: &[Object], profile: &Profile) -> Result<Network
             alloc,
             "too many segments\n",
         )?)),
+        Err(BuildFault::TooManyVias) => Err(LoadFault::Refused(Text::copy_of(
+            alloc,
+            "too many vias\n",
+        )?)),
         Err(BuildFault::TooManyTurns) => Err(LoadFault::Refused(Text::copy_of(
             alloc,
             "too many turns\n",

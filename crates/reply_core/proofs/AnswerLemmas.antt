@@ -19,6 +19,7 @@ use Rattle.search_graph.specs.declared.costs.WeightDurLen.{WeightDurLen}
 use Rattle.search_graph.specs.Digraph.{Digraph, Weighting}
 use Rattle.search_graph.specs.RoadCosts.{road_cost_laws, road_cost_ops}
 use Rattle.search_graph.specs.Faults.{AllInRange}
+use Rattle.edge_graph.specs.GraphLaws.{segments-in-graph}
 use Rattle.edge_graph.specs.NetworkView.{NetworkView, graph_of}
 use Rattle.edge_graph.specs.Turn.{IsSimple}
 use Rattle.metric_make.specs.MetricOf.{MetricView}
@@ -140,8 +141,8 @@ pub leg-fault : (road : RoadMetric) (number : ℕ) (request : Request) (own : Ro
 leg-fault road number request own places (leg.NoWalk n) is recent snapped first = (recent, record { own = own; service = is; places = places; snapped = snapped; first = broken-leg own.continue_straight road places n first })
 leg-fault road number request own places leg.Memory is recent snapped first = tt
 
--- the routes of a network of so many segments at most cost so little that their steps can be added up
-pub few-units : (network : NetworkView) (routes : List Route) → length network.segments ≤ 2 ^ 26 → AreWithinUnits (most_units network) routes → AreSmall routes
+-- the routes of a network whose searched graph has so many vertices at most cost so little that their steps can be added up
+pub few-units : (network : NetworkView) (routes : List Route) → (graph_of network).vertices ≤ 2 ^ 27 → AreWithinUnits (most_units network) routes → AreSmall routes
 few-units network routes few within =
     All-weaker (λ (route : Route). road_cost_ops.units route.cost (most_units network)) (λ (route : Route). road_cost_ops.units route.cost (2 ^ 30))
     (λ route h. road_cost_laws.units_more route.cost (most_units network) (2 ^ 30) h (omega (arith, few))) routes within
@@ -149,6 +150,19 @@ few-units network routes few within =
 -- a network and costs that are a road's
 pub road-same : (road : RoadMetric) (network : NetworkView) (base : MetricView) → network ≡ road.network → base.weights ≡ road.weights → road_of network base ≡ road
 road-same road network base n w = ap₂ {C = RoadMetric} (λ (x : NetworkView) (y : Weighting WeightDurLen). record { network = x; weights = y }) n w
+
+-- each vertex of the network of a road has a cost, or is closed
+pub vertices-weighed : (road : RoadMetric) (network : NetworkView) (base : MetricView) → network ≡ road.network → base.weights ≡ road.weights → length road.weights.vertex ≡ (graph_of road.network).vertices → 2 * length network.segments ≤ length base.weights.vertex
+vertices-weighed road network base n w many =
+    let listed : length base.weights.vertex ≡ (graph_of road.network).vertices = ap (λ (x : Weighting WeightDurLen). length x.vertex) w ∙ many in
+    let same : length network.segments ≡ length road.network.segments = ap (λ (x : NetworkView). length x.segments) n in
+    omega (arith, listed, same, segments-in-graph road.network)
+
+-- and it has few segments
+pub few-segments : (road : RoadMetric) (network : NetworkView) → network ≡ road.network → (graph_of road.network).vertices ≤ 2 ^ 27 → length network.segments < 2 ^ 30
+few-segments road network n few =
+    let same : length network.segments ≡ length road.network.segments = ap (λ (x : NetworkView). length x.segments) n in
+    omega (arith, few, same, segments-in-graph road.network)
 
 -- what leads along the legs of one road leads along those of the same one
 pub permitted-on : (road : RoadMetric) (network : NetworkView) (base : MetricView) (places given : List Place) (routes walked : List Route) → network ≡ road.network → base.weights ≡ road.weights → given ≡ places → walked ≡ routes

@@ -52,6 +52,8 @@ pub(crate) fn route_answer(
     // a vertex is twice a segment, and fits its type
     let network = under.network();
     prove!(network.segments() < 1 << 30);
+    // so few vertices of the searched graph that no route costs too much
+    let _few = network.graph();
     let places = places_of(alloc, under, grid, request)?;
     let routes = routes_of(rt, alloc, under, own.continue_straight, &places)?;
     Ok(told(alloc, under, number, request, own, places, routes)?)

@@ -51,6 +51,8 @@ pub(crate) fn trip_answer(
     // a vertex is twice a segment, and fits its type
     let network = under.network();
     prove!(network.segments() < 1 << 30);
+    // so few vertices of the searched graph that no route costs too much
+    let _few = network.graph();
     let places = places_of(alloc, under, grid, request)?;
     let found = best_trip(rt, alloc, under, &places, rule_of(own))?;
     match found {

@@ -16,10 +16,12 @@ use Rattle.std.proofs.lemmas.Map.Keys.{any_passes_from_place}
 use Rattle.std.proofs.lemmas.Option.{get_or_from_slice_get, same_Some, slice_get-get_or, slice_get-map, slice_get_read}
 use Rattle.list_lemmas.proofs.Fronts.{map-map}
 use Rattle.list_lemmas.proofs.Gets.{get_Contains}
-use Rattle.search_graph.specs.Digraph.{Digraph, Leaves}
+use Rattle.search_graph.specs.Digraph.{IsArc, Leaves}
 use Rattle.edge_graph.specs.Departures.{vertices_from}
 use Rattle.road_segments.specs.Laws.{length-vertices}
-use Rattle.edge_graph.specs.NetworkView.{NetworkView, vertices_of}
+use Rattle.edge_graph.specs.GraphLaws.{arc-is-turn, turn-in-graph}
+use Rattle.edge_graph.specs.NetworkView.{NetworkView, graph_of, stands, vertices_of}
+use Rattle.edge_graph.specs.Sound.{IsSoundNetwork}
 use Rattle.road_segments.specs.Vertex.{Vertex}
 use Rattle.route_steps.specs.Turnings.{bearing_on}
 use Rattle.route_steps.specs.Ways.{by_bearing, follows, place_of, way_on, ways_behind, ways_from}
@@ -104,35 +106,46 @@ turn_head turns i = option_map_or (λ (t : ℕ × ℕ). t.1) (slice_get turns i)
 pub turn_head-is : (turns : List (ℕ × ℕ)) (i d e : ℕ) → slice_get turns i ≡ Some (d, e) → turn_head turns i ≡ e
 turn_head-is turns i d e at = ap (λ (o : Option (ℕ × ℕ)). option_map_or (λ (t : ℕ × ℕ). t.1) o 0) at
 
-module _ (g : Digraph) (d : ℕ) (row : List ℕ) (leaves : (i : ℕ) → Contains row i ↔ Leaves g i d) (v : ℕ) where
-  abbrev heads : List ℕ
-  heads = map (turn_head g.arcs) row
+-- and the one for which the head of an arc of the searched graph stands
+abbrev pub stood_head : NetworkView → ℕ → ℕ
+stood_head network i = stands network (turn_head (graph_of network).arcs i)
 
-  -- what arcs from a vertex lead onto is found among the arcs
-  onto-arcs : list_any (λ u. eqb u v) heads ≡ true → list_any (λ (t : ℕ × ℕ). eqb t.0 d && eqb t.1 v) g.arcs ≡ true
-  onto-arcs any =
+pub stood_head-is : (network : NetworkView) (i d q : ℕ) → IsArc (graph_of network) i d q → stood_head network i ≡ stands network q
+stood_head-is network i d q at = ap (stands network) (turn_head-is (graph_of network).arcs i d q at)
+
+module _ (network : NetworkView) (sound : IsSoundNetwork network) (d : ℕ) (ordinary : d < 2 * length network.segments) (row : List ℕ) (leaves : (i : ℕ) → Contains row i ↔ Leaves (graph_of network) i d) (v : ℕ) where
+  abbrev heads : List ℕ
+  heads = map (stood_head network) row
+
+  -- what arcs from a vertex lead onto stands for what its turns do
+  onto-turns : list_any (λ u. eqb u v) heads ≡ true → list_any (λ (t : ℕ × ℕ). eqb t.0 d && eqb t.1 v) network.turns ≡ true
+  onto-turns any =
       let at = Any-from_list_any (λ u. eqb u v) heads any in
-      let within : at.0 < length row = omega (arith, at.2, length-map {A = ℕ} {B = ℕ} row (turn_head g.arcs)) in
+      let within : at.0 < length row = omega (arith, at.2, length-map {A = ℕ} {B = ℕ} row (stood_head network)) in
       let i : ℕ = get_or row at.0 0 in
       let arc = (leaves i).0 (Contains-get_or row at.0 0 within) in
-      let head : slice_get heads at.0 ≡ Some (turn_head g.arcs i) = slice_get-map (turn_head g.arcs) row at.0 ∙ ap (option_map (turn_head g.arcs)) (slice_get-get_or row at.0 0 within) in
-      let same : arc.0 ≡ v = sym (turn_head-is g.arcs i d arc.0 arc.1) ∙ sym (get_or_from_slice_get heads at.0 (turn_head g.arcs i) at.1 head) ∙ at.3 ∙ eqb-true at.1 v at.4 in
-      any_passes_from_place (λ (t : ℕ × ℕ). eqb t.0 d && eqb t.1 v) g.arcs i (d, arc.0) arc.1 (and_from (eqb d d) (eqb arc.0 v) (eq-eqb d d refl) (eq-eqb arc.0 v same))
+      let e : ℕ = stands network arc.0 in
+      let turn : slice_get network.turns i ≡ Some (d, e) = arc-is-turn network sound i d arc.0 ordinary arc.1 in
+      let head : slice_get heads at.0 ≡ Some (stood_head network i) = slice_get-map (stood_head network) row at.0 ∙ ap (option_map (stood_head network)) (slice_get-get_or row at.0 0 within) in
+      let same : e ≡ v = sym (stood_head-is network i d arc.0 arc.1) ∙ sym (get_or_from_slice_get heads at.0 (stood_head network i) at.1 head) ∙ at.3 ∙ eqb-true at.1 v at.4 in
+      any_passes_from_place (λ (t : ℕ × ℕ). eqb t.0 d && eqb t.1 v) network.turns i (d, e) turn (and_from (eqb d d) (eqb e v) (eq-eqb d d refl) (eq-eqb e v same))
 
-  arcs-onto : list_any (λ (t : ℕ × ℕ). eqb t.0 d && eqb t.1 v) g.arcs ≡ true → list_any (λ u. eqb u v) heads ≡ true
-  arcs-onto is =
-      let at = Any-from_list_any (λ (t : ℕ × ℕ). eqb t.0 d && eqb t.1 v) g.arcs is in
+  turns-onto : list_any (λ (t : ℕ × ℕ). eqb t.0 d && eqb t.1 v) network.turns ≡ true → list_any (λ u. eqb u v) heads ≡ true
+  turns-onto is =
+      let at = Any-from_list_any (λ (t : ℕ × ℕ). eqb t.0 d && eqb t.1 v) network.turns is in
       let t : ℕ × ℕ = at.1 in
       let parts = and_parts (eqb t.0 d) (eqb t.1 v) at.4 in
-      let there : slice_get g.arcs at.0 ≡ Some t = slice_get_read g.arcs (length g.arcs) at.0 t refl at.2 (sym at.3) in
-      let listed = get_Contains row at.0 ((leaves at.0).1 (t.1, there ∙ ap (λ (x : ℕ). Some (x, t.1)) (eqb-true t.0 d parts.0))) in
-      let head : slice_get heads listed.0 ≡ Some (turn_head g.arcs at.0) = slice_get-map (turn_head g.arcs) row listed.0 ∙ ap (option_map (turn_head g.arcs)) listed.1 in
-      any_passes_from_place (λ u. eqb u v) heads listed.0 (turn_head g.arcs at.0) head
-      (eq-eqb (turn_head g.arcs at.0) v (turn_head-is g.arcs at.0 t.0 t.1 there ∙ eqb-true t.1 v parts.1))
+      let there : slice_get network.turns at.0 ≡ Some t = slice_get_read network.turns (length network.turns) at.0 t refl at.2 (sym at.3) in
+      let arc = turn-in-graph network sound at.0 d t.1 (there ∙ ap (λ (x : ℕ). Some (x, t.1)) (eqb-true t.0 d parts.0)) in
+      let listed = get_Contains row at.0 ((leaves at.0).1 (arc.0, arc.1)) in
+      let head : slice_get heads listed.0 ≡ Some (stood_head network at.0) = slice_get-map (stood_head network) row listed.0 ∙ ap (option_map (stood_head network)) listed.1 in
+      any_passes_from_place (λ u. eqb u v) heads listed.0 (stood_head network at.0) head
+      (eq-eqb (stood_head network at.0) v (stood_head-is network at.0 d arc.0 arc.1 ∙ arc.2 ∙ eqb-true t.1 v parts.1))
 
-  -- and nothing else is
-  pub heads-found : list_any (λ u. eqb u v) heads ≡ list_any (λ (t : ℕ × ℕ). eqb t.0 d && eqb t.1 v) g.arcs
-  heads-found = both-ways (list_any (λ u. eqb u v) heads) (list_any (λ (t : ℕ × ℕ). eqb t.0 d && eqb t.1 v) g.arcs) onto-arcs arcs-onto
+  -- and nothing else
+  pub heads-found : list_any (λ u. eqb u v) heads ≡ follows network d v
+  unfolding follows
+  heads-found = both-ways (list_any (λ u. eqb u v) heads) (list_any (λ (t : ℕ × ℕ). eqb t.0 d && eqb t.1 v) network.turns) onto-turns turns-onto
 
 -- a number isn't among those below it and those above it
 none-between : (xs : List ℕ) (x i k : ℕ) → ((k : ℕ) → k < i → get_or xs k 0 < x) → ((k : ℕ) → i ≤ k → k < length xs → x < get_or xs k 0) → (k < i) ⊎ (i ≤ k) → k < length xs → get_or xs k 0 ≡ x → ⊥

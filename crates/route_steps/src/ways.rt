@@ -1,13 +1,12 @@
 //! What leaves the node between two vertices of a walk.
 
-ghost use Rattle.std.specs.Prelude.{◌≡◌, ℕ, ◌==◌, ◌&&◌, ◌*◌, ◌^◌, ◌<◌, All, IfOk, length, map, option_map, position};
+ghost use Rattle.std.specs.Prelude.{◌≡◌, ℕ, ◌==◌, ◌*◌, ◌^◌, ◌<◌, All, IfOk, length, map, option_map, position};
 ghost use Rattle.std.specs.List.{list_any};
 ghost use Rattle.std.specs.List.Sorted.{IsNonDecreasing};
 ghost use Rattle.route_steps.specs.Ways.{follows, way_on, ways_behind};
 
 use crate::turnings::bearing_on;
 use edge_graph::Network;
-use search_graph::Graph;
 use std::alloc::{AllocError, Global};
 
 /// A vertex that leaves a node, and its bearing in whole degrees, below 360.
@@ -47,17 +46,18 @@ pub(crate) fn ways_behind(alloc: Global, network: &Network, d: u32) -> Result<Ve
     Ok(ways)
 }
 
-// The vertices onto which the arcs from a vertex lead.
-fn heads_from(alloc: Global, graph: &Graph, d: u32) -> Result<Vec<u32>, AllocError>
-    requires { d < graph.now.vertices }
-    ensures { IfOk result (λ heads. (v : ℕ) → list_any (λ u. u == v) heads.items ≡ list_any (λ arc. arc.0 == d && arc.1 == v) graph.now.arcs) }
+// The vertices for which those stand onto which the arcs from a vertex lead.
+fn heads_from(alloc: Global, network: &Network, d: u32) -> Result<Vec<u32>, AllocError>
+    requires { d < 2 * length network.now.segments }
+    ensures { IfOk result (λ heads. (v : ℕ) → list_any (λ u. u == v) heads.items ≡ follows network.now d v) }
 {
+    let graph = network.graph();
     let row = graph.out(d);
     let mut heads = Vec::with_capacity(alloc, row.len())?;
     for place in 0..row.len() {
         let arc = row.get(place);
         let ends = graph.arc(arc);
-        heads.push(ends.1)?;
+        heads.push(network.stands_for(ends.1))?;
     }
     Ok(heads)
 }
@@ -68,8 +68,7 @@ pub(crate) fn followers(alloc: Global, network: &Network, d: u32) -> Result<Vec<
     ensures ascending { IfOk result (λ followers. IsNonDecreasing followers.items) }
     ensures all { IfOk result (λ followers. (v : ℕ) → list_any (λ u. u == v) followers.items ≡ follows network.now d v) }
 {
-    let graph = network.graph();
-    let mut followers = heads_from(alloc, graph, d)?;
+    let mut followers = heads_from(alloc, network, d)?;
     followers.sort_unstable();
     Ok(followers)
 }

@@ -3,7 +3,10 @@ use Rattle.std.proofs.Common.{◌≡◌, ◌<◌, ◌≤◌, ◌*◌, ◌/◌, �
 use Rattle.std.specs.List.{range_with_len}
 use Rattle.std.proofs.Math.Nat.{div-lt_iff_lt-mul}
 use Rattle.list_lemmas.proofs.Fronts.{all_zip-length}
-use Rattle.edge_graph.specs.NetworkView.{NetworkView}
+use Rattle.search_graph.specs.Digraph.{Weighting}
+use Rattle.search_graph.specs.declared.costs.WeightDurLen.{WeightDurLen}
+use Rattle.edge_graph.specs.GraphLaws.{segments-in-graph}
+use Rattle.edge_graph.specs.NetworkView.{NetworkView, graph_of}
 use Rattle.road_base.specs.declared.segments.Place.{Place}
 use Rattle.road_places.specs.declared.walks.Route.{Route}
 use Rattle.road_walks.specs.Least.{IsRouteAnswer}
@@ -14,6 +17,13 @@ use Rattle.town_drill.specs.Asked.{node_position, start_of, stop_of}
 use Rattle.town_drill.specs.Trips.{IsTrip, StandsAt}
 use Rattle.town_drill.specs.declared.trips.Trip.{Trip}
 use Rattle.town_drill.specs.declared.trips.Trip.TheVariants.{Arrives, NoRoute}
+
+-- each vertex of the network of a road has a cost, or is closed
+pub vertices-weighed : (road : RoadMetric) (network : NetworkView) (weights : Weighting WeightDurLen) → network ≡ road.network → weights ≡ road.weights → length road.weights.vertex ≡ (graph_of road.network).vertices → 2 * length network.segments ≤ length weights.vertex
+vertices-weighed road network weights n w many =
+    let listed : length weights.vertex ≡ (graph_of road.network).vertices = ap (λ (x : Weighting WeightDurLen). length x.vertex) w ∙ many in
+    let same : length network.segments ≡ length road.network.segments = ap (λ (x : NetworkView). length x.segments) n in
+    omega (arith, listed, same, segments-in-graph road.network)
 
 -- a trip between two positions, which are those of its nodes
 pub trip-between : (road : RoadMetric) (n k q : ℕ) (from to : Position) (a b : ℕ) (trip : Trip) → from ≡ node_position n a → a ≡ start_of n k q → to ≡ node_position n b → b ≡ stop_of n k q

@@ -13,8 +13,14 @@ use Rattle.url_read.specs.Request.{AreOwn}
 use Rattle.url_read.specs.declared.requests.Service.{Service}
 use Rattle.reply_texts.specs.Replies.{nearest_reply}
 use Rattle.reply_core.specs.Asked.{asked_in}
-use Rattle.reply_core.proofs.AnswerLemmas.{asked-count, first-stray, firsts-on, found-none, found-placed, found-some, none-found, one-element, one-of}
+use Rattle.reply_core.proofs.AnswerLemmas.{asked-count, few-segments, first-stray, firsts-on, found-none, found-placed, found-some, none-found, one-element, one-of, vertices-weighed}
 use Rattle.reply_core.proofs.nearest_answers.nearest_answer.Goals as goal
+
+pub nearest-requires-clause-weights : goal.nearest-requires-clause-weights
+nearest-requires-clause-weights c = vertices-weighed c.args.under.now.road c.network.result.now c.base.result.now c.network.ensures c.base.ensures.value c.base.ensures.small.vertices
+
+pub nearest_text-requires-clause-few : goal.nearest_text-requires-clause-few
+nearest_text-requires-clause-few c = few-segments c.args.under.now.road c.network-2.result.now c.network-2.ensures c.base.ensures.small.few
 
 pub returns-then-is_empty-clause-err : goal.returns-then-is_empty-clause-err
 returns-then-is_empty-clause-err c =

@@ -1,7 +1,7 @@
-use Rattle.std.proofs.Common.{ap, arith, length}
+use Rattle.std.proofs.Common.{◌≡◌, ap, arith, length}
 use Rattle.list_lemmas.proofs.Fronts.{all_zip-length}
 use Rattle.road_base.specs.declared.segments.Place.{Place}
-use Rattle.edge_graph.specs.NetworkView.{NetworkView}
+use Rattle.edge_graph.specs.NetworkView.{NetworkView, graph_of}
 use Rattle.reply_core.specs.Asked.{asked_in}
 use Rattle.reply_core.specs.Lacks.{StandsFor}
 use Rattle.reply_core.proofs.AnswerLemmas.{asked-count, few-of, few-units, two-of}
@@ -48,5 +48,5 @@ told-requires-clause-legs g c =
 pub told-requires-clause-small : goal.told-requires-clause-small
 told-requires-clause-small g c =
     let network = c.args.under.now.road.network in
-    let same = ap (λ (n : NetworkView). length n.segments) c.network-network.ensures in
-    few-units network c.in_ok-routes.routes.items (omega (arith, c.segments.ensures.value, c.segments.ensures.fits, same)) c.in_ok-routes.ensures.bound
+    let same : (graph_of c.network-network.result.now).vertices ≡ (graph_of network).vertices = ap (λ (n : NetworkView). (graph_of n).vertices) c.network-network.ensures in
+    few-units network c.in_ok-routes.routes.items (omega (arith, c.graph-few.ensures.few, same)) c.in_ok-routes.ensures.bound

@@ -16,7 +16,7 @@ route_text-requires-clause-small c = subst AreSmall (sym c.deref-2.ensures.value
 pub returns-clause-in_steps : goal.returns-clause-in_steps
 returns-clause-in_steps c =
     told-in-steps c.args.under.now.road c.network-network.result.now c.args.places.items _ c.args.routes.items
-    c.network-network.ensures c.of.ensures c.graph-turns.ensures.simple c.graph-turns.ensures.in_range c.requires.placed c.requires.along
+    c.network-network.ensures c.of.ensures c.graph-turns.ensures.sound.simple c.graph-turns.ensures.sound.in_range c.requires.placed c.requires.along
 
 pub returns-clause-tells : goal.returns-clause-tells
 returns-clause-tells c =

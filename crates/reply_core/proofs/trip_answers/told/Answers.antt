@@ -47,7 +47,7 @@ returns-clause-says c =
     trip.stops.items c.as_slice-stops.result.now trip.best.order c.as_slice-order.result.now trip.routes.items c.as_slice-routes.result.now
     c.network-network.ensures c.base-base.ensures.value c.deref.ensures.value c.as_slice-stops.ensures.value c.as_slice-order.ensures c.as_slice-routes.ensures.value in
     let in_steps = told-in-steps road c.network-network.result.now trip.stops.items trip.stops.items trip.routes.items
-    c.network-network.ensures refl c.graph-turns.ensures.simple c.graph-turns.ensures.in_range c.requires.bounded.placed c.requires.trip.along in
+    c.network-network.ensures refl c.graph-turns.ensures.sound.simple c.graph-turns.ensures.sound.in_range c.requires.bounded.placed c.requires.trip.along in
     says-trip road c.args.number request own _ c.args.places.items trip.stops.items trip.best trip.routes.items
     c.requires.recent c.requires.snapped c.requires.trip.best c.requires.trip.stops c.requires.trip.along c.requires.trip.least in_steps
     c.of.ensures (c.of-2.ensures ∙ c.in_ok-walks.ensures ∙ ap (λ (xs : List Route). map (λ (route : Route). route.walk) xs) c.into_routes.ensures)

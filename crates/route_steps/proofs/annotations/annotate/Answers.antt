@@ -10,7 +10,7 @@ use Rattle.route_steps.proofs.annotations.annotate.Goals as goal
 pub paid_along-requires-clause-in_range : goal.paid_along-requires-clause-in_range
 paid_along-requires-clause-in_range c =
     let road : RoadMetric = road_of c.args.network.now c.args.base.now in
-    let range = c.graph-turns.ensures.in_range in
+    let range = c.graph-turns.ensures.sound.in_range in
     let all = vertices_of-walk road c.args.from c.args.to c.requires.from c.requires.to c.args.walk.now c.requires.walk.0 range c.requires.walk.1 in
     λ k d h. (all k d h).1
 
@@ -18,7 +18,7 @@ paid_along-requires-clause-in_range c =
 pub nodes_along-requires-clause-in_range : goal.nodes_along-requires-clause-in_range
 nodes_along-requires-clause-in_range c =
     let road : RoadMetric = road_of c.args.network.now c.args.base.now in
-    let range = c.graph-turns.ensures.in_range in
+    let range = c.graph-turns.ensures.sound.in_range in
     let all = vertices_of-walk road c.args.from c.args.to c.requires.from c.requires.to c.args.walk.now c.requires.walk.0 range c.requires.walk.1 in
     λ k d h. (all k d h).0
 

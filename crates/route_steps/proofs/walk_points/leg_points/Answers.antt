@@ -13,7 +13,7 @@ push_ends-requires c =
     let network = c.args.network.now in
     let n = 2 * length network.segments in
     let road : RoadMetric = record { network = network; weights = c.requires.walk.0 } in
-    let range = c.graph-turns.ensures.in_range in
+    let range = c.graph-turns.ensures.sound.in_range in
     let all = vertices_of-walk road c.args.from c.args.to c.requires.from c.requires.to c.args.walk.now c.requires.walk.1 range c.requires.walk.2 in
     All-take (λ v. v < n) (length c.args.walk.now - 1) c.args.walk.now (λ k d h. (all k d h).0)
 

@@ -13,7 +13,7 @@ use Rattle.route_steps.proofs.walk_steps.course_of.Goals as goal
 pub paid_along-requires-clause-in_range : goal.paid_along-requires-clause-in_range
 paid_along-requires-clause-in_range c =
     let road : RoadMetric = road_of c.args.network.now c.args.base.now in
-    let range = c.graph-turns.ensures.in_range in
+    let range = c.graph-turns.ensures.sound.in_range in
     let all = vertices_of-walk road c.args.from c.args.to c.requires.from c.requires.to c.args.walk.now c.requires.walk.0 range c.requires.walk.1 in
     λ k d h. (all k d h).1
 
@@ -21,7 +21,7 @@ paid_along-requires-clause-in_range c =
 pub turns_paid-requires-clause-in_range : goal.turns_paid-requires-clause-in_range
 turns_paid-requires-clause-in_range c =
     let road : RoadMetric = road_of c.args.network.now c.args.base.now in
-    let range = c.graph-turns.ensures.in_range in
+    let range = c.graph-turns.ensures.sound.in_range in
     let all = vertices_of-walk road c.args.from c.args.to c.requires.from c.requires.to c.args.walk.now c.requires.walk.0 range c.requires.walk.1 in
     λ k d h. (all k d h).0
 
@@ -40,8 +40,8 @@ returns-clause-course c =
     let p = c.args.from in
     let q = c.args.to in
     let d = c.requires.walk.0 in
-    let range = c.graph-turns.ensures.in_range in
+    let range = c.graph-turns.ensures.sound.in_range in
     let some = some-vertex road p q walk d c.requires.walk.1 in
     course-same (length walk) c.in_ok-points.points (points_along road.network.segments p q walk) c.in_ok-paid.paid (paid_along road.weights p q walk) c.of.result (turns_paid road walk)
     c.in_ok-points.ensures c.in_ok-paid.ensures (c.of.ensures ∙ c.in_ok-turns.ensures)
-    (course-along road p q walk some d c.graph-turns.ensures.simple (length-line road p q walk d c.requires.from c.requires.to range c.requires.walk.1) c.requires.walk.1 c.requires.walk.2)
+    (course-along road p q walk some d c.graph-turns.ensures.sound.simple (length-line road p q walk d c.requires.from c.requires.to range c.requires.walk.1) c.requires.walk.1 c.requires.walk.2)

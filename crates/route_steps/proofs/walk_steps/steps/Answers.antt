@@ -13,14 +13,14 @@ use Rattle.route_steps.proofs.walk_steps.steps.Goals as goal
 pub begins_along-requires-clause-in_range : goal.begins_along-requires-clause-in_range
 begins_along-requires-clause-in_range c =
     let road : RoadMetric = road_of c.args.network.now c.args.base.now in
-    let range = c.graph-turns.ensures.in_range in
+    let range = c.graph-turns.ensures.sound.in_range in
     let all = vertices_of-walk road c.args.from c.args.to c.requires.from c.requires.to c.args.walk.now c.requires.walk.0 range c.requires.walk.1 in
     λ k d h. (all k d h).0
 
 pub push_steps-requires-clause-in_range : goal.push_steps-requires-clause-in_range
 push_steps-requires-clause-in_range c =
     let road : RoadMetric = road_of c.args.network.now c.args.base.now in
-    let range = c.graph-turns.ensures.in_range in
+    let range = c.graph-turns.ensures.sound.in_range in
     let all = vertices_of-walk road c.args.from c.args.to c.requires.from c.requires.to c.args.walk.now c.requires.walk.0 range c.requires.walk.1 in
     λ k d h. (all k d h).0
 
@@ -51,13 +51,13 @@ pub returns-clause-totals : goal.returns-clause-totals
 returns-clause-totals c =
     let road : RoadMetric = road_of c.args.network.now c.args.base.now in
     let walk = c.args.walk.now in
-    subst (AddUp road c.args.from c.args.to walk) (sym (returns-clause-steps c)) (steps_along-cost road c.args.from c.args.to walk c.graph-turns.ensures.simple)
+    subst (AddUp road c.args.from c.args.to walk) (sym (returns-clause-steps c)) (steps_along-cost road c.args.from c.args.to walk c.graph-turns.ensures.sound.simple)
 
 -- and their lines are its line, cut
 pub returns-clause-line : goal.returns-clause-line
 returns-clause-line c =
     let road : RoadMetric = road_of c.args.network.now c.args.base.now in
     let walk = c.args.walk.now in
-    let range = c.graph-turns.ensures.in_range in
+    let range = c.graph-turns.ensures.sound.in_range in
     subst (IsLineCut road c.args.from c.args.to walk) (sym (returns-clause-steps c))
     (steps_along-line road c.args.from c.args.to walk c.requires.walk.0 c.requires.from c.requires.to range c.requires.walk.1)
