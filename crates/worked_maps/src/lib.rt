@@ -20,3 +20,5 @@ mod refusals;
 mod remaking;
 #[cfg(test)]
 mod towns;
+#[cfg(test)]
+mod via_maps;

@@ -1,6 +1,7 @@
 //! The metric of worked networks; the values are worked out by hand from this project's rules.
 
-ghost use Rattle.std.specs.Prelude.{◌≡◌, ◌*◌, length};
+ghost use Rattle.std.specs.Prelude.{◌≡◌, length};
+ghost use Rattle.edge_graph.specs.NetworkView.{graph_of};
 
 use crate::towns::{bend, crossing, network_of};
 use control_port::base_of_files;
@@ -34,8 +35,8 @@ pub fn cost_told(alloc: Global, cost: Option<WeightDurLen>) -> Result<String, Al
 
 // What a metric's vertices and turns cost.
 fn told(alloc: Global, network: &Network, metric: &BaseMetric) -> Result<String, AllocError>
-    requires vertices { length metric.now.weights.vertex ≡ 2 * length network.now.segments }
-    requires turns { length metric.now.weights.arc ≡ length network.now.turns }
+    requires vertices { length metric.now.weights.vertex ≡ (graph_of network.now).vertices }
+    requires arcs { length metric.now.weights.arc ≡ length (graph_of network.now).arcs }
 {
     let mut text = String::new(alloc);
     for v in 0..2 * network.segments() {

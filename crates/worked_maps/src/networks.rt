@@ -48,6 +48,7 @@ fn built(alloc: Global, map: &str) -> Result<String, AllocError> {
     match network_of(alloc, map, CAR) {
         Ok(network) => told(alloc, &network),
         Err(BuildFault::TooManySegments) => String::from_str(alloc, "too many segments"),
+        Err(BuildFault::TooManyVias) => String::from_str(alloc, "too many vias"),
         Err(BuildFault::TooManyTurns) => String::from_str(alloc, "too many turns"),
         Err(BuildFault::Memory) => Err(AllocError),
     }

@@ -35,4 +35,6 @@ mod traffic;
 #[cfg(test)]
 mod typed;
 #[cfg(test)]
+mod via_ways;
+#[cfg(test)]
 mod weights;
