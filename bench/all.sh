@@ -73,7 +73,8 @@ try snapping.sh 'snapping by a scan, a grid and an index' rustc town.opl 100
 try serve.sh 'serving over loopback beside a plain server' "rustc $plain" --seconds 0.1
 try hostile.sh 'maps made to stall the reader' "$time" 500
 try hostile.sh 'streets that meet at one node' "$time" --stars 50
-try refused.py 'requests for memory refused in turn' cc --step 40 restriction refused table serve
+try hostile.sh 'restrictions over via ways' "$time" --vias 50
+try refused.py 'requests for memory refused in turn' cc --step 40 restriction via-way refused table serve
 if tests=$("$bench/common.py" tests 2> said); then
     try refused.py 'requests for memory of tests refused in turn' "cc $tests" --step 40 --tests
 else

@@ -2,10 +2,10 @@
 //! Rust, as one would write it without proofs and without tricks. It reads the same OPL text and settings
 //! and answers the same lines with the same bytes.
 //!
-//! It trusts its map and its settings: it tells no fault of theirs, looks for no duplicates, does not check
-//! UTF-8, and keeps only the nodes' locations, the ways that can be used, and the restrictions. Its TOML is
-//! keys with a number, `true` or `false`, a text or a list of texts or of such lists, and tables of numbers or of lists,
-//! each list of texts without brackets in them. Of traffic files it tells each fault.
+//! It trusts its map and its settings: it tells no fault of theirs but too many segments, copies of vertices and turns,
+//! looks for no duplicates, does not check UTF-8, and keeps only the nodes' locations, the ways that can be used, and the
+//! restrictions. Its TOML is keys with a number, `true` or `false`, a text or a list of texts or of such lists, and tables
+//! of numbers or of lists, each list of texts without brackets in them. Of traffic files it tells each fault.
 //!
 //!     rustc --edition 2024 -C opt-level=3 baseline.rs
 //!     baseline ask OPL SETTINGS       answers the lines of standard input
@@ -19,12 +19,14 @@
 //! what the settings say in place of making it anew. Nothing keeps it like the crate.
 
 mod serve_plain;
+mod via_ways;
 
 use std::cmp::Reverse;
 use std::collections::{BinaryHeap, HashMap, HashSet};
 use std::io::{BufRead, Write};
 use std::ops::Deref;
 use std::sync::OnceLock;
+use via_ways::{Along, Expanded, Roads};
 
 /// A weight in tenths, then deciseconds, then decimetres.
 type Cost = (u64, u64, u64);
@@ -111,6 +113,8 @@ struct Map {
     signals: HashSet<i64>,
     ways: Vec<Way>,
     restrictions: Vec<Restriction>,
+    /// Those over via ways.
+    along: Vec<Along>,
     ignored: usize,
     /// How many nodes, ways and relations.
     counts: [usize; 3],
@@ -143,6 +147,8 @@ struct Network {
     /// The turns of vertex v lead to `turns[first[v]..first[v + 1]]`.
     first: Vec<u32>,
     turns: Vec<u32>,
+    /// The graph that is searched: that of the turns, with copies of vertices where restrictions go over via ways.
+    expanded: Expanded,
     applied: usize,
     ignored: usize,
     left_side: bool,
@@ -392,12 +398,19 @@ fn read_relation(line: &[u8], settings: &Settings, map: &mut Map) {
         return;
     }
     match restriction_of(tags, field(line, b'M')) {
-        Some(restriction) => map.restrictions.push(restriction),
+        Some(Rule::At(restriction)) => map.restrictions.push(restriction),
+        Some(Rule::Along(along)) => map.along.push(along),
         None => map.ignored += 1,
     }
 }
 
-fn restriction_of(tags: &[u8], members: &[u8]) -> Option<Restriction> {
+/// A restriction at a node, or one over via ways.
+enum Rule {
+    At(Restriction),
+    Along(Along),
+}
+
+fn restriction_of(tags: &[u8], members: &[u8]) -> Option<Rule> {
     let kind = value_of(tags, "restriction")?;
     let sense = match kind.as_str() {
         "no_u_turn" => Sense::NoUTurn,
@@ -412,14 +425,22 @@ fn restriction_of(tags: &[u8], members: &[u8]) -> Option<Restriction> {
         match (unescaped(&member[at + 1..]).as_str(), kind) {
             ("from", b'w') => from.push(id),
             ("to", b'w') => to.push(id),
-            ("via", b'n') => via.push(id),
+            ("via", b'n' | b'w') => via.push((kind, id)),
             ("from" | "to" | "via", _) => return None,
             _ => (),
         }
     }
-    let enough = !from.is_empty() && !to.is_empty() && via.len() == 1;
+    let enough = !from.is_empty() && !to.is_empty();
     let few = (from.len() == 1 || kind == "no_entry") && (to.len() == 1 || kind == "no_exit");
-    (enough && few).then(|| Restriction { sense, via: via[0], from, to })
+    match via.as_slice() {
+        [(b'n', node)] if enough && few => Some(Rule::At(Restriction { sense, via: *node, from, to })),
+        ways if (1..=4).contains(&ways.len()) && ways.iter().all(|(kind, _)| *kind == b'w') => {
+            let one_each = enough && few && !["no_entry", "no_exit"].contains(&kind.as_str());
+            let via = ways.iter().map(|(_, id)| *id).collect();
+            one_each.then(|| Rule::Along(Along { from: from[0], via, to: to[0], only: sense == Sense::Only }))
+        }
+        _ => None,
+    }
 }
 
 fn integer(text: &[u8]) -> i64 {
@@ -561,16 +582,22 @@ fn build(mut map: Map, settings: &Settings) -> Network {
         }
     }
     map.locations = HashMap::new();
+    refuse_past(segments.len(), 1 << 24, "segments");
     let (left_side, by_distance) = (settings.left_side, settings.by_distance);
     let costs = vertex_costs(&map.ways, &segments, by_distance);
-    let read = map.restrictions.len();
+    let read = map.restrictions.len() + map.along.len();
     let rules = applying(&mut map, &segments);
-    let applied = rules.values().map(Vec::len).sum();
+    let applied: usize = rules.values().map(Vec::len).sum();
     let mut leaving: HashMap<i64, Vec<u32>> = HashMap::new();
     for v in (0..costs.len()).filter(|v| costs[*v].is_some()) {
         leaving.entry(ends(&segments, v).0).or_default().push(v as u32);
     }
     let (first, turns, turn_costs) = turns_of(&map, settings, &segments, &leaving, &costs, &rules);
+    let roads = Roads { ways: &map.ways, segments: &segments, first: &first, turns: &turns };
+    let (barred, idle) = roads.all_barred(&map.along);
+    let Some(expanded) = Expanded::of(&roads, &barred) else { refuse("vias") };
+    refuse_past(expanded.arc_count(), 1 << 27, "turns");
+    let applied = applied + map.along.len() - idle;
     let ignored = map.ignored + read - applied;
     let class_names: Vec<String> = settings.classes.iter().map(|(name, _)| name.clone()).collect();
     let set = |names: &Vec<String>| set_of(&class_names, names).expect("names of classes");
@@ -579,9 +606,21 @@ fn build(mut map: Map, settings: &Settings) -> Network {
     let (metric, around) = (profile.clone(), OnceLock::new());
     let ways = map.ways;
     let mut network =
-        Network { ways, segments, leaving, first, turns, applied, ignored, left_side, by_distance, class_names, excludable, profile, metric, around };
+        Network { ways, segments, leaving, first, turns, expanded, applied, ignored, left_side, by_distance, class_names, excludable, profile, metric, around };
     network.metric.avoiding = avoiding(&network, &network.metric.costs);
     network
+}
+
+/// Ends the run where there are more of these than may be.
+fn refuse_past(count: usize, most: usize, what: &str) {
+    if count > most {
+        refuse(what);
+    }
+}
+
+fn refuse(what: &str) -> ! {
+    println!("too many {what}");
+    std::process::exit(3)
 }
 
 /// The classes of these names; None where one is of no class.
@@ -734,7 +773,7 @@ fn before(cost: Cost, parts: u64) -> Cost {
     (cost.0 * parts / 1024, cost.1 * parts / 1024, cost.2 * parts / 1024)
 }
 
-/// A direction of a place's segment: the vertex, what it costs, and how far along it the place lies.
+/// A direction of a place's segment: the vertex or a copy of it, what it costs, and how far along it the place lies.
 type Direction = (u32, Cost, u64);
 
 /// The open directions of a place's segment.
@@ -742,6 +781,15 @@ fn directions(network: &View, place: Place) -> Vec<Direction> {
     let both = [(2 * place.segment, place.at), (2 * place.segment + 1, 1024 - place.at)];
     let open = both.iter().filter_map(|(v, parts)| Some((*v, network.costs[*v as usize]?, *parts)));
     open.collect()
+}
+
+/// The same with all copies, each vertex with its own behind it: what a walk may be in at a place that it comes to.
+fn states(network: &View, place: Place) -> Vec<Direction> {
+    let with_copies = |(v, cost, parts): Direction| {
+        let copies = network.expanded.copies_of(v).iter();
+        std::iter::once(v).chain(copies.copied()).map(move |state| (state, cost, parts))
+    };
+    directions(network, place).into_iter().flat_map(with_copies).collect()
 }
 
 /// Marks the first vertex of a walk among the vertices before others.
@@ -752,7 +800,7 @@ struct Route {
     walk: Vec<u32>,
 }
 
-/// What every search uses anew: a label counts only where its stamp is that of the search.
+/// What every search uses anew, for each vertex and each copy: a label counts only where its stamp is that of the search.
 struct Labels {
     stamp: u32,
     stamps: Vec<u32>,
@@ -764,7 +812,8 @@ struct Labels {
 }
 
 impl Labels {
-    fn new(vertices: usize) -> Labels {
+    fn new(network: &Network) -> Labels {
+        let vertices = network.expanded.vertices();
         Labels {
             stamp: 0,
             stamps: vec![0; vertices],
@@ -787,12 +836,22 @@ impl Labels {
     }
 
     fn expand(&mut self, network: &View, v: u32, paid: Cost, mark: u32) {
-        for turn in network.first[v as usize]..network.first[v as usize + 1] {
-            let e = network.turns[turn as usize];
-            if let Some(cost) = network.costs[e as usize] {
-                let turned = network.metric.turns[turn as usize].cost();
-                self.offer(e, plus(paid, plus(turned, cost)), v | mark);
+        if network.expanded.is_copy(v) {
+            for (turn, head) in network.expanded.arcs_from(v) {
+                self.follow(network, *turn as usize, *head, paid, v | mark);
             }
+        } else {
+            for turn in network.first[v as usize] as usize..network.first[v as usize + 1] as usize {
+                self.follow(network, turn, network.expanded.heads[turn], paid, v | mark);
+            }
+        }
+    }
+
+    /// Goes along an arc, which costs what its turn does, to the head of the turn or to a copy of it.
+    fn follow(&mut self, network: &View, turn: usize, head: u32, paid: Cost, parent: u32) {
+        if let Some(cost) = network.costs[network.turns[turn] as usize] {
+            let turned = network.metric.turns[turn].cost();
+            self.offer(head, plus(paid, plus(turned, cost)), parent);
         }
     }
 }
@@ -834,7 +893,8 @@ impl Labels {
         (self.stamps[i] == self.stamp && self.settled[i]).then(|| self.costs[i])
     }
 
-    fn walk_to(&self, last: u32) -> Vec<u32> {
+    /// The vertices that the walk to a vertex or a copy stands for.
+    fn walk_to(&self, network: &View, last: u32) -> Vec<u32> {
         let mut walk = vec![last];
         let mut parent = self.parents[last as usize];
         while parent & START == 0 {
@@ -842,8 +902,7 @@ impl Labels {
             parent = self.parents[parent as usize];
         }
         walk.push(parent & !START);
-        walk.reverse();
-        walk
+        walk.iter().rev().map(|state| network.expanded.stands_for(*state)).collect()
     }
 }
 
@@ -866,17 +925,18 @@ fn by_turns(labels: &Labels, targets: &[Direction]) -> Option<(Cost, u32)> {
 }
 
 fn least_route(network: &View, labels: &mut Labels, from: Place, to: Place) -> Option<Route> {
-    least_between(network, labels, &directions(network, from), &directions(network, to))
+    least_between(network, labels, &directions(network, from), &states(network, to))
 }
 
 /// A least walk that begins in one of these directions and ends in one of those.
 fn least_between(network: &View, labels: &mut Labels, starts: &[Direction], targets: &[Direction]) -> Option<Route> {
     labels.reach(network, starts, targets);
+    let one = |v: u32| vec![network.expanded.stands_for(v)];
     match (along_one(starts, targets), by_turns(labels, targets)) {
         (None, None) => None,
-        (Some((cost, v)), None) => Some(Route { cost, walk: vec![v] }),
-        (Some((cost, v)), Some((other, _))) if cost <= other => Some(Route { cost, walk: vec![v] }),
-        (_, Some((cost, v))) => Some(Route { cost, walk: labels.walk_to(v) }),
+        (Some((cost, v)), None) => Some(Route { cost, walk: one(v) }),
+        (Some((cost, v)), Some((other, _))) if cost <= other => Some(Route { cost, walk: one(v) }),
+        (_, Some((cost, v))) => Some(Route { cost, walk: labels.walk_to(network, v) }),
     }
 }
 
@@ -890,18 +950,15 @@ fn cost_between(labels: &Labels, starts: &[Direction], targets: &[Direction]) ->
 fn row(network: &View, labels: &mut Labels, from: Place, to: &[Place]) -> Vec<Option<Cost>> {
     let starts = directions(network, from);
     labels.start(network, &starts);
-    let mut wanted: HashSet<u32> = to.iter().flat_map(|place| directions(network, *place)).map(|target| target.0).collect();
+    let mut wanted: HashSet<u32> = to.iter().flat_map(|place| states(network, *place)).map(|target| target.0).collect();
     while !wanted.is_empty() {
         let Some((v, _)) = labels.settle(network) else { break };
         wanted.remove(&v);
     }
-    to.iter().map(|place| cost_between(labels, &starts, &directions(network, *place))).collect()
+    to.iter().map(|place| cost_between(labels, &starts, &states(network, *place))).collect()
 }
 
 // ---- one walk through all places ----
-
-/// By the direction of a place's segment: forward, then backward.
-type ByDirection<T> = [T; 2];
 
 /// What legs cost together.
 type Sum = (u128, u128, u128);
@@ -910,33 +967,40 @@ fn with_leg(sum: Sum, leg: Cost) -> Sum {
     (sum.0 + u128::from(leg.0), sum.1 + u128::from(leg.1), sum.2 + u128::from(leg.2))
 }
 
-/// What a least walk costs from each direction of a place to each of another.
-fn leg_costs(network: &View, labels: &mut Labels, from: Place, to: Place) -> ByDirection<ByDirection<Option<Cost>>> {
-    let (mut costs, targets) = ([[None; 2]; 2], directions(network, to));
-    for start in directions(network, from) {
-        labels.reach(network, &[start], &targets);
-        for target in &targets {
-            costs[start.0 as usize % 2][target.0 as usize % 2] = cost_between(labels, &[start], &[*target]);
-        }
-    }
-    costs
+/// What a walk may be in at each place: at the first in a direction, at others in a copy of one as well.
+fn states_along(network: &View, places: &[Place]) -> Vec<Vec<Direction>> {
+    let at = |(number, place): (usize, &Place)| if number == 0 { directions(network, *place) } else { states(network, *place) };
+    places.iter().enumerate().map(at).collect()
 }
 
-/// The direction at each place of a least walk through all, or the first leg up to which there is none. Of several it
-/// ends in the first direction, and so on backwards.
-fn least_chain(network: &View, labels: &mut Labels, places: &[Place]) -> Result<Vec<usize>, usize> {
-    let (mut sums, mut befores): (ByDirection<Option<Sum>>, Vec<ByDirection<usize>>) = ([Some((0, 0, 0)); 2], Vec::new());
-    for (leg, pair) in places.windows(2).enumerate() {
-        let costs = leg_costs(network, labels, pair[0], pair[1]);
-        let least = |end: usize| (0..2).filter_map(|from| Some((with_leg(sums[from]?, costs[from][end]?), from))).min();
-        let steps = [least(0), least(1)];
-        sums = steps.map(|step| step.map(|(sum, _)| sum));
-        befores.push(steps.map(|step| step.map_or(0, |(_, from)| from)));
-        if sums == [None; 2] {
+/// For each state at the end of a leg the least sum with which a walk comes to it, and the state at the leg's beginning
+/// from which it does. `sums` are those at the beginning.
+fn leg_sums(network: &View, labels: &mut Labels, sums: &[Option<Sum>], starts: &[Direction], targets: &[Direction]) -> Vec<Option<(Sum, usize)>> {
+    let mut least: Vec<Option<(Sum, usize)>> = vec![None; targets.len()];
+    for (from, start) in starts.iter().enumerate() {
+        let Some(sum) = sums[from] else { continue };
+        labels.reach(network, &[*start], targets);
+        for (step, target) in least.iter_mut().zip(targets) {
+            let new = cost_between(labels, &[*start], &[*target]).map(|cost| (with_leg(sum, cost), from));
+            *step = (*step).into_iter().chain(new).min();
+        }
+    }
+    least
+}
+
+/// The state at each place of a least walk through all, as its number there, or the first leg up to which there is none.
+/// Of several it ends in the first state, and so on backwards.
+fn least_chain(network: &View, labels: &mut Labels, along: &[Vec<Direction>]) -> Result<Vec<usize>, usize> {
+    let (mut sums, mut befores) = (vec![Some((0, 0, 0)); along[0].len()], Vec::new());
+    for (leg, pair) in along.windows(2).enumerate() {
+        let steps = leg_sums(network, labels, &sums, &pair[0], &pair[1]);
+        sums = steps.iter().map(|step| step.map(|(sum, _)| sum)).collect();
+        befores.push(steps.iter().map(|step| step.map_or(0, |(_, from)| from)).collect::<Vec<usize>>());
+        if sums.iter().all(Option::is_none) {
             return Err(leg);
         }
     }
-    let ends = (0..2).filter_map(|end| Some((sums[end]?, end)));
+    let ends = sums.iter().enumerate().filter_map(|(end, sum)| Some(((*sum)?, end)));
     let mut chain = vec![ends.min().expect("a walk comes to the last place").1];
     for before in befores.iter().rev() {
         chain.push(before[chain[chain.len() - 1]]);
@@ -945,15 +1009,12 @@ fn least_chain(network: &View, labels: &mut Labels, places: &[Place]) -> Result<
     Ok(chain)
 }
 
-/// A route for each leg, each of which goes on along the vertex on which the one before ends, so that they cost the
-/// least together; the first leg up to which there are none where there are none.
+/// A route for each leg, each of which goes on along the vertex on which the one before ends, in the same copy of it, so
+/// that they cost the least together; the first leg up to which there are none where there are none.
 fn least_through(network: &View, labels: &mut Labels, places: &[Place]) -> Result<Vec<Route>, usize> {
-    let chain = least_chain(network, labels, places)?;
-    let in_chain = |(place, direction): (&Place, &usize)| {
-        let vertex = 2 * place.segment + *direction as u32;
-        directions(network, *place).into_iter().find(|open| open.0 == vertex).expect("an open vertex")
-    };
-    let own: Vec<Direction> = places.iter().zip(&chain).map(in_chain).collect();
+    let along = states_along(network, places);
+    let chain = least_chain(network, labels, &along)?;
+    let own: Vec<Direction> = along.iter().zip(&chain).map(|(states, number)| states[*number]).collect();
     let route = |pair: &[Direction]| least_between(network, labels, &pair[..1], &pair[1..]).expect("each leg of the chain has a walk");
     Ok(own.windows(2).map(route).collect())
 }
@@ -1310,7 +1371,7 @@ fn paid_along(network: &View, walk: &[u32], from: Place, to: Place) -> Vec<Cost>
 // ---- lines ----
 
 fn answer_lines(network: &mut Network, applying: Applying) {
-    let mut labels = Labels::new(network.metric.costs.len());
+    let mut labels = Labels::new(network);
     let mut input = std::io::stdin().lock();
     let mut output = std::io::stdout().lock();
     let mut line = Vec::new();

@@ -79,6 +79,47 @@ def restriction(chance, id, ways):
     return f"r{id} " + " ".join(fields)
 
 
+def over_ways(chance, ways):
+    """One to three ways one behind the other, each from one of its ends to the other one, with a way before and one behind
+    them: the first, those between and the last; None where it comes to none."""
+    ends = [id for id, refs in ways.items() if len(refs) > 1 and refs[0] != refs[-1]]
+    along, node = [], None
+    for _ in range(chance.choice([1, 1, 1, 2, 2, 3])):
+        on = [id for id in ends if id not in along and (node is None or node in (ways[id][0], ways[id][-1]))]
+        if not on:
+            break
+        along.append(chance.choice(on))
+        first, last = ways[along[-1]][0], ways[along[-1]][-1]
+        if node is None:
+            begin = node = chance.choice([first, last])
+        node = last if node == first else first
+    before, behind = ([id for id, refs in ways.items() if at in refs and id not in along] for at in (begin, node))
+    return (chance.choice(before), along, chance.choice(behind)) if before and behind else None
+
+
+def restriction_over_ways(chance, id, ways):
+    """A turn restriction over one to three ways, mostly along such as are one behind the other, sometimes with a fault."""
+    drawn = over_ways(chance, ways) or over_ways(chance, ways)
+    any_way = lambda: chance.choice(list(ways))
+    first, along, last = drawn if drawn and chance.random() < 0.95 else (any_way(), [any_way(), any_way()], any_way())
+    if chance.random() < 0.15:
+        along = chance.choice([along[::-1], along + along[:1], [*along, any_way()], [any_way() for _ in range(5)], along + [987654]])
+    if chance.random() < 0.1:
+        first, last = chance.choice([(last, first), (first, first), (first, along[-1]), (along[0], last)])
+    members = [f"w{first}@from", *(f"w{way}@via" for way in along), f"w{last}@to"]
+    if chance.random() < 0.1:
+        node = chance.choice(ways[along[0]]) if ways.get(along[0]) else 1
+        more = chance.choice([f"n{node}@via", f"w{last}@to", f"w{first}@from", f"n{node}@from", "n1@location_hint", f"r{id}@via"])
+        members.insert(chance.randint(0, len(members)), more)
+    kind = chance.choice(["no_left_turn", "no_right_turn", "no_straight_on", "no_u_turn", "no_u_turn", "only_straight_on", "only_left_turn"])
+    if chance.random() < 0.05:
+        kind = chance.choice(["no_entry", "no_exit", "no_parking", "only_u_turn"])
+    tags = ["type=restriction", f"restriction={kind}"]
+    if chance.random() < 0.08:
+        tags.append("except=" + chance.choice(["motorcar", "bus;motorcar", "psv", "bicycle"]))
+    return f"r{id} T{','.join(tags)} M{','.join(members)}"
+
+
 def way_line(chance, id, tags, refs):
     """A way of these tags and nodes, with its fields in any order, some of its nodes with a place of their own, sometimes deleted."""
     chance.shuffle(tags)
@@ -109,7 +150,7 @@ def tangle(seed, target):
     """Writes a small map that is hard to get right, and gives the locations of its nodes: ways by odd ids,
     dead ends, loops, one-way streets of all forms, roundabouts with streets that leave them or lead there, nodes that are
     missing, deleted, repeated or have no location, closed nodes, signals, ways without access, limits of speed, surfaces
-    and tags that make classes of ways, restrictions of all kinds with and without faults,
+    and tags that make classes of ways, restrictions of all kinds, at nodes and over ways, with and without faults,
     names that JSON escapes, escapes of OPL, fields in any order."""
     chance = random.Random(seed)
     middle = chance.choice([(0, 0), (13, 53.5), (-70.5, -33.25), (179.995, 0), (20, 89.99), (0, -89.995)])
@@ -148,6 +189,12 @@ def tangle(seed, target):
         ways[id] = refs
         lines.append(way_line(chance, id, tags, refs))
     lines += [restriction(chance, id, ways) for id in range(30)]
+    lines += [restriction_over_ways(chance, id, ways) for id in range(30, 55)]
+    chain = chance.sample(ids, 16)
+    streets = {id: [one, other] for id, one, other in zip(range(200, 230), chain, chain[1:])}
+    streets.update({id: [one, *chance.sample(ids, 2)] for id, one in zip(range(230, 260), chain)})
+    lines += [f"w{id} Thighway=residential N{','.join(f'n{ref}' for ref in refs)}" for id, refs in streets.items()]
+    lines += [restriction_over_ways(chance, id, streets) for id in range(55, 80)]
     with open(target, "w", encoding="utf-8", newline="\n") as out:
         out.write("".join(line + chance.choice(["\n", "\n", "\r\n"]) for line in lines))
     return points

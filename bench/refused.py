@@ -5,6 +5,7 @@
     bench/refused.py [--step N] --tests             runs of the tests of metrics, as told at the end
 
     restriction    `ask`: a route over a crossing with a turn restriction
+    via-way        `ask`: a traffic file between two routes along a street over which a restriction leads
     refused        `ask`: a traffic file with a faulty row between two routes
     table          `ask`: a table over a one-way street
     ring           `ask`: a route round a one-way ring, from a place to one behind it; 2,100 segments, so 4,200 vertices in
@@ -185,6 +186,17 @@ w3 Thighway=residential Nn5,n3
 w4 Thighway=residential,name=West Nn4,n5
 r1 Ttype=restriction,restriction=no_left_turn Mw1@from,n5@via,w4@to
 """
+FORK = """n1 x0 y0
+n2 x0.001 y0
+n3 x0.002 y0
+n4 x0.003 y0
+n5 x0.002 y0.001
+w1 Thighway=residential Nn1,n2
+w2 Thighway=residential Nn2,n3
+w3 Thighway=residential Nn3,n4
+w4 Thighway=residential Nn3,n5
+r1 Ttype=restriction,restriction=no_straight_on Mw1@from,w2@via,w3@to
+"""
 ONE_WAY = "n1 x0 y0\nn2 x0.001 y0\nw20 Thighway=residential,oneway=yes Nn1,n2\n"
 
 # The first segment of a way is driven at half its speed, so in 10.0 seconds more.
@@ -203,6 +215,12 @@ SOUTH_TO_WEST = Line(
     "GET /route/v1/car/0.001,0;0,0.001?overview=false",
     (route(0, 444.4, 59.6, ("South", "0.001000,0.000000"), ("West", "0.000000,0.001000")),),
 )
+# Straight on is forbidden behind the second street, so it turns at the end of the fourth one and comes back.
+FORK_ENDS = ("", "0.000000,0.000000"), ("", "0.003000,0.000000")
+OVER_VIA_WAY = Line(
+    "GET /route/v1/car/0,0;0.003,0?overview=false",
+    (route(0, 555.5, 69.5, *FORK_ENDS), route(1, 555.5, 79.5, *FORK_ENDS)),
+)
 BACKWARDS = Line(
     "GET /table/v1/car/0.00075,0;0.00025,0?annotations=duration,distance&skip_waypoints=true",
     ('{"code":"Ok","data_version":"0","durations":[[0.0,null],[5.0,0.0]],"distances":[[0.0,null],[55.6,0.0]]}',),
@@ -219,6 +237,7 @@ SLOW = Line("TRAFFIC slow.csv -", (PUBLISHED,), publishes=True)
 
 ROWS = {
     "restriction": Row(CROSSING, [SOUTH_TO_WEST]),
+    "via-way": Row(FORK, [OVER_VIA_WAY, SLOW, OVER_VIA_WAY]),
     "refused": Row(TOWN, [IN_TOWN, FAULTY, IN_TOWN]),
     "table": Row(ONE_WAY, [BACKWARDS]),
     "ring": Row(ring(525), [ROUND]),

@@ -11,23 +11,24 @@ long roads, of so many segments (1000,2000,5000,10000): one way, whose whole lin
 chain of ways of other names, whose steps are asked for. SETTINGS are those of car.toml where none are named. It needs
 rustc for the baseline.
 
-Then traffic: on each map, on N small maps made to be hard (20), and on as many small towns whose crossings are
-roundabouts, lines of TRAFFIC with drawn files, good ones in all forms of CSV and faulty ones, and with the files that
-are named, stand between requests of all services. What is wrong with a faulty file is known from the drawing, so both
-have to tell that. Two in eleven requests are for a route through two to five drawn places, some of them one from before
-again, half of these as one walk. All this is done twice, under SETTINGS and under the same as version 2 with `maxspeed`,
-`weight_name`, surfaces, classes and sets of them that are drawn for each map. Of the rows of a file one in a hundred,
-half or all have a rate or a weight. Where settings have such sets, half of the requests exclude one, its names in any
-order and some of them doubled, or what is no set, and some do so twice.
+Then traffic: on each map, on N small maps made to be hard (20), on as many small towns whose crossings are
+roundabouts, and on as many of short ways with many turn restrictions over them, lines of TRAFFIC with drawn files, good
+ones in all forms of CSV and faulty ones, and with the files that are named, stand between requests of all services. What
+is wrong with a faulty file is known from the drawing, so both have to tell that. Two in eleven requests are for a route
+through two to five drawn places, some of them one from before again, half of these as one walk. All this is done twice,
+under SETTINGS and under the same as version 2 with `maxspeed`, `weight_name`, surfaces, classes and sets of them that are
+drawn for each map. Of the rows of a file one in a hundred, half or all have a rate or a weight. Where settings have such
+sets, half of the requests exclude one, its names in any order and some of them doubled, or what is no set, and some do so
+twice.
 
 Printed are processor microseconds a request of both (the start-up taken away), the ratio, the bytes of a reply, and
 how many replies were equal byte for byte. Two least walks may differ where costs are the same: such replies are
 compared without their lines, annotations and steps, and counted apart, but where their steps tell that they are of the
-same walks after all; a trip has one best order all the same, and one
-walk through all places has one list of directions at them, since both take the first by number backwards from the end.
-In every reply the steps of a leg have to cost what the leg costs, and have the same keys; and where one walk is asked
-for and nodes are told, each leg has to begin with the two nodes with which the one before ends. The status is 1 where
-any other reply differs. With --only-compare nothing is timed.
+same walks after all; a trip has one best order all the same. Of one walk through all places only what it costs in all is
+compared then: another that costs as much may come to a place in a longer leg and go on from it in a shorter one. In every
+reply the legs of a route have to cost what it does, and the steps of a leg what that leg does, with the same keys; and
+where one walk is asked for and nodes are told, each leg has to begin with the two nodes with which the one before ends.
+The status is 1 where any other reply differs. With --only-compare nothing is timed.
 """
 import argparse
 import json
@@ -42,7 +43,7 @@ import tomllib
 
 import common
 from common import asked, start_of
-from reading import READ_BY_SECOND, tangle
+from reading import READ_BY_SECOND, restriction, restriction_over_ways, tangle
 import traffic_rows
 
 
@@ -51,14 +52,14 @@ def routes_of(value):
     return value.get("routes", value.get("trips", []))
 
 
-def without_walks(reply):
-    """A reply without what tells of which walk it is."""
+def without_walks(line, reply):
+    """A reply without what tells of which walk it is; of one walk through all places all that tells of its legs."""
     value = json.loads(reply)
     for route in routes_of(value):
         route.pop("geometry", None)
         for leg in route["legs"]:
-            leg.pop("annotation", None)
-            leg.pop("steps", None)
+            for key in list(leg) if "continue_straight=true" in line else ("annotation", "steps"):
+                leg.pop(key, None)
     return value
 
 
@@ -87,6 +88,12 @@ def steps_add_up(reply):
     return True
 
 
+def legs_add_up(reply):
+    """Whether the legs of each route cost together what it does."""
+    return all(round(10 * sum(leg[part] for leg in route["legs"])) == round(10 * route[part])
+               for route in routes_of(json.loads(reply)) for part in ("distance", "duration", "weight"))
+
+
 def goes_on(line, reply):
     """Whether each leg of a reply begins with the nodes of the vertex on which the one before ends, where the line asks
     for one walk through all places and for nodes."""
@@ -104,11 +111,13 @@ def compare(lines, ours, theirs):
     for line, mine, other in zip(lines, ours, theirs):
         if not steps_add_up(mine):
             return equal, ties, (mine, "steps that don't add up")
+        if not legs_add_up(mine):
+            return equal, ties, (mine, "legs that don't add up")
         if not goes_on(line, mine):
             return equal, ties, (mine, "a leg that turns round at its place")
         if mine == other:
             equal += 1
-        elif without_walks(mine) == without_walks(other) and step_keys(mine) == step_keys(other) and not same_walks(mine, other):
+        elif without_walks(line, mine) == without_walks(line, other) and step_keys(mine) == step_keys(other) and not same_walks(mine, other):
             ties += 1
         else:
             return equal, ties, (mine, other)
@@ -411,6 +420,49 @@ def ring_town(seed, opl):
         for id, (tags, nodes) in enumerate(ways, 1):
             told = ",".join(filter(None, ["highway=residential", *tags]))
             out.write(f"w{id} T{told} N{','.join(f'n{node}' for node in nodes)}\n")
+        by_id = {id: nodes for id, (_, nodes) in enumerate(ways, 1)}
+        out.writelines(restriction_over_ways(chance, id, by_id) + "\n" for id in range(1, 41))
+    return points
+
+
+def short_town(seed, opl):
+    """Writes a town of short ways with many turn restrictions over them, and gives the locations of its nodes: of a grid of 5
+    by 5 crossings most streets, each a way from a crossing to the next one or to the one behind it, some of them one-way or
+    bent, some lanes to dead ends, a few closed nodes and restrictions at nodes."""
+    chance, points, ways, closed = random.Random(seed), [], {}, set()
+    for number in range(25):
+        points.append((13 + (number % 5 + chance.random() * 0.4) * 0.002, 53.5 + (number // 5 + chance.random() * 0.4) * 0.0015))
+
+    def bend(one, other):
+        (a, b), (c, d) = points[one - 1], points[other - 1]
+        points.append(((a + c) / 2 + chance.uniform(-1, 1) * 0.0004, (b + d) / 2 + chance.uniform(-1, 1) * 0.0004))
+        if chance.random() < 0.05:
+            closed.add(len(points))
+        return len(points)
+
+    for axis, step in ((0, 1), (1, 5)):
+        for line in range(5):
+            at = [line * 5 + place + 1 if axis == 0 else place * 5 + line + 1 for place in range(5)]
+            place = 0
+            while place < 4:
+                refs = at[place:place + chance.choice([2, 2, 2, 3])]
+                if chance.random() < 0.4:
+                    refs.insert(1, bend(*refs[:2]))
+                place += len([ref for ref in refs if ref in at]) - 1
+                if chance.random() < 0.9:
+                    ways[len(ways) + 1] = refs if chance.random() < 0.5 else refs[::-1]
+    for crossing in chance.sample(range(1, 26), 6):
+        ways[len(ways) + 1] = [crossing, bend(crossing, chance.randint(1, 25))]
+    with open(opl, "w", encoding="ascii") as out:
+        for number, (lon, lat) in enumerate(points, 1):
+            out.write(f"n{number} x{lon:.7f} y{lat:.7f}{' Tbarrier=bollard' if number in closed else ''}\n")
+        for id, refs in ways.items():
+            side = chance.choice(["", "", "", "", ",oneway=yes", ",oneway=-1"])
+            out.write(f"w{id} Thighway=residential{side},name={chance.choice('ABC')} N{','.join(f'n{ref}' for ref in refs)}\n")
+        for id in range(1, 5):
+            out.write(restriction(chance, id, ways) + "\n")
+        for id in range(5, 5 + chance.choice([20, 60, 150])):
+            out.write(restriction_over_ways(chance, id, ways) + "\n")
     return points
 
 
@@ -466,6 +518,7 @@ def main():
         print("== small maps made to be hard")
         fine += on_small_maps("tangle", tangle, programs, settings, given.tangles, folder)
         fine += on_small_maps("roundabouts", ring_town, programs, settings, given.tangles, folder)
+        fine += on_small_maps("restrictions over ways", short_town, programs, settings, given.tangles, folder)
     sys.exit(0 if all(fine) else 1)
 
 

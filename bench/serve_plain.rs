@@ -124,7 +124,7 @@ impl Server {
     }
 
     fn work(&self, listener: &TcpListener) {
-        let mut labels = Labels::new(self.network.read().unwrap().metric.costs.len());
+        let mut labels = Labels::new(&self.network.read().unwrap());
         while !self.stopped.load(Ordering::SeqCst) {
             let Ok((stream, _)) = listener.accept() else { return };
             let _ = stream.set_nodelay(true);
