@@ -30,14 +30,19 @@ impl<C: Narrow> Model for Piece<C> {
 }
 
 impl<C: Narrow> Piece<C> {
-    /// The cliques of no cells.
-    pub fn new(alloc: Global) -> Piece<C>
-        ensures { result ≡ record { first = []; values = [] } }
+    /// The cliques of no cells, with room for those of all these pieces.
+    pub fn with_room(alloc: Global, pieces: &[Piece<C>]) -> Result<Piece<C>, AllocError>
+        ensures { IfOk result (λ piece. piece ≡ record { first = []; values = [] }) }
     {
-        Piece {
-            first: Vec::new(alloc),
-            values: CostList::new(alloc),
+        let mut cells: usize = 0;
+        let mut values: usize = 0;
+        for piece in pieces {
+            cells = cells.saturating_add(piece.first.len());
+            values = values.saturating_add(piece.values.len());
         }
+        let first = Vec::with_capacity(alloc, cells)?;
+        let values = CostList::with_capacity(alloc, values)?;
+        Ok(Piece { first, values })
     }
 
     /// The cliques of cells, by where each begins and the values of all.

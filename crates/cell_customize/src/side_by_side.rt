@@ -96,7 +96,7 @@ pub fn level_of<C: Cost>(
     let _ = frame;
     let _ = weights;
     let _ = level;
-    let mut all = Piece::new(alloc);
+    let mut all = Piece::with_room(alloc, pieces)?;
     for piece in pieces {
         all.append(piece)?;
     }

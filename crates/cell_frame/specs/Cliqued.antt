@@ -30,6 +30,19 @@ pub record HasCellRow {C : Type 0} (f : Framed) (cliques : List (Rows C)) (k : C
   pub level : slice_get cliques (k.level - 1) ≡ Some rows
   pub has : HasRow rows k.number i (length (at_cell f.exits k)) row
 
+-- clique n, of as many rows as long as `width` says, one behind another
+pub record HasClique {C : Type 0} (rows : Rows C) (n count width : ℕ) (values : List (Option C)) : Type 0 where
+  pub first : ℕ
+  pub begins : slice_get rows.first n ≡ Some first
+  pub within : first + count * width ≤ length rows.values
+  pub values_are : values ≡ slice_range rows.values first (first + count * width)
+
+-- the rows of all entries of cell k
+pub record HasCellClique {C : Type 0} (f : Framed) (cliques : List (Rows C)) (k : Cell) (values : List (Option C)) : Type 0 where
+  pub rows : Rows C
+  pub level : slice_get cliques (k.level - 1) ≡ Some rows
+  pub has : HasClique rows k.number (length (at_cell f.entries k)) (length (at_cell f.exits k)) values
+
 -- up to level `top` each entry's row has the least costs inside its cell, under these weights
 abbrev pub AreExact : {C : Type 0} → CostOps C → Framed → Weighting C → List (Rows C) → ℕ → Type 0
 AreExact {C} ops f w cliques top = (k : Cell) (i u : ℕ) → IsCell f.cells k → k.level ≤ top → slice_get (at_cell f.entries k) i ≡ Some u →

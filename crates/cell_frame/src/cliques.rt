@@ -2,7 +2,7 @@
 
 ghost use Rattle.std.specs.Prelude.{◌≡◌, ℕ, ◌++◌, ◌∷◌, [], List, Option, OnOk};
 ghost use Rattle.cell_frame.specs.Borders.{IsCell};
-ghost use Rattle.cell_frame.specs.Cliqued.{HasRow, HasCellRow};
+ghost use Rattle.cell_frame.specs.Cliqued.{HasRow, HasClique, HasCellRow, HasCellClique};
 
 use crate::cells::Cell;
 use crate::frame::Frame;
@@ -53,6 +53,16 @@ impl<C: Narrow> LevelCliques<C> {
         let from = self.first[number as usize] + i * width;
         self.values.row(from, from + width)
     }
+
+    // A cell's clique, of as many rows of this width.
+    fn clique(&self, number: u32, rows: usize, width: usize) -> CostRow<'_, C>
+        requires { (values : List (Option C)) × HasClique self.now number rows width values }
+        ensures { HasClique self.now number rows width result }
+    {
+        let _count = self.values.len();
+        let from = self.first[number as usize];
+        self.values.row(from, from + rows * width)
+    }
 }
 
 /// The least costs from the entries to the exits of each cell, level by level.
@@ -102,5 +112,16 @@ impl<C: Narrow> Cliques<C> {
     {
         let width = frame.exits(cell).len();
         self.levels[cell.level as usize - 1].row(cell.number, i, width)
+    }
+
+    /// The rows of all entries of a cell, one behind another.
+    pub fn clique(&self, frame: &Frame, cell: Cell) -> CostRow<'_, C>
+        requires cell { IsCell frame.now.cells cell }
+        requires has { (values : List (Option C)) × HasCellClique frame.now self.now cell values }
+        ensures { HasCellClique frame.now self.now cell result }
+    {
+        let rows = frame.entries(cell).len();
+        let width = frame.exits(cell).len();
+        self.levels[cell.level as usize - 1].clique(cell.number, rows, width)
     }
 }

@@ -1,6 +1,7 @@
 -- Inside a cell that no change touches both weightings agree, so what walks cost there stays.
-use Rattle.std.proofs.Common.{◌≡◌, ℕ, ◌+◌, ◌-◌, ◌*◌, ◌<◌, ◌≤◌, inl, inr, Bool, true, false, true≢false, Option, Some, None, List, [], ◌∷◌, length, sym, ◌∙◌, ap, subst, arith}
+use Rattle.std.proofs.Common.{◌≡◌, ℕ, ◌+◌, ◌-◌, ◌*◌, ◌<◌, ◌≤◌, inl, inr, Bool, true, false, true≢false, Option, Some, None, List, [], ◌∷◌, length, take, drop, length-drop, refl, sym, ◌∙◌, ap, subst, arith}
 use Rattle.std.specs.List.{slice_get, slice_range}
+use Rattle.std.proofs.lemmas.List.{length-take-le}
 use Rattle.std.proofs.lemmas.Option.{slice_get_within, same_Some}
 use Rattle.search_graph.specs.Costs.{CostOps}
 use Rattle.search_graph.specs.Digraph.{Digraph, Weighting, IsArc}
@@ -9,8 +10,11 @@ use Rattle.search_graph.specs.Walks.{Chain, Paying}
 use Rattle.cell_partition.specs.Partition.{level_at}
 use Rattle.cell_frame.specs.declared.cells.Cell.{Cell}
 use Rattle.cell_frame.specs.Borders.{Framed, Holds, IsCell, at_cell}
-use Rattle.cell_frame.specs.Cliqued.{Rows, HasRow, HasCellRow, IsRow, AreExact}
+use Rattle.cell_frame.specs.Cliqued.{Rows, HasRow, HasCellRow, HasCellClique, IsRow, AreExact}
 use Rattle.cell_frame.specs.Inside.{IsMoveIn, IsInside, IsInsideValue}
+use Rattle.cell_customize.specs.Levels.{IsClique}
+use Rattle.cell_customize.specs.Slices.{range_of_range}
+use Rattle.cell_customize.specs.Piling.{more_times, times_within}
 use Rattle.cell_recustomize.specs.Touched.{DifferOnlyAt, WereExact, IsTouched}
 use Rattle.cell_recustomize.specs.Making.{AreMarked, HasExactRows, IsPrepared}
 
@@ -85,6 +89,14 @@ module _ {C : Type 0} (ops : CostOps C) (f : Framed) (w : Weighting C) (old : Li
         kept = HasExactRows-unmarked (below + 1) marks (omega arith) within marked;
       }
 
+-- how long a part is
+range_size : {X : Type 0} (xs part : List X) (a n : ℕ) → part ≡ slice_range xs a (a + n) → a + n ≤ length xs → length part ≡ n
+range_size xs part a n is le =
+    let long : length (drop a xs) ≡ length xs - a = length-drop a xs in
+    let cut : length (take (a + n - a) (drop a xs)) ≡ a + n - a = length-take-le (a + n - a) (drop a xs) (omega (arith, long, le)) in
+    let same : a + n - a ≡ n = omega arith in
+    ap length is ∙ cut ∙ same
+
 -- a clique has one row at a place
 HasRow-same : {C : Type 0} (rows : Rows C) (n i width : ℕ) (a b : List (Option C)) → HasRow rows n i width a → HasRow rows n i width b → a ≡ b
 HasRow-same rows n i width a b h g =
@@ -102,3 +114,44 @@ pub exact_row : {C : Type 0} (ops : CostOps C) (f : Framed) (w : Weighting C) (o
 exact_row {C} ops f w old k i u row exact e has =
     let r = exact i u e in
     subst (λ (x : List (Option C)). IsRow ops f w k u x) (HasCellRow-same f old k i r.0 row r.1 has) r.2
+
+-- the rows of a cell that has entries make a clique
+pub clique_found : {C : Type 0} (ops : CostOps C) (f : Framed) (w : Weighting C) (old : List (Rows C)) (k : Cell) (last u : ℕ) →
+    HasExactRows ops f w old k → slice_get (at_cell f.entries k) last ≡ Some u → last + 1 ≡ length (at_cell f.entries k) → (values : List (Option C)) × HasCellClique f old k values
+clique_found ops f w old k last u exact e all =
+    let width : ℕ = length (at_cell f.exits k) in
+    let count : ℕ = length (at_cell f.entries k) in
+    let r = (exact last u e).1 in
+    let rows = r.rows in
+    let first : ℕ = r.has.first in
+    let end : last * width + width ≡ count * width = more_times last width ∙ ap (λ (n : ℕ). n * width) all in
+    (slice_range rows.values first (first + count * width), record { rows = rows; level = r.level; has = record { first = first; begins = r.has.begins; within = omega (arith, r.has.within, end); values_are = refl } })
+
+-- each row is a part of the clique
+row_of_clique : {C : Type 0} (f : Framed) (old : List (Rows C)) (k : Cell) (values : List (Option C)) (i : ℕ) → HasCellClique f old k values → i < length (at_cell f.entries k) →
+    HasCellRow f old k i (slice_range values (i * length (at_cell f.exits k)) (i * length (at_cell f.exits k) + length (at_cell f.exits k)))
+row_of_clique f old k values i h lt =
+    let width : ℕ = length (at_cell f.exits k) in
+    let count : ℕ = length (at_cell f.entries k) in
+    let first : ℕ = h.has.first in
+    let le : i * width + width ≤ count * width = times_within i count width lt in
+    record {
+      rows = h.rows;
+      level = h.level;
+      has = record {
+        first = first;
+        begins = h.has.begins;
+        within = omega (arith, h.has.within, le);
+        row_is = range_of_range h.rows.values values first (count * width) (i * width) width h.has.values_are le;
+      };
+    }
+
+-- so the clique that is found is exact
+pub exact_clique : {C : Type 0} (ops : CostOps C) (f : Framed) (w : Weighting C) (old : List (Rows C)) (k : Cell) (values : List (Option C)) →
+    HasExactRows ops f w old k → HasCellClique f old k values → IsClique ops f w k values
+exact_clique ops f w old k values exact h =
+    let width : ℕ = length (at_cell f.exits k) in
+    let count : ℕ = length (at_cell f.entries k) in record {
+      size = range_size h.rows.values values h.has.first (count * width) h.has.values_are h.has.within;
+      each = λ i u lt e. exact_row ops f w old k i u _ exact e (row_of_clique f old k values i h lt);
+    }

@@ -6,19 +6,9 @@ ghost use Rattle.cell_customize.specs.Levels.{IsClique};
 ghost use Rattle.cell_recustomize.specs.Making.{HasExactRows};
 
 use cell_frame::{Cell, Cliques, Frame};
-use cost_lists::{CostList, CostRow};
+use cost_lists::CostList;
 use search_graph::{Cost, Weights};
 use std::alloc::AllocError;
-
-// Puts a row at the end of the values.
-fn push_row<C: Cost>(row: &CostRow<'_, C>, values: &mut CostList<C>) -> Result<(), AllocError>
-    ensures { OnOk result (values.new ≡ values.old ++ row.now) }
-{
-    for place in 0..row.len() {
-        values.push(row.get(place))?;
-    }
-    Ok(())
-}
 
 /// Puts the old rows of a cell at the end of the values, where they are exact for the weights.
 pub fn keep_clique<C: Cost>(
@@ -33,9 +23,9 @@ pub fn keep_clique<C: Cost>(
     ensures { OnOk result ((clique : _) × (values.new ≡ values.old ++ clique) × IsClique C.ops frame.now weights.now cell clique) }
 {
     let _ = weights;
-    for place in 0..frame.entries(cell).len() {
-        let row = old.row(frame, cell, place);
-        push_row(&row, values)?;
+    if frame.entries(cell).is_empty() {
+        return Ok(());
     }
-    Ok(())
+    let clique = old.clique(frame, cell);
+    values.extend_from_row(&clique)
 }

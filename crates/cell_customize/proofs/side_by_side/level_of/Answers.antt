@@ -9,7 +9,7 @@ use Rattle.cell_customize.proofs.side_by_side.level_of.Goals as goal
 
 pub loop-piece-init : goal.loop-piece-init
 loop-piece-init g c =
-    rw c.new-all.ensures (subst (λ (n : ℕ). AreMade g.C.Cost.ops c.args.frame.now c.args.weights.now c.args.level 0 n (record { first = []; values = [] })) (cut_none (length (level_at c.args.frame.now.cells c.args.level)))
+    rw c.in_ok-all.ensures (subst (λ (n : ℕ). AreMade g.C.Cost.ops c.args.frame.now c.args.weights.now c.args.level 0 n (record { first = []; values = [] })) (cut_none (length (level_at c.args.frame.now.cells c.args.level)))
     (AreMade-none g.C.Cost.ops c.args.frame.now c.args.weights.now c.args.level 0))
 
 pub append-requires : goal.append-requires
