@@ -13,7 +13,7 @@ use Rattle.step_search.specs.Spaces.{Space, HasHop, StepBy, Path, IsSpace}
 use Rattle.step_search.specs.Paths.{IsPathTo, IsLeastPathCost}
 use Rattle.label_search.specs.Labelled.{Held, IsExpanded, IsFront, IsReached, LabelWithin, Nothing, Offers}
 use Rattle.label_search.specs.Least.{AreLeast, HasArcsAlone}
-use Rattle.step_search.specs.Queued.{Adds, TakesLeast}
+use Rattle.search_queue.specs.Queued.{Adds, TakesLeast}
 
 nothing : {E : Type 0} (x : E) → Contains [] x → ⊥
 nothing x (k, lt, is) = omega arith

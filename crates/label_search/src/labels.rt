@@ -9,8 +9,16 @@ ghost use Rattle.label_search.specs.Labelled.{Held, IsFront, IsReached, LabelsFa
 ghost use Rattle.label_search.specs.Least.{AreLeast, HasArcsAlone};
 
 use search_graph::Cost;
+use search_queue::Queue;
 use std::alloc::{AllocError, Global};
-use step_search::{Queue, Steps};
+use step_search::Steps;
+
+// An entry that was taken from the queue: a vertex, and what was its label when it came there.
+#[derive(Clone, Copy, Drop)]
+struct Entry<C> {
+    vertex: u32,
+    cost: C,
+}
 
 /// What the cheapest ways so far cost, by vertex, and from where the search has still to go on.
 ///
@@ -92,95 +100,98 @@ impl<C: Cost> Labels<C> {
         for _ in 0..u64::MAX {
             match self.queue.pop() {
                 None => return Ok(()),
-                Some(entry) => self.take(steps, start, entry.1, entry.0)?,
+                Some(least) => {
+                    let entry = Entry {
+                        vertex: least.1,
+                        cost: least.0,
+                    };
+                    self.take(steps, start, entry)?
+                }
             }
         }
         Err(AllocError)
     }
 
-    // Goes on from a vertex at what was its label when it came into the queue, unless that has fallen since.
+    // Goes on from the vertex of an entry, unless its label has fallen since.
     fn take<T: Steps<C>>(
         &mut self,
         steps: &T,
         start: u32,
-        v: u32,
-        cost: C,
+        entry: Entry<C>,
     ) -> Result<(), AllocError>
         requires ready { T.ready steps.now }
         requires space { IsSpace C.ops (T.space steps.now) }
         requires arcs { HasArcsAlone (T.space steps.now) }
-        requires front { IsFront C.ops (T.space steps.now) start self.old.costs.items self.old.queue (Held v cost) }
-        requires least { (k : C) (w : ℕ) → Contains self.old.queue (k, w) → NoDearer C.ops cost k }
+        requires front { IsFront C.ops (T.space steps.now) start self.old.costs.items self.old.queue (Held entry.vertex entry.cost) }
+        requires least { (k : C) (w : ℕ) → Contains self.old.queue (k, w) → NoDearer C.ops entry.cost k }
         ensures { OnOk result (IsFront C.ops (T.space steps.now) start self.new.costs.items self.new.queue Nothing) }
     {
-        if !self.stands(v, cost) {
+        if !self.stands(entry) {
             return Ok(());
         }
-        self.expand(steps, start, v, cost)?;
+        self.expand(steps, start, entry)?;
         Ok(())
     }
 
-    // Whether this is the label of a vertex.
-    fn stands(&self, v: u32, cost: C) -> bool
-        ensures yes { OnTrue result (slice_get self.now.costs.items v ≡ Some (Some cost)) }
-        ensures no { OnFalse result (¬ (slice_get self.now.costs.items v ≡ Some (Some cost))) }
+    // Whether the vertex of an entry still has its label.
+    fn stands(&self, entry: Entry<C>) -> bool
+        ensures yes { OnTrue result (slice_get self.now.costs.items entry.vertex ≡ Some (Some entry.cost)) }
+        ensures no { OnFalse result (¬ (slice_get self.now.costs.items entry.vertex ≡ Some (Some entry.cost))) }
     {
-        match self.costs.get(v as usize) {
+        match self.costs.get(entry.vertex as usize) {
             None => false,
-            Some(label) => is_label(*label, cost),
+            Some(label) => is_label(*label, entry.cost),
         }
     }
 
-    // Offers a label along each arc out of a vertex, at its label.
+    // Offers a label along each arc out of the vertex of an entry, which is its label.
     fn expand<T: Steps<C>>(
         &mut self,
         steps: &T,
         start: u32,
-        u: u32,
-        paid: C,
+        entry: Entry<C>,
     ) -> Result<(), AllocError>
         requires ready { T.ready steps.now }
         requires space { IsSpace C.ops (T.space steps.now) }
         requires arcs { HasArcsAlone (T.space steps.now) }
-        requires front { IsFront C.ops (T.space steps.now) start self.old.costs.items self.old.queue (Held u paid) }
-        requires here { slice_get self.old.costs.items u ≡ Some (Some paid) }
-        requires units { C.ops.units paid (2 ^ 28) }
+        requires front { IsFront C.ops (T.space steps.now) start self.old.costs.items self.old.queue (Held entry.vertex entry.cost) }
+        requires here { slice_get self.old.costs.items entry.vertex ≡ Some (Some entry.cost) }
+        requires units { C.ops.units entry.cost (2 ^ 28) }
         ensures { OnOk result (IsFront C.ops (T.space steps.now) start self.new.costs.items self.new.queue Nothing) }
     {
         let _count = self.costs.len();
-        let arcs = steps.arcs(u);
+        let arcs = steps.arcs(entry.vertex);
         for place in 0..arcs.len() {
-            self.relax(steps, start, u, paid, arcs.get(place))?;
+            self.relax(steps, start, entry, arcs.get(place))?;
         }
         Ok(())
     }
 
-    // Offers a label along an arc out of a vertex, where that way is open.
+    // Offers a label along an arc out of the vertex of an entry, where that way is open.
     #[inline(always)]
     fn relax<T: Steps<C>>(
         &mut self,
         steps: &T,
         start: u32,
-        u: u32,
-        paid: C,
+        entry: Entry<C>,
         arc: u32,
     ) -> Result<(), AllocError>
         requires ready { T.ready steps.now }
         requires space { IsSpace C.ops (T.space steps.now) }
-        requires vertex { u < (T.space steps.now).vertices }
-        requires named { (T.space steps.now).Name u arc }
-        requires reached { IsReached C.ops (T.space steps.now) start u paid }
-        requires units { C.ops.units paid (2 ^ 28) }
-        requires front { IsFront C.ops (T.space steps.now) start self.old.costs.items self.old.queue (Held u paid) }
-        ensures front { OnOk result (IsFront C.ops (T.space steps.now) start self.new.costs.items self.new.queue (Held u paid)) }
+        requires vertex { entry.vertex < (T.space steps.now).vertices }
+        requires named { (T.space steps.now).Name entry.vertex arc }
+        requires reached { IsReached C.ops (T.space steps.now) start entry.vertex entry.cost }
+        requires units { C.ops.units entry.cost (2 ^ 28) }
+        requires front { IsFront C.ops (T.space steps.now) start self.old.costs.items self.old.queue (Held entry.vertex entry.cost) }
+        ensures front { OnOk result (IsFront C.ops (T.space steps.now) start self.new.costs.items self.new.queue (Held entry.vertex entry.cost)) }
         ensures falls { OnOk result (LabelsFall C.ops self.old.costs.items self.new.costs.items) }
-        ensures found { OnOk result ((w : ℕ) (s : C) → (T.space steps.now).Arc u arc w s → LabelWithin C.ops self.new.costs.items w (C.ops.plus paid s)) }
+        ensures found { OnOk result ((w : ℕ) (s : C) → (T.space steps.now).Arc entry.vertex arc w s → LabelWithin C.ops self.new.costs.items w (C.ops.plus entry.cost s)) }
     {
         let _ = start;
-        match steps.by_arc(u, arc) {
+        match steps.by_arc(entry.vertex, arc) {
             None => Ok(()),
             Some(hop) => {
-                self.offer(hop.head, paid.plus(hop.cost))?;
+                self.offer(hop.head, entry.cost.plus(hop.cost))?;
                 Ok(())
             }
         }

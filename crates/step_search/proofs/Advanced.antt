@@ -7,15 +7,16 @@ use Rattle.search_graph.specs.Costs.{CostOps, CostLaws}
 use Rattle.search_graph.specs.declared.ends.Start.{Start}
 use Rattle.step_search.specs.Spaces.{Space, IsSpace}
 use Rattle.step_search.specs.Paths.{AreStarts}
-use Rattle.step_search.specs.Labelled.{changed, label_of, settled_of}
+use Rattle.search_labels.specs.Labelled.{changed, label_of, settled_of}
+use Rattle.search_labels.specs.ChangedLaws.{same_place, changed-here, changed-there}
 use Rattle.step_search.specs.Progress.{HasNode, IsNode, IsTree, Expanded, NodesExpanded, StartsIn, IsFront, AreBounds}
 use Rattle.step_search.specs.Stepping.{IsFresh, IsTaken, Settles, Begins, FewerOpen, node_of, one_if_open, open_below, start_node}
 use Rattle.step_search.specs.UnderWay.{IsUnderWay, IsBegun}
-use Rattle.step_search.specs.declared.labels.Label.{Label}
+use Rattle.search_labels.specs.declared.labels.Label.{Label}
 use Rattle.step_search.specs.declared.dijkstra.Node.{Node}
 use Rattle.step_search.specs.declared.dijkstra.Search.{Search}
 use Rattle.step_search.proofs.Bounded.{AreBounds-none}
-use Rattle.step_search.proofs.Falls.{same_place, changed-here, changed-there, NodesExpanded-falls}
+use Rattle.step_search.proofs.Falls.{NodesExpanded-falls}
 use Rattle.step_search.proofs.Grown.{HasNode-left, HasNode-last, StartsIn-left, IsTree-push, NodesExpanded-push}
 
 fewer_here : (a b c d : ℕ) → a ≡ 0 → b ≡ 1 → c ≡ d → a + c < b + d

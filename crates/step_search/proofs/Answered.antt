@@ -7,10 +7,10 @@ use Rattle.search_graph.specs.declared.ends.Start.{Start}
 use Rattle.search_graph.specs.OrderLaws.{le_trans}
 use Rattle.step_search.specs.Spaces.{Space}
 use Rattle.step_search.specs.Paths.{IsBeyond, IsPathTo, IsLeastPath, NoPathTo}
-use Rattle.step_search.specs.Labelled.{label_of, settled_of}
+use Rattle.search_labels.specs.Labelled.{label_of, settled_of}
 use Rattle.step_search.specs.Progress.{IsTrail, LabelWithin}
 use Rattle.step_search.specs.UnderWay.{IsUnderWay, IsDone}
-use Rattle.step_search.specs.declared.labels.Label.{Label}
+use Rattle.search_labels.specs.declared.labels.Label.{Label}
 use Rattle.step_search.specs.declared.dijkstra.Search.{Search}
 use Rattle.step_search.proofs.Far.{path_far}
 use Rattle.step_search.proofs.Trails.{trail_of, trail_exists}

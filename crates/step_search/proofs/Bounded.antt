@@ -8,7 +8,7 @@ use Rattle.step_search.specs.Spaces.{Space}
 use Rattle.step_search.specs.Rowed.{value_of, LowersRow}
 use Rattle.step_search.specs.Progress.{LabelWithin, LabelsFall, AreBounds}
 use Rattle.step_search.specs.Stepping.{IsAtWork}
-use Rattle.step_search.specs.declared.labels.Label.{Label}
+use Rattle.search_labels.specs.declared.labels.Label.{Label}
 use Rattle.step_search.specs.declared.dijkstra.Node.{Node}
 use Rattle.step_search.specs.declared.dijkstra.Search.{Search}
 use Rattle.step_search.proofs.Falls.{LabelWithin-falls, LabelWithin-more}

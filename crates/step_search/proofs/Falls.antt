@@ -1,30 +1,17 @@
 -- How labels fall while a search goes on, and what stays while they do.
-use Rattle.std.proofs.Common.{◌≡◌, ℕ, ◌⊎◌, inl, inr, Bool, true, false, cond, nat_eq, Option, List, refl, sym, ◌∙◌, ap, subst, eq-eqb}
-use Rattle.std.proofs.lemmas.Bool.Decides.{eqb_tells}
+use Rattle.std.proofs.Common.{◌≡◌, ℕ, Bool, true, false, Option, List, refl, sym, ◌∙◌, subst}
 use Rattle.std.proofs.lemmas.Option.{same_Some}
 use Rattle.search_graph.specs.Costs.{CostOps, CostLaws, NoDearer}
 use Rattle.search_graph.specs.OrderLaws.{le_refl, le_trans}
 use Rattle.step_search.specs.Spaces.{Space}
-use Rattle.step_search.specs.Labelled.{changed}
 use Rattle.step_search.specs.Progress.{LabelWithin, LabelsFall, SettledWithin, Expanded, NodesExpanded, IsFront}
-use Rattle.step_search.specs.declared.labels.Label.{Label}
+use Rattle.search_labels.specs.declared.labels.Label.{Label}
 use Rattle.step_search.specs.declared.dijkstra.Node.{Node}
 
 -- a test is true or false
 pub by_truth : {G : Type 0} (b : Bool) → (b ≡ true → G) → (b ≡ false → G) → G
 by_truth true f g = f refl
 by_truth false f g = g refl
-
--- u is the place v, or another
-pub same_place : (v u : ℕ) → (v ≡ u) ⊎ (nat_eq v u ≡ false)
-same_place v u = elim (eqb_tells v u) [ inl h ↦ inl h.1 | inr h ↦ inr h.0 ]
-
-module _ {Y : Type 0} (f : ℕ → Y) (v : ℕ) (y : Y) where
-  pub changed-here : (u : ℕ) → v ≡ u → changed f v y u ≡ y
-  changed-here u e = ap (λ b. cond b y (f u)) (eq-eqb v u e)
-
-  pub changed-there : (u : ℕ) → nat_eq v u ≡ false → changed f v y u ≡ f u
-  changed-there u h = ap (λ b. cond b y (f u)) h
 
 module _ {C : Type 0} {ops : CostOps C} (laws : CostLaws ops) where
   pub LabelWithin-more : (label : ℕ → Option (Label C)) (v : ℕ) (c d : C) → LabelWithin ops label v c → NoDearer ops c d → LabelWithin ops label v d

@@ -9,7 +9,7 @@ use Rattle.search_graph.specs.ChainLaws.{Chain-push, Chain-valid, Chain-grows, C
 use Rattle.step_search.specs.Spaces.{Space, HasHop, StepBy, Path, IsSpace, IsLeastCost}
 use Rattle.step_search.specs.Paths.{AreStarts, IsPathTo}
 use Rattle.step_search.specs.Progress.{ComesFrom, IsTree, LabelWithin, Expanded, NodesExpanded, StartsIn, IsFront}
-use Rattle.step_search.specs.declared.labels.Label.{Label}
+use Rattle.search_labels.specs.declared.labels.Label.{Label}
 use Rattle.step_search.specs.declared.dijkstra.Node.{Node}
 use Rattle.step_search.proofs.Falls.{by_truth, LabelWithin-more}
 

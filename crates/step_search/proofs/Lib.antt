@@ -4,12 +4,8 @@ mod Bounded
 mod Falls
 mod Far
 mod Grown
-mod Heaps
 mod Laid
-mod Merged
 mod Offered
-mod Paged
-mod Rewritten
 mod Settled
 mod Taken
 mod Trails

@@ -8,16 +8,17 @@ use Rattle.std.proofs.lemmas.Option.{same_Some}
 use Rattle.search_graph.specs.Costs.{CostOps, CostLaws, NoDearer}
 use Rattle.search_graph.specs.OrderLaws.{le_refl, le_trans, le_from_less, le_from_not_less, not_both, plus_grows}
 use Rattle.step_search.specs.Spaces.{Space, HasHop}
-use Rattle.step_search.specs.Queued.{Adds}
-use Rattle.step_search.specs.Labelled.{changed, label_of, settled_of}
+use Rattle.search_queue.specs.Queued.{Adds}
+use Rattle.search_labels.specs.Labelled.{changed, label_of, settled_of}
+use Rattle.search_labels.specs.ChangedLaws.{same_place, changed-here, changed-there}
 use Rattle.step_search.specs.Progress.{LabelWithin, LabelsFall, SettledWithin, IsLabel, IsFront}
 use Rattle.step_search.specs.Stepping.{Improves, Offers, IsAtWork, OnlyFalls}
 use Rattle.step_search.specs.Stepping.Offers.{left, put}
-use Rattle.step_search.specs.declared.labels.Label.{Label}
+use Rattle.search_labels.specs.declared.labels.Label.{Label}
 use Rattle.step_search.specs.declared.dijkstra.Node.{Node}
 use Rattle.step_search.specs.declared.dijkstra.Search.{Search}
 use Rattle.step_search.specs.declared.hops.Hop.{Hop}
-use Rattle.step_search.proofs.Falls.{by_truth, same_place, changed-here, changed-there, LabelWithin-falls, LabelsFall-same, LabelsFall-trans, SettledWithin-falls}
+use Rattle.step_search.proofs.Falls.{by_truth, LabelWithin-falls, LabelsFall-same, LabelsFall-trans, SettledWithin-falls}
 
 OnFalse_from : (b : Bool) (P : Type 0) → (b ≡ false → P) → OnFalse b P
 OnFalse_from true P f = tt

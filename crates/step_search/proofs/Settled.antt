@@ -4,10 +4,10 @@ use Rattle.std.specs.List.{slice_get}
 use Rattle.search_graph.specs.Costs.{CostOps, CostLaws}
 use Rattle.search_graph.specs.declared.ends.Start.{Start}
 use Rattle.step_search.specs.Spaces.{Space, IsSpace}
-use Rattle.step_search.specs.Labelled.{changed, label_of, settled_of}
+use Rattle.search_labels.specs.Labelled.{changed, label_of, settled_of}
 use Rattle.step_search.specs.Progress.{LabelWithin, LabelsFall, SettledWithin, Expanded, IsFront}
 use Rattle.step_search.specs.Stepping.{IsAtWork, IsTaken, NoneSettled, OnlyFalls, Settles, Begins, node_of, start_node}
-use Rattle.step_search.specs.declared.labels.Label.{Label}
+use Rattle.search_labels.specs.declared.labels.Label.{Label}
 use Rattle.step_search.specs.declared.dijkstra.Node.{Node}
 use Rattle.step_search.specs.declared.dijkstra.Search.{Search}
 use Rattle.step_search.proofs.Falls.{LabelsFall-same}

@@ -4,12 +4,12 @@ use Rattle.search_graph.specs.Costs.{CostOps, CostLaws, NoDearer}
 use Rattle.search_graph.specs.declared.ends.Start.{Start}
 use Rattle.search_graph.specs.OrderLaws.{le_trans}
 use Rattle.step_search.specs.Spaces.{Space}
-use Rattle.step_search.specs.Queued.{TakesLeast}
-use Rattle.step_search.specs.Labelled.{label_of, settled_of}
+use Rattle.search_queue.specs.Queued.{TakesLeast}
+use Rattle.search_labels.specs.Labelled.{label_of, settled_of}
 use Rattle.step_search.specs.Progress.{IsFront, IsTree, NodesExpanded, StartsIn, AreBounds}
 use Rattle.step_search.specs.Stepping.{Skips, IsNearest, IsTaken}
 use Rattle.step_search.specs.UnderWay.{IsUnderWay}
-use Rattle.step_search.specs.declared.labels.Label.{Label}
+use Rattle.search_labels.specs.declared.labels.Label.{Label}
 use Rattle.step_search.specs.declared.dijkstra.Node.{Node}
 use Rattle.step_search.specs.declared.dijkstra.Search.{Search}
 use Rattle.step_search.proofs.Far.{label_small}

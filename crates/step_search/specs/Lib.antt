@@ -1,11 +1,7 @@
 pub mod Spaces
 pub mod Paths
-pub mod Queued
-pub mod Ranked
 pub mod Rowed
-pub mod Labelled
 pub mod Linked
-pub mod Paged
 pub mod Progress
 pub mod UnderWay
 pub mod Stepping

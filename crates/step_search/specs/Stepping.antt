@@ -5,11 +5,11 @@ use Rattle.std.specs.declared.cmp.Ordering.TheVariants.{Less}
 use Rattle.search_graph.specs.Costs.{CostOps}
 use Rattle.search_graph.specs.declared.ends.Start.{Start}
 use Rattle.step_search.specs.Spaces.{Space, IsSpace}
-use Rattle.step_search.specs.Queued.{Adds, TakesLeast}
-use Rattle.step_search.specs.Labelled.{label_of, settled_of, changed}
+use Rattle.search_queue.specs.Queued.{Adds, TakesLeast}
+use Rattle.search_labels.specs.Labelled.{label_of, settled_of, changed}
 use Rattle.step_search.specs.Rowed.{value_of}
 use Rattle.step_search.specs.Progress.{LabelWithin, LabelsFall, SettledWithin, Expanded, IsFront}
-use Rattle.step_search.specs.declared.labels.Label.{Label}
+use Rattle.search_labels.specs.declared.labels.Label.{Label}
 use Rattle.step_search.specs.declared.dijkstra.Node.{Node}
 use Rattle.step_search.specs.declared.dijkstra.Search.{Search}
 

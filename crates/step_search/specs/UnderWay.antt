@@ -4,7 +4,7 @@ use Rattle.search_graph.specs.Costs.{CostOps}
 use Rattle.search_graph.specs.declared.ends.Start.{Start}
 use Rattle.step_search.specs.Spaces.{Space, IsSpace}
 use Rattle.step_search.specs.Paths.{AreStarts, IsBeyond, NoPathTo}
-use Rattle.step_search.specs.Labelled.{label_of, settled_of}
+use Rattle.search_labels.specs.Labelled.{label_of, settled_of}
 use Rattle.step_search.specs.Progress.{IsTree, IsFront, NodesExpanded, StartsIn, AreBounds}
 use Rattle.step_search.specs.declared.dijkstra.Search.{Search}
 

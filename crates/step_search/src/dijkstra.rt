@@ -5,17 +5,17 @@ ghost use Rattle.std.specs.Bool.{OnTrue, OnFalse};
 ghost use Rattle.std.specs.List.{Contains, slice_get};
 ghost use Rattle.step_search.specs.Spaces.{IsSpace};
 ghost use Rattle.step_search.specs.Paths.{AreStarts, IsAnswer, IsBeyond, IsLeastPathCost, NoPathTo};
-ghost use Rattle.step_search.specs.Labelled.{label_of, settled_of};
+ghost use Rattle.search_labels.specs.Labelled.{label_of, settled_of};
 ghost use Rattle.step_search.specs.Progress.{IsBackward, IsFront, IsTrail, AreBounds};
 ghost use Rattle.step_search.specs.Stepping.{Begins, IsFresh, NoneSettled};
 ghost use Rattle.step_search.specs.UnderWay.{IsUnderWay, IsDone};
 
 use crate::hops::Steps;
-use crate::labels::Labels;
 use crate::links::Link;
-use crate::queue::Queue;
 use crate::rows::RowLabels;
 use search_graph::{Cost, Start};
+use search_labels::Labels;
+use search_queue::Queue;
 use std::alloc::{AllocError, Global};
 
 /// A cheapest path to a target: its cost, and its vertices from a start to the target, two or more.

@@ -3,10 +3,9 @@
 //!
 //! A search goes from several starts, each with a cost of its own, and answers for each target a path of the
 //! least cost, and none exactly where there is none. It goes on until its target is settled, or nothing is left.
-//! Its work and its memory follow what it touches, by pages of 64 neighbouring vertices: nothing is made for each
-//! vertex of the space. A table has 4 bytes for each page up to the last one that is touched.
-//! Where rows are gone along, it keeps what the offers along each of them have cost, side by side, in the memory of
-//! these rows' places.
+//! Its work and its memory follow what it touches: labels stand on pages of neighbouring vertices (`search_labels`),
+//! and the nearest vertex comes from a queue by ranks (`search_queue`). Where rows are gone along, it keeps what the
+//! offers along each of them have cost, side by side, in the memory of these rows' places.
 //!
 //! `least` answers a list of targets at once. The parts of `Search` serve who wants to go target by target, or
 //! to begin anew in the same memory.
@@ -18,15 +17,9 @@
 
 mod dijkstra;
 mod hops;
-mod key_heap;
-mod labels;
 mod links;
-mod pages;
-mod queue;
-mod rank_heap;
 mod rows;
 mod settling;
 
 pub use dijkstra::{Reached, Search, least};
 pub use hops::{Hop, Steps};
-pub use queue::Queue;

@@ -78,6 +78,14 @@ impl<C> Model for Rows<C> {
     ghost invariant = { λ r. AreLaid r.levels.items r.touched.items };
 }
 
+// What is offered along the first `count` places of a row: what is paid before it, and what each place costs.
+#[derive(Drop)]
+struct Offers<'a, C: Cost> {
+    paid: C,
+    costs: &'a CostRow<'a, C>,
+    count: usize,
+}
+
 /// What the offers along each row have cost so far, and the places where the last offers improved that.
 pub struct RowLabels<C> {
     pub rows: Rows<C>,
@@ -130,21 +138,21 @@ impl<C: Copy> Block<C> {
 }
 
 impl<C: Cost> Block<C> {
-    // Goes along the first `count` places.
-    fn lower(
-        &mut self,
-        paid: C,
-        costs: &CostRow<'_, C>,
-        count: usize,
-        improved: &mut Vec<usize>,
-    ) -> Result<(), AllocError>
-        requires fits { (j : ℕ) (s : _) → j < count → slice_get costs.now j ≡ Some (Some s) → C.ops.units (C.ops.plus paid s) (2 ^ 31) }
-        requires room { count ≤ length self.old }
+    // Goes along the places of the offers.
+    fn lower(&mut self, offers: &Offers<C>, improved: &mut Vec<usize>) -> Result<(), AllocError>
+        requires fits { (j : ℕ) (s : _) → j < offers.now.count → slice_get offers.now.costs.now j ≡ Some (Some s) → C.ops.units (C.ops.plus offers.now.paid s) (2 ^ 31) }
+        requires room { offers.now.count ≤ length self.old }
         requires none { improved.old.items ≡ [] }
-        ensures lowers { OnOk result (Lowers C.ops self.old self.new paid costs.now count improved.new.items) }
+        ensures lowers { OnOk result (Lowers C.ops self.old self.new offers.now.paid offers.now.costs.now offers.now.count improved.new.items) }
         ensures long { length self.new ≡ length self.old }
     {
-        lower_values(self.values.as_mut_slice(), paid, costs, count, improved)
+        lower_values(
+            self.values.as_mut_slice(),
+            offers.paid,
+            offers.costs,
+            offers.count,
+            improved,
+        )
     }
 }
 
@@ -235,24 +243,22 @@ impl<C: Copy> Level<C> {
 }
 
 impl<C: Cost> Level<C> {
-    // Goes along the first `count` places of a block.
+    // Goes along the places of the offers in a block.
     fn lower(
         &mut self,
         number: u32,
-        paid: C,
-        costs: &CostRow<'_, C>,
-        count: usize,
+        offers: &Offers<C>,
         improved: &mut Vec<usize>,
     ) -> Result<(), AllocError>
-        requires fits { (j : ℕ) (s : _) → j < count → slice_get costs.now j ≡ Some (Some s) → C.ops.units (C.ops.plus paid s) (2 ^ 31) }
+        requires fits { (j : ℕ) (s : _) → j < offers.now.count → slice_get offers.now.costs.now j ≡ Some (Some s) → C.ops.units (C.ops.plus offers.now.paid s) (2 ^ 31) }
         requires there { number < length self.old }
-        requires room { count ≤ length (block_of self.old number) }
+        requires room { offers.now.count ≤ length (block_of self.old number) }
         requires none { improved.old.items ≡ [] }
-        ensures lowers { OnOk result (Lowers C.ops (block_of self.old number) (block_of self.new number) paid costs.now count improved.new.items) }
+        ensures lowers { OnOk result (Lowers C.ops (block_of self.old number) (block_of self.new number) offers.now.paid offers.now.costs.now offers.now.count improved.new.items) }
         ensures others { (n : ℕ) → (n ≡ number → ⊥) → block_of self.new n ≡ block_of self.old n }
         ensures long { length (block_of self.new number) ≡ length (block_of self.old number) }
     {
-        self.blocks[number as usize].lower(paid, costs, count, improved)
+        self.blocks[number as usize].lower(offers, improved)
     }
 }
 
@@ -333,21 +339,25 @@ fn ensure_row<C: Copy>(
 }
 
 impl<C: Cost> Rows<C> {
-    // Goes along the first `count` places of the row of a name.
+    // Goes along the places of the offers in the row of a name.
     fn lower(
         &mut self,
         name: (u32, u32),
-        paid: C,
-        costs: &CostRow<'_, C>,
-        count: usize,
+        offers: &Offers<C>,
         improved: &mut Vec<usize>,
     ) -> Result<(), AllocError>
-        requires fits { (j : ℕ) (s : _) → j < count → slice_get costs.now j ≡ Some (Some s) → C.ops.units (C.ops.plus paid s) (2 ^ 31) }
+        requires fits { (j : ℕ) (s : _) → j < offers.now.count → slice_get offers.now.costs.now j ≡ Some (Some s) → C.ops.units (C.ops.plus offers.now.paid s) (2 ^ 31) }
         requires none { improved.old.items ≡ [] }
-        ensures { OnOk result (LowersRow C.ops self.old self.new name paid costs.now count improved.new.items) }
+        ensures { OnOk result (LowersRow C.ops self.old self.new name offers.now.paid offers.now.costs.now offers.now.count improved.new.items) }
     {
-        ensure_row(self.alloc, &mut self.levels, &mut self.touched, name, count)?;
-        self.levels[name.0 as usize].lower(name.1, paid, costs, count, improved)
+        ensure_row(
+            self.alloc,
+            &mut self.levels,
+            &mut self.touched,
+            name,
+            offers.count,
+        )?;
+        self.levels[name.0 as usize].lower(name.1, offers, improved)
     }
 }
 
@@ -386,8 +396,8 @@ impl<C: Cost> RowLabels<C> {
         requires fits { (j : ℕ) (s : _) → j < count → slice_get costs.now j ≡ Some (Some s) → C.ops.units (C.ops.plus paid s) (2 ^ 31) }
         ensures { OnOk result (LowersRow C.ops self.old.rows self.new.rows name paid costs.now count self.new.improved.items) }
     {
+        let offers = Offers { paid, costs, count };
         self.improved.clear();
-        self.rows
-            .lower(name, paid, costs, count, &mut self.improved)
+        self.rows.lower(name, &offers, &mut self.improved)
     }
 }

@@ -4,19 +4,26 @@ ghost use Rattle.std.specs.Prelude.{◌≡◌, ℕ, ◌<◌, ◌^◌, [], true, 
 ghost use Rattle.std.specs.Bool.{OnTrue, OnFalse};
 ghost use Rattle.std.specs.List.{Contains, slice_get};
 ghost use Rattle.step_search.specs.Spaces.{HasHop};
-ghost use Rattle.step_search.specs.Labelled.{label_of, settled_of, changed};
-ghost use Rattle.step_search.specs.Queued.{Adds};
+ghost use Rattle.search_labels.specs.Labelled.{label_of, settled_of, changed};
+ghost use Rattle.search_queue.specs.Queued.{Adds};
 ghost use Rattle.step_search.specs.Progress.{LabelWithin, Expanded, IsFront, AreBounds};
 ghost use Rattle.step_search.specs.Stepping.{FewerOpen, Improves, IsAtWork, IsNearest, IsTaken, Offers, OnlyFalls, Settles, Skips};
 ghost use Rattle.step_search.specs.UnderWay.{IsUnderWay};
 
 use crate::dijkstra::{Node, Search};
 use crate::hops::{Hop, Steps};
-use crate::labels::Label;
 use crate::links::Link;
 use cost_lists::CostRow;
 use search_graph::{Cost, Start};
+use search_labels::Label;
 use std::alloc::AllocError;
+
+// The places of a row: where each leads, and what it costs.
+#[derive(Drop)]
+struct Places<'a, C: Cost> {
+    heads: &'a [u32],
+    costs: &'a CostRow<'a, C>,
+}
 
 impl<C: Cost> Search<C> {
     // Settles the nearest vertex, and tells whether one was left to settle.
@@ -152,7 +159,11 @@ impl<C: Cost> Search<C> {
         }
         let heads = steps.heads_named(node.vertex, row);
         self.rows.lower(row, node.cost, &costs, heads.len())?;
-        self.offer_improved(steps, at, node, heads, &costs)?;
+        let places = Places {
+            heads,
+            costs: &costs,
+        };
+        self.offer_improved(steps, at, node, &places)?;
         Ok(())
     }
 
@@ -162,21 +173,20 @@ impl<C: Cost> Search<C> {
         steps: &T,
         at: usize,
         node: Node<C>,
-        heads: &[u32],
-        costs: &CostRow<'_, C>,
+        places: &Places<C>,
     ) -> Result<(), AllocError>
         requires at_work { IsAtWork C.ops (T.space steps.now) self.old at node }
-        requires heads { heads.now ≡ (T.space steps.now).heads node.vertex }
-        requires costs { (j : ℕ) (s : _) → slice_get costs.now j ≡ Some (Some s) → (T.space steps.now).Costs node.vertex j s }
-        requires within { (j : ℕ) → Contains self.old.rows.improved.items j → j < length heads.now }
+        requires heads { places.now.heads.now ≡ (T.space steps.now).heads node.vertex }
+        requires costs { (j : ℕ) (s : _) → slice_get places.now.costs.now j ≡ Some (Some s) → (T.space steps.now).Costs node.vertex j s }
+        requires within { (j : ℕ) → Contains self.old.rows.improved.items j → j < length places.now.heads.now }
         ensures at_work { OnOk result (IsAtWork C.ops (T.space steps.now) self.new at node) }
         ensures falls { OnOk result (OnlyFalls C.ops self.old self.new) }
         ensures rows { OnOk result (self.new.rows ≡ self.old.rows) }
-        ensures found { OnOk result ((j w : ℕ) (s : _) → Contains self.old.rows.improved.items j → slice_get heads.now j ≡ Some w → slice_get costs.now j ≡ Some (Some s) → LabelWithin C.ops (label_of self.new.labels) w (C.ops.plus node.cost s)) }
+        ensures found { OnOk result ((j w : ℕ) (s : _) → Contains self.old.rows.improved.items j → slice_get places.now.heads.now j ≡ Some w → slice_get places.now.costs.now j ≡ Some (Some s) → LabelWithin C.ops (label_of self.new.labels) w (C.ops.plus node.cost s)) }
     {
         for k in 0..self.rows.improved.len() {
             let place = self.rows.improved[k];
-            let hop = hop_at(heads, costs, place);
+            let hop = hop_at(places.heads, places.costs, place);
             self.relax(steps, at, node, hop)?;
         }
         Ok(())

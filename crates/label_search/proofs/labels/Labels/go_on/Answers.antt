@@ -4,11 +4,11 @@ use Rattle.label_search.proofs.labels.Labels.go_on.Goals as goal
 
 pub take-requires-clause-front : goal.take-requires-clause-front
 take-requires-clause-front g c =
-    Front-popped g.C.Cost.ops (g.T.Steps.space c.args.steps.now) c.args.start c.loop.self.costs.items c.loop.self.queue c.pop.new.self c.in-Some.entry.1 c.in-Some.entry.0 c.loop.invariant c.in-Some.ensures.some
+    Front-popped g.C.Cost.ops (g.T.Steps.space c.args.steps.now) c.args.start c.loop.self.costs.items c.loop.self.queue c.pop.new.self c.in-Some.least.1 c.in-Some.least.0 c.loop.invariant c.in-Some.ensures.some
 
 pub take-requires-clause-least : goal.take-requires-clause-least
 take-requires-clause-least g c =
-    least_popped g.C.Cost.ops (g.T.Steps.space c.args.steps.now) c.args.start c.loop.self.costs.items c.loop.self.queue c.pop.new.self c.in-Some.entry.1 c.in-Some.entry.0 c.in-Some.ensures.some
+    least_popped g.C.Cost.ops (g.T.Steps.space c.args.steps.now) c.args.start c.loop.self.costs.items c.loop.self.queue c.pop.new.self c.in-Some.least.1 c.in-Some.least.0 c.in-Some.ensures.some
 
 pub returns-in-None : goal.returns-in-None
 returns-in-None g c =

@@ -1,6 +1,6 @@
 -- The search has begun at the starts so far, and has settled nothing.
 use Rattle.std.proofs.Common.{take}
-use Rattle.step_search.specs.Labelled.{settled_of}
+use Rattle.search_labels.specs.Labelled.{settled_of}
 use Rattle.step_search.specs.Stepping.{NoneSettled}
 use Rattle.step_search.specs.UnderWay.{IsBegun}
 use Rattle.step_search.proofs.dijkstra.Search.begin_all.Given as goal

@@ -1,6 +1,6 @@
 -- The arcs and the row are all hops out of the node.
 use Rattle.std.proofs.Common.{inl, inr, sym, subst}
-use Rattle.step_search.specs.Labelled.{label_of}
+use Rattle.search_labels.specs.Labelled.{label_of}
 use Rattle.step_search.specs.Progress.{AreBounds}
 use Rattle.step_search.proofs.Bounded.{AreBounds-falls}
 use Rattle.step_search.proofs.Falls.{LabelWithin-falls}

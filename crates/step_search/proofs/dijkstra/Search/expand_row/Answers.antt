@@ -2,7 +2,7 @@
 use Rattle.std.proofs.Common.{◌≡◌, ℕ, ◌<◌, List, length, Some, refl, sym, subst}
 use Rattle.std.specs.List.{slice_get}
 use Rattle.std.proofs.lemmas.Option.{slice_get_within}
-use Rattle.step_search.specs.Labelled.{label_of}
+use Rattle.search_labels.specs.Labelled.{label_of}
 use Rattle.step_search.specs.Progress.{AreBounds}
 use Rattle.step_search.proofs.Offered.{OnlyFalls-refl}
 use Rattle.step_search.proofs.Bounded.{AreBounds-lowered, row_found, row_fits, no_cost}

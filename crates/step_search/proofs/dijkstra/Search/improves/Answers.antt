@@ -1,7 +1,7 @@
 -- A cost that isn't less than the label's finds the label within it.
 use Rattle.std.proofs.Common.{sym, ◌∙◌, ap}
 use Rattle.std.specs.Ordering.{is_lt}
-use Rattle.step_search.specs.Labelled.{label_of}
+use Rattle.search_labels.specs.Labelled.{label_of}
 use Rattle.step_search.proofs.Offered.{within_unless_less}
 use Rattle.step_search.proofs.dijkstra.Search.improves.Goals as goal
 

@@ -1,6 +1,6 @@
 -- An entry of a settled vertex is skipped.
 use Rattle.std.proofs.Common.{sym, ◌∙◌, ap}
-use Rattle.step_search.specs.Labelled.{settled_of}
+use Rattle.search_labels.specs.Labelled.{settled_of}
 use Rattle.step_search.proofs.Taken.{Skips-take}
 use Rattle.step_search.proofs.dijkstra.Search.nearest.Goals as goal
 

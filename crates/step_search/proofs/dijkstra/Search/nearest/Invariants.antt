@@ -1,6 +1,6 @@
 -- Only entries of settled vertices have been taken so far.
 use Rattle.std.proofs.Common.{◌≡◌, length}
-use Rattle.step_search.specs.Labelled.{settled_of}
+use Rattle.search_labels.specs.Labelled.{settled_of}
 use Rattle.step_search.specs.Stepping.{Skips}
 use Rattle.step_search.proofs.dijkstra.Search.nearest.Given as goal
 

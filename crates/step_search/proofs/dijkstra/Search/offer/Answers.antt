@@ -1,6 +1,6 @@
 -- A label that improves goes to a vertex that isn't settled, and any other is left.
 use Rattle.std.proofs.Common.{◌≡◌, false, refl}
-use Rattle.step_search.specs.Labelled.{label_of, settled_of}
+use Rattle.search_labels.specs.Labelled.{label_of, settled_of}
 use Rattle.step_search.specs.Stepping.Offers.{left, put}
 use Rattle.step_search.proofs.Offered.{unsettled_if_improved}
 use Rattle.step_search.proofs.dijkstra.Search.offer.Goals as goal

@@ -3,7 +3,7 @@ use Rattle.std.proofs.Common.{◌≡◌, ℕ, ◌<◌, length, Some, refl, sym, 
 use Rattle.std.specs.List.{slice_get}
 use Rattle.std.proofs.lemmas.Option.{slice_get_within, same_Some}
 use Rattle.list_lemmas.proofs.Gets.{Contains_get, get_Contains, get_is}
-use Rattle.step_search.specs.Labelled.{label_of}
+use Rattle.search_labels.specs.Labelled.{label_of}
 use Rattle.step_search.proofs.Falls.{LabelWithin-falls}
 use Rattle.step_search.proofs.Offered.{OnlyFalls-refl, OnlyFalls-trans, hop_by_place}
 use Rattle.step_search.proofs.dijkstra.Search.offer_improved.Goals as goal
@@ -28,7 +28,7 @@ pub relax-requires-clause-at_work : goal.relax-requires-clause-at_work
 relax-requires-clause-at_work g c = c.loop-k.invariant.at_work
 
 pub relax-requires-clause-hop : goal.relax-requires-clause-hop
-relax-requires-clause-hop g c = hop_by_place (g.T.Steps.space c.args.steps.now) c.args.node.vertex c.index-place.result.now c.args.heads.now c.args.costs.now c.hop_at-hop.result c.requires.heads c.requires.costs c.hop_at-hop.ensures.some
+relax-requires-clause-hop g c = hop_by_place (g.T.Steps.space c.args.steps.now) c.args.node.vertex c.index-place.result.now c.args.places.now.heads.now c.args.places.now.costs.now c.hop_at-hop.result c.requires.heads c.requires.costs c.hop_at-hop.ensures.some
 
 pub loop-k-preserved : goal.loop-k-preserved
 loop-k-preserved g c =
@@ -44,7 +44,7 @@ loop-k-preserved g c =
           (λ i less j w s e h k. LabelWithin-falls g.met.C.Cost.laws (label_of c.loop-k.self.labels) (label_of c.relax.new.self.labels) w (g.C.Cost.ops.plus c.args.node.cost s) c.in_ok-relax.ensures.falls.falls (c.loop-k.invariant.found i less j w s e h k))
           (λ j w s e h k.
           let is : j ≡ c.index-place.result.now = same_Some j c.index-place.result.now (sym e ∙ at) in
-          c.in_ok-relax.ensures.found w s (c.hop_at-hop.ensures.all w s (subst (λ (x : ℕ). slice_get c.args.heads.now x ≡ Some w) is h) (subst (λ (x : ℕ). slice_get c.args.costs.now x ≡ Some (Some s)) is k)));
+          c.in_ok-relax.ensures.found w s (c.hop_at-hop.ensures.all w s (subst (λ (x : ℕ). slice_get c.args.places.now.heads.now x ≡ Some w) is h) (subst (λ (x : ℕ). slice_get c.args.places.now.costs.now x ≡ Some (Some s)) is k)));
     }
 
 pub returns-clause-at_work : goal.returns-clause-at_work

@@ -1,7 +1,7 @@
 -- What a hop out of the node at work is offered, and what it finds.
 use Rattle.std.proofs.Common.{◌≡◌, ℕ, Option, Some, IfSome, sym, ◌∙◌, subst}
 use Rattle.std.proofs.lemmas.Option.{none-some}
-use Rattle.step_search.specs.Labelled.{label_of}
+use Rattle.search_labels.specs.Labelled.{label_of}
 use Rattle.step_search.specs.Progress.{LabelWithin}
 use Rattle.step_search.specs.Spaces.{Space, HasHop}
 use Rattle.step_search.specs.declared.hops.Hop.{Hop}

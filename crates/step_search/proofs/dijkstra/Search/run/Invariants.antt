@@ -1,5 +1,5 @@
 -- The search stays under way, with fewer and fewer open vertices.
-use Rattle.step_search.specs.Labelled.{settled_of}
+use Rattle.search_labels.specs.Labelled.{settled_of}
 use Rattle.step_search.specs.Stepping.{open_below}
 use Rattle.step_search.specs.UnderWay.{IsUnderWay}
 use Rattle.step_search.proofs.dijkstra.Search.run.Given as goal

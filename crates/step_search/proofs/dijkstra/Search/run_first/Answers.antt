@@ -1,6 +1,6 @@
 -- The search is done with the target that is settled; once the queue is empty no path leads to those that aren't.
 use Rattle.std.proofs.Common.{sym, ◌∙◌, ap}
-use Rattle.step_search.specs.Labelled.{settled_of}
+use Rattle.search_labels.specs.Labelled.{settled_of}
 use Rattle.step_search.proofs.Answered.{done_settled, no_path_left}
 use Rattle.step_search.proofs.dijkstra.Search.run_first.Goals as goal
 

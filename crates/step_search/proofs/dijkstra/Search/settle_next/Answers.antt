@@ -1,6 +1,6 @@
 -- The vertex that the queue gives up is settled.
 use Rattle.std.proofs.Common.{◌<◌, subst}
-use Rattle.step_search.specs.Labelled.{settled_of}
+use Rattle.search_labels.specs.Labelled.{settled_of}
 use Rattle.step_search.specs.Stepping.{open_below}
 use Rattle.step_search.proofs.Advanced.{settled_under_way, settled_fewer}
 use Rattle.step_search.proofs.Taken.{skipped_under_way, taken_from_near, still_tree, still_expanded, still_starts, still_rows}

@@ -12,5 +12,5 @@ invariant_of-self-2 g c =
 pub returns : goal.returns
 returns g c =
     on_ok-LowersRow c.ensure_row.new.levels.items c.args.name.0 c.args.name.1 c.index_mut.result.now c.lower.new.self c.in_ok-ensure_row.ensures.level c.index_mut.ensures.value c.lower.ensures.others
-    c.lower.result g.C.Cost.ops c.args.self.now c.args.paid c.args.costs.now c.args.count c.lower.new.improved.items
+    c.lower.result g.C.Cost.ops c.args.self.now c.args.offers.now.paid c.args.offers.now.costs.now c.args.offers.now.count c.lower.new.improved.items
     (λ row j. c.in_ok-ensure_row.ensures.same row j ∙ ap (λ x. value_of x row j) c.self.view_is) c.lower.ensures.lowers

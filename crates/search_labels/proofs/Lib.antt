@@ -1,0 +1,2 @@
+mod Paged
+mod Rewritten

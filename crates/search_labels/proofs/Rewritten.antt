@@ -1,0 +1,39 @@
+-- How the labels change where one slot is written.
+use Rattle.std.proofs.Common.{◌≡◌, ℕ, inl, inr, Bool, true, false, cond, nat_eq, List, refl, sym, ◌∙◌, ap}
+use Rattle.search_labels.specs.Labelled.{label_in, settled_in, label_of, settled_of, changed}
+use Rattle.search_labels.specs.ChangedLaws.{same_place, changed-here, changed-there}
+use Rattle.search_labels.specs.Paged.{slot_at}
+use Rattle.search_labels.specs.declared.labels.Slot.{Slot}
+
+-- what is read of a function that changed at a place, changed there
+module _ {Y Z : Type 0} (h : Y → Z) where
+  read_choice : (b : Bool) (x y : Y) → h (cond b x y) ≡ cond b (h x) (h y)
+  read_choice true x y = refl
+  read_choice false x y = refl
+
+  read_changed : (f g : ℕ → Y) (v : ℕ) (y : Y) → g ≡ changed f v y → (u : ℕ) → h (g u) ≡ changed (λ w. h (f w)) v (h y) u
+  read_changed f g v y e u = ap (λ (k : ℕ → Y). h (k u)) e ∙ read_choice (nat_eq v u) y (f u)
+
+-- a change to what was there is none
+changed_same : {Y : Type 0} (f : ℕ → Y) (v : ℕ) (y : Y) → f v ≡ y → (u : ℕ) → changed f v y u ≡ f u
+changed_same f v y e u = elim (same_place v u) [
+  | inl k ↦ changed-here f v y u k ∙ sym e ∙ ap f k
+  | inr k ↦ changed-there f v y u k
+]
+
+-- pages that come and keep all slots, of which that of v is then written
+module _ {C : Type 0} (old more written : List (List (Slot C))) (same : slot_at more ≡ slot_at old) (v : ℕ) (slot : Slot C) (change : slot_at written ≡ changed (slot_at more) v slot) where
+  written_is : slot_at written ≡ changed (slot_at old) v slot
+  written_is = change ∙ ap (λ (f : ℕ → Slot C). changed f v slot) same
+
+  pub label_written : label_of written ≡ changed (label_of old) v (label_in slot)
+  label_written = λ i u. read_changed label_in (slot_at old) (slot_at written) v slot written_is u i
+
+  pub settled_written : settled_of written ≡ changed (settled_of old) v (settled_in slot)
+  settled_written = λ i u. read_changed settled_in (slot_at old) (slot_at written) v slot written_is u i
+
+  pub label_stays : label_of old v ≡ label_in slot → label_of written ≡ label_of old
+  label_stays e = label_written ∙ (λ i u. changed_same (label_of old) v (label_in slot) e u i)
+
+  pub settled_stays : settled_of old v ≡ settled_in slot → settled_of written ≡ settled_of old
+  settled_stays e = settled_written ∙ (λ i u. changed_same (settled_of old) v (settled_in slot) e u i)

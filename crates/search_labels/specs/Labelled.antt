@@ -1,0 +1,31 @@
+-- What is known of each vertex, as two functions of it: its label, if it has one, and whether it is settled. They are read of the pages of slots that the labels are.
+use Rattle.std.specs.Prelude.{ℕ, Bool, true, false, cond, List, Option, Some, None}
+use Rattle.std.specs.Prelude.{nat_eq}
+use Rattle.search_labels.specs.Paged.{slot_at}
+use Rattle.search_labels.specs.declared.labels.Label.{Label}
+use Rattle.search_labels.specs.declared.labels.Slot.{Slot}
+use Rattle.search_labels.specs.declared.labels.Slot.TheVariants.{Untouched, Labelled, Settled}
+
+-- the label in a slot, if there is one
+abbrev pub label_in : {C : Type 0} → Slot C → Option (Label C)
+label_in Untouched = None
+label_in (Labelled l) = Some l
+label_in (Settled l) = Some l
+
+-- whether a slot is settled
+abbrev pub settled_in : {C : Type 0} → Slot C → Bool
+settled_in Untouched = false
+settled_in (Labelled l) = false
+settled_in (Settled l) = true
+
+-- the label of the vertex v
+abbrev pub label_of : {C : Type 0} → List (List (Slot C)) → ℕ → Option (Label C)
+label_of s v = label_in (slot_at s v)
+
+-- whether the vertex v is settled
+abbrev pub settled_of : {C : Type 0} → List (List (Slot C)) → ℕ → Bool
+settled_of s v = settled_in (slot_at s v)
+
+-- f, but y at v
+abbrev pub changed : {Y : Type 0} → (ℕ → Y) → ℕ → Y → ℕ → Y
+changed f v y u = cond (nat_eq v u) y (f u)
