@@ -7,8 +7,8 @@ use Rattle.via_paths.specs.Forbidden.{last_of}
 use Rattle.via_paths.specs.Copies.{copies_of}
 use Rattle.via_paths.specs.Expansion.{AreCopies, copy_arcs, expanded_arcs, onward}
 use Rattle.via_paths.specs.Tries.{NextMap, IsTrie, AreEnds, IsAutomaton, entry_of, first_arcs, vertices_in}
+use Rattle.via_paths.specs.PrefixLaws.{copies_of-are}
 use Rattle.via_paths.proofs.Falling.{copies-many}
-use Rattle.via_paths.proofs.Prefixes.{copies_of-are}
 
 module _ (n m : ℕ) (words : List (List ℕ)) (next : NextMap) (copied : List Copied) (same : m ≡ n) (t : IsTrie n (copies_of words) next copied) where
   pub few-copies : length copied ≤ 2 ^ 20 → length (copies_of words) ≤ 2 ^ 20

@@ -15,9 +15,9 @@ use Rattle.via_paths.specs.Forbidden.{HasPath, same, has, words_of, words_in}
 use Rattle.via_paths.specs.Expansion.{AreCopies, held, word_of}
 use Rattle.via_paths.specs.Stems.{stems_by}
 use Rattle.via_paths.specs.Tries.{NextMap, IsTrie}
-use Rattle.via_paths.proofs.Words.{same-refl, same-is, has-Contains, Contains-has, Contains-cons, Contains-here, Contains-there}
-use Rattle.via_paths.proofs.ArcLaws.{Contains-map, map-Contains}
-use Rattle.via_paths.proofs.Falling.{held-whole}
+use Rattle.via_paths.specs.WordLaws.{same-refl, same-is, has-Contains, Contains-has, Contains-cons, Contains-here, Contains-there}
+use Rattle.via_paths.specs.ArcLaws.{Contains-map, map-Contains}
+use Rattle.via_paths.specs.HeldLaws.{held-whole}
 use Rattle.via_paths.proofs.Growing.{word-one}
 
 -- tests that are true at once are the same

@@ -1,26 +1,16 @@
--- The sequences of groups: their copies are those of the first sequence of each start.
-use Rattle.std.proofs.Common.{◌≡◌, ℕ, zero, suc, ◌+◌, ◌-◌, ◌<◌, ◌≤◌, inl, inr, max, Bool, cond, List, [], ◌∷◌, ◌++◌, map, flat_map, take, length, get_or, All, arith, refl, sym, ◌∙◌, ap, length-append}
-use Rattle.std.specs.List.{Contains}
+-- The first sequences of the starts of groups: their copies are those of all.
+use Rattle.std.proofs.Common.{◌≡◌, ℕ, zero, suc, ◌+◌, ◌-◌, ◌<◌, ◌≤◌, inl, inr, max, Bool, cond, List, [], ◌∷◌, ◌++◌, map, take, length, get_or, All, arith, refl, sym, ◌∙◌, ap}
 use Rattle.std.proofs.lemmas.Bool.{cases_lt}
 use Rattle.std.proofs.lemmas.List.{take-append-le}
 use Rattle.std.proofs.lemmas.List.Elements.{All-append, All-map}
 use Rattle.std.proofs.lemmas.List.Sums.{fold-append}
 use Rattle.std.proofs.Math.Nat.{eq-or-lt_of_le}
-use Rattle.list_lemmas.proofs.Gets.{All_get, Contains_get, get_Contains}
 use Rattle.via_paths.specs.declared.barred.Barred.{Barred}
 use Rattle.via_paths.specs.Copies.{with_new, with_prefix, layer, layers, longest, copies_of}
-use Rattle.via_paths.specs.Forbidden.{HasPath, IsBelow, words_of, words_in}
+use Rattle.via_paths.specs.Forbidden.{IsBelow, words_of, words_in}
 use Rattle.via_paths.specs.Stems.{firsts_by, firsts_of, firsts_in, stems_by}
-use Rattle.via_paths.proofs.Laying.{prefix-longer, prefix-shorter}
-use Rattle.via_paths.proofs.Prefixes.{new-has}
-
--- the sequences of these starts, this path and these ends
-abbrev pub words_by : List ℕ → List ℕ → List ℕ → List (List ℕ)
-words_by starts path ends = flat_map (λ d. map (λ e. d ∷ (path ++ e ∷ [])) ends) starts
-
--- all sequences from a start
-abbrev words_from : ℕ → List ℕ → List ℕ → List (List ℕ)
-words_from d path ends = map (λ e. d ∷ (path ++ e ∷ [])) ends
+use Rattle.via_paths.specs.PrefixLaws.{prefix-longer, prefix-shorter, new-has}
+use Rattle.via_paths.specs.GroupLaws.{front-length, word-below, words_by, words_from}
 
 -- without ends there are none
 words_by-none : (starts path : List ℕ) → words_by starts path [] ≡ []
@@ -32,9 +22,6 @@ new-twice : (copies : List (List ℕ)) (p : List ℕ) → with_new (with_new cop
 new-twice copies p = ap (λ (b : Bool). cond b (with_new copies p) (with_new copies p ++ p ∷ [])) (new-has copies p)
 
 -- sequences that differ in their last vertex alone have the same prefixes
-front-length : (d e : ℕ) (path : List ℕ) → length (d ∷ (path ++ e ∷ [])) ≡ suc (length path) + 1
-front-length d e path = let len : length (path ++ e ∷ []) ≡ length path + length (e ∷ []) = length-append path (e ∷ []) in omega arith
-
 front-take : (k d e : ℕ) (path : List ℕ) → k < length (d ∷ (path ++ e ∷ [])) → take k (d ∷ (path ++ e ∷ [])) ≡ take k (d ∷ path)
 front-take k d e path lt =
     let len : length (d ∷ (path ++ e ∷ [])) ≡ suc (length path) + 1 = front-length d e path in
@@ -147,52 +134,6 @@ layers-enough words =
     let le : longest words - 2 ≤ longest words = omega arith in
     let short : longest words ≤ (longest words - 2) + 2 = omega arith in
     sym (layers-idle (longest words - 2) (longest words) words le short)
-
--- what holds of each sequence of a group, where it holds of each start with each end
-words_by-all : (P : List ℕ → Type 0) (starts path ends : List ℕ) → ((d e : ℕ) → Contains starts d → Contains ends e → P (d ∷ (path ++ e ∷ []))) → All P (words_by starts path ends)
-words_by-all P [] path ends each = λ k d lt. absurd (omega arith)
-words_by-all P (x ∷ starts) path ends each =
-    All-append P (words_from x path ends) (words_by starts path ends)
-    (All-map P (λ e. x ∷ (path ++ e ∷ [])) ends (λ k e lt. each x (get_or ends k e) (Contains_get (x ∷ starts) 0 x refl) (k, lt, again ends k e lt)))
-    (words_by-all P starts path ends (λ d e at_d at_e. let g = get_Contains starts d at_d in each d e (Contains_get (x ∷ starts) (suc g.0) d g.1) at_e))
-  where
-    again : (ends : List ℕ) (k e : ℕ) → k < length ends → get_or ends k (get_or ends k e) ≡ get_or ends k e
-    again [] k e lt = absurd (omega arith)
-    again (y ∷ ends) zero e lt = refl
-    again (y ∷ ends) (suc k) e lt = again ends k e (omega arith)
-
-words_in-all : (P : List ℕ → Type 0) (groups : List Barred) → All (λ b. All P (words_of b)) groups → All P (words_in groups)
-words_in-all P [] all = λ k d lt. absurd (omega arith)
-words_in-all P (b ∷ groups) all =
-    All-append P (words_of b) (words_in groups) (all 0 b (omega arith)) (words_in-all P groups (λ k d lt. all (suc k) d (omega arith)))
-
-group-long : (b : Barred) → HasPath b → All (λ s. 3 ≤ length s) (words_of b)
-group-long b one = words_by-all (λ s. 3 ≤ length s) b.starts.items b.path.items b.ends.items each
-  where
-    each : (d e : ℕ) → Contains b.starts.items d → Contains b.ends.items e → 3 ≤ length (d ∷ (b.path.items ++ e ∷ []))
-    each d e at_d at_e = let len : length (d ∷ (b.path.items ++ e ∷ [])) ≡ suc (length b.path.items) + 1 = front-length d e b.path.items in omega (arith, one)
-
-pub words-long : (groups : List Barred) → All HasPath groups → All (λ s. 3 ≤ length s) (words_in groups)
-words-long groups paths = words_in-all (λ s. 3 ≤ length s) groups (λ k d lt. group-long (get_or groups k d) (paths k d lt))
-
-word-below : (n d e : ℕ) (path : List ℕ) → d < n → All (λ v. v < n) path → e < n → All (λ v. v < n) (d ∷ (path ++ e ∷ []))
-word-below n d e path start all end = All-append (λ v. v < n) (d ∷ []) (path ++ e ∷ []) (one d start) (All-append (λ v. v < n) path (e ∷ []) all (one e end))
-  where
-    one : (v : ℕ) → v < n → All (λ v. v < n) (v ∷ [])
-    one v lt zero d within = lt
-    one v lt (suc k) d within = absurd (omega arith)
-
-All-at : (P : ℕ → Type 0) (xs : List ℕ) (x : ℕ) → All P xs → Contains xs x → P x
-All-at P xs x all h = let g = get_Contains xs x h in All_get P xs g.0 x all g.1
-
-group-below : (n : ℕ) (b : Barred) → IsBelow n b → All (λ s. All (λ v. v < n) s) (words_of b)
-group-below n b all = words_by-all (λ s. All (λ v. v < n) s) b.starts.items b.path.items b.ends.items each
-  where
-    each : (d e : ℕ) → Contains b.starts.items d → Contains b.ends.items e → All (λ v. v < n) (d ∷ (b.path.items ++ e ∷ []))
-    each d e at_d at_e = word-below n d e b.path.items (All-at (λ v. v < n) b.starts.items d all.0 at_d) all.1 (All-at (λ v. v < n) b.ends.items e all.2 at_e)
-
-pub words-below : (n : ℕ) (groups : List Barred) → All (IsBelow n) groups → All (λ s. All (λ v. v < n) s) (words_in groups)
-words-below n groups below = words_in-all (λ s. All (λ v. v < n) s) groups (λ k d lt. group-below n (get_or groups k d) (below k d lt))
 
 -- the first sequences are among all
 pub firsts-below : (n : ℕ) (groups : List Barred) → All (IsBelow n) groups → All (λ s. All (λ v. v < n) s) (firsts_in groups)

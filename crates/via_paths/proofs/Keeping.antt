@@ -12,10 +12,10 @@ use Rattle.via_paths.specs.declared.ended.Ends.{Ends}
 use Rattle.via_paths.specs.Forbidden.{has, ends_in}
 use Rattle.via_paths.specs.Expansion.{onward, word_of}
 use Rattle.via_paths.specs.Tries.{NextMap, ListMap, EndSet, KeptMap, AreKept, IsAutomaton, left_by, list_at, out_by, pair_eq}
-use Rattle.via_paths.proofs.ArcLaws.{word-ordinary, pair-fine}
-use Rattle.via_paths.proofs.Ending.{ended-here, ended-back}
+use Rattle.via_paths.specs.ArcLaws.{word-ordinary, pair-fine}
 use Rattle.via_paths.proofs.Falling.{copies-many}
 use Rattle.via_paths.proofs.Growing.{pair-is}
+use Rattle.via_paths.proofs.Ending.{ended-here, ended-back}
 
 -- a test of the one element of a list
 single : (p : ℕ → Bool) (xs : List ℕ) → length xs ≡ 1 → list_any p xs ≡ p (get_or xs 0 0)

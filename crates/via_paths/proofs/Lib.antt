@@ -1,5 +1,3 @@
-pub mod ArcLaws
-pub mod Costing
 pub mod Ending
 pub mod Expanding
 pub mod Falling
@@ -7,14 +5,9 @@ pub mod Fanning
 pub mod Gathering
 pub mod Grouping
 pub mod Growing
-pub mod Holding
 pub mod Keeping
 pub mod Laying
-pub mod Lifting
 pub mod Outgoing
 pub mod Prefixes
 pub mod Putting
-pub mod States
 pub mod Stemming
-pub mod Turning
-pub mod Words

@@ -5,7 +5,7 @@ use Rattle.std.proofs.lemmas.List.{map_push, take_more_set}
 use Rattle.list_lemmas.proofs.Fronts.{take-get}
 use Rattle.via_paths.specs.Expansion.{word_of, onward}
 use Rattle.via_paths.specs.Tries.{first_arcs}
-use Rattle.via_paths.proofs.ArcLaws.{word-ordinary}
+use Rattle.via_paths.specs.ArcLaws.{word-ordinary}
 
 -- where the same stands from i on, the same stands at i and behind it
 pub same-at : {X : Type 0} (xs ys : List X) (i : ℕ) (x : X) → length xs ≡ length ys → drop i xs ≡ drop i ys → slice_get xs i ≡ Some x →

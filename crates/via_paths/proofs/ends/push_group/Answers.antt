@@ -10,10 +10,10 @@ use Rattle.via_paths.specs.Expansion.{held, word_of}
 use Rattle.via_paths.specs.Forbidden.{has}
 use Rattle.via_paths.specs.Stems.{stems_by}
 use Rattle.via_paths.specs.Tries.{list_at}
+use Rattle.via_paths.specs.WordLaws.{has-push}
 use Rattle.via_paths.proofs.Falling.{copies-many}
-use Rattle.via_paths.proofs.Gathering.{group-step, state-same}
 use Rattle.via_paths.proofs.Grouping.{stems-some}
-use Rattle.via_paths.proofs.Growing.{has-push}
+use Rattle.via_paths.proofs.Gathering.{group-step, state-same}
 use Rattle.via_paths.proofs.ends.push_group.Goals as goal
 
 pub loop-i-preserved : goal.loop-i-preserved

@@ -1,4 +1,4 @@
-use Rattle.via_paths.proofs.Words.{free-front, free-behind, free-whole}
+use Rattle.via_paths.specs.WordLaws.{free-front, free-behind, free-whole}
 use Rattle.via_paths.proofs.laws.free_walks_are_joined.Goals as goal
 
 pub returns : goal.returns

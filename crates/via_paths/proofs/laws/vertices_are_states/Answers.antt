@@ -1,4 +1,4 @@
-use Rattle.via_paths.proofs.States.{own-state, state-last}
+use Rattle.via_paths.specs.StateLaws.{own-state, state-last}
 use Rattle.via_paths.proofs.laws.vertices_are_states.Goals as goal
 
 pub returns-clause-own : goal.returns-clause-own

@@ -1,4 +1,4 @@
-use Rattle.via_paths.proofs.Lifting.{stand_behind, ends_stand_behind}
+use Rattle.via_paths.specs.WalkLaws.{stand_behind, ends_stand_behind}
 use Rattle.via_paths.proofs.laws.walks_go_on_from_states.Goals as goal
 
 pub returns-clause-walks : goal.returns-clause-walks

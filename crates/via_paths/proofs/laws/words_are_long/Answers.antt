@@ -1,4 +1,4 @@
-use Rattle.via_paths.proofs.Grouping.{words-long, words-below}
+use Rattle.via_paths.specs.GroupLaws.{words-long, words-below}
 use Rattle.via_paths.proofs.laws.words_are_long.Goals as goal
 
 pub returns-clause-long : goal.returns-clause-long

@@ -2,7 +2,7 @@ use Rattle.std.proofs.Common.{◌≡◌, ℕ, All, Result, Err, sym, subst}
 use Rattle.via_paths.specs.declared.errors.ViaError.{ViaError}
 use Rattle.via_paths.specs.Forbidden.{IsBelow, words_in}
 use Rattle.via_paths.proofs.Expanding.{few-copies, automaton}
-use Rattle.via_paths.proofs.Grouping.{words-long}
+use Rattle.via_paths.specs.GroupLaws.{words-long}
 use Rattle.via_paths.proofs.expansion.Copies.of.Goals as goal
 
 same_error : {X : Type 0} (r : Result X ViaError) (x y z : ViaError) → r ≡ Err y → r ≡ Err z → y ≡ x → x ≡ z

@@ -4,7 +4,13 @@ use Rattle.std.proofs.Common.{◌≡◌, ℕ, ◌≤◌, inl, inr, Bool, true, f
 use Rattle.std.proofs.lemmas.Bool.{cases_Bool}
 use Rattle.via_paths.specs.Forbidden.{has, ends_in, last_of}
 use Rattle.via_paths.specs.Expansion.{AreCopies, held}
-use Rattle.via_paths.proofs.Words.{has-Contains, Contains-has}
+use Rattle.via_paths.specs.WordLaws.{has-Contains, Contains-has}
+
+-- a word that has a copy is held whole
+pub held-whole : (copies : List (List ℕ)) (p : List ℕ) → has copies p ≡ true → held copies p ≡ p
+held-whole copies [] found = refl
+held-whole copies (v ∷ []) found = refl
+held-whole copies (v ∷ x ∷ w) found = ap (λ (b : Bool). cond b (v ∷ x ∷ w) (held copies (x ∷ w))) found
 
 module _ (copies : List (List ℕ)) (closed : (w : List ℕ) (e : ℕ) → 2 ≤ length w → has copies (w ++ e ∷ []) ≡ true → has copies w ≡ true) where
   -- a word without a copy has none when it grows

@@ -71,6 +71,32 @@ Contains-has (x ∷ words) w h = elim (Contains-cons x w words h) [
   | inr more ↦ or-right (same w x) (has words w) (Contains-has words w more)
 ]
 
+-- a word is among more words where it is among them, or is the new one
+pub has-push : (words : List (List ℕ)) (p r : List ℕ) → has (words ++ p ∷ []) r ≡ (has words r || same r p)
+has-push [] p r = by (same r p)
+  where
+    by : (b : Bool) → (b || false) ≡ b
+    by true = refl
+    by false = refl
+has-push (x ∷ words) p r = ap (λ (b : Bool). same r x || b) (has-push words p r) ∙ by (same r x)
+  where
+    by : (b : Bool) → (b || (has words r || same r p)) ≡ ((b || has words r) || same r p)
+    by true = refl
+    by false = refl
+
+pub has-old : (words : List (List ℕ)) (p r : List ℕ) → has words r ≡ true → has (words ++ p ∷ []) r ≡ true
+has-old words p r h = has-push words p r ∙ ap (λ (b : Bool). b || same r p) h
+
+pub has-new : (words : List (List ℕ)) (p : List ℕ) → has (words ++ p ∷ []) p ≡ true
+has-new words p = has-push words p p ∙ ap (λ (b : Bool). has words p || b) (same-refl p) ∙ by (has words p)
+  where
+    by : (b : Bool) → (b || true) ≡ true
+    by true = refl
+    by false = refl
+
+pub has-either : (words : List (List ℕ)) (p r : List ℕ) → has (words ++ p ∷ []) r ≡ true → (has words r ≡ true) ⊎ (r ≡ p)
+has-either words p r h = elim (or_cases (has words r) (same r p) (sym (has-push words p r) ∙ h)) [ inl old ↦ inl old | inr new ↦ inr (same-is r p new) ]
+
 -- a word that ends in one of the sequences has it at its end
 pub ends_in-end : (sequences : List (List ℕ)) (w : List ℕ) → ends_in sequences w ≡ true →
     (before : List ℕ) × (s : List ℕ) × Contains sequences s × (w ≡ before ++ s)

@@ -11,9 +11,9 @@ use Rattle.search_graph.specs.Walks.{IsMove, Walk, IsBetween}
 use Rattle.via_paths.specs.Forbidden.{IsFree, IsFreeBehind, ends_in, last_of}
 use Rattle.via_paths.specs.Expansion.{AreCopies, IsStateOf, held, number, word_of, onward, expanded_arcs, unexpanded, expanded, standing}
 use Rattle.via_paths.specs.Standing.{IsCostedAlike, StandForFree, StandBehind, EndsStandForFree, EndsStandBehind, start_for, target_for}
-use Rattle.via_paths.proofs.Words.{last_of-push, Contains-here, Contains-one, free-behind, free-whole, behind-nil, behind-front, behind-head, behind-last, behind-tail, behind-cons, behind-push}
-use Rattle.via_paths.proofs.Holding.{held-push, copies-closed, ends_in-push, held-last}
-use Rattle.via_paths.proofs.ArcLaws.{held-word, standing-word, turn-below, arc-from, arc-to}
+use Rattle.via_paths.specs.WordLaws.{last_of-push, Contains-here, Contains-one, free-behind, free-whole, behind-nil, behind-front, behind-head, behind-last, behind-tail, behind-cons, behind-push}
+use Rattle.via_paths.specs.HeldLaws.{held-push, copies-closed, ends_in-push, held-last}
+use Rattle.via_paths.specs.ArcLaws.{held-word, standing-word, turn-below, arc-from, arc-to}
 
 module _ {C : Type 0} (ops : CostOps C) (n : ℕ) (sequences copies : List (List ℕ)) (turns : List (ℕ × ℕ)) (long : All (λ s. 3 ≤ length s) sequences) (below : All (λ t. (t.0 < n) × (t.1 < n)) turns) (are : AreCopies sequences copies) where
   -- the ordinary vertex that a vertex stands for

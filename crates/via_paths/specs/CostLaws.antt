@@ -8,8 +8,8 @@ use Rattle.list_lemmas.proofs.Gets.{Contains_get, get_some, get_append}
 use Rattle.via_paths.specs.Forbidden.{last_of}
 use Rattle.via_paths.specs.Expansion.{AreCopies, expanded_arcs, expanded, unexpanded, standing}
 use Rattle.via_paths.specs.Standing.{IsCostedAlike}
-use Rattle.via_paths.proofs.ArcLaws.{standing-word, word-copy}
-use Rattle.via_paths.proofs.States.{copy-below}
+use Rattle.via_paths.specs.ArcLaws.{standing-word, word-copy}
+use Rattle.via_paths.specs.StateLaws.{copy-below}
 
 past : {X : Type 0} (xs ys : List X) (k : ℕ) → slice_get (xs ++ ys) (length xs + k) ≡ slice_get ys k
 past [] ys k = ap (slice_get ys) (zero-add k)

@@ -6,10 +6,9 @@ use Rattle.std.proofs.lemmas.Option.{slice_get-get_or}
 use Rattle.list_lemmas.proofs.Gets.{Contains_get}
 use Rattle.via_paths.specs.Forbidden.{same, has, last_of}
 use Rattle.via_paths.specs.Expansion.{AreCopies, IsStateOf, held, number, word_of, standing}
-use Rattle.via_paths.proofs.Words.{Contains-has}
-use Rattle.via_paths.proofs.Holding.{held-last}
-use Rattle.via_paths.proofs.ArcLaws.{placed, held-word, standing-word, word-ordinary, word-copy}
-use Rattle.via_paths.proofs.Falling.{held-whole}
+use Rattle.via_paths.specs.WordLaws.{Contains-has}
+use Rattle.via_paths.specs.HeldLaws.{held-last, held-whole}
+use Rattle.via_paths.specs.ArcLaws.{placed, held-word, standing-word, word-ordinary, word-copy}
 
 -- the last of a front of small numbers is small
 last-below : (n : ℕ) (w rest : List ℕ) → 1 ≤ length w → All (λ v. v < n) (w ++ rest) → last_of w < n
