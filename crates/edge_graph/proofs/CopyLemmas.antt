@@ -10,7 +10,7 @@ use Rattle.std.proofs.lemmas.Option.{get_or_from_slice_get}
 use Rattle.via_paths.specs.Copies.{copies_of}
 use Rattle.via_paths.specs.Expansion.{expanded_arcs, onward, standing}
 use Rattle.via_paths.specs.Forbidden.{last_of}
-use Rattle.edge_graph.specs.Limits.{most_turns}
+use Rattle.road_turns.specs.Limits.{most_turns}
 use Rattle.edge_graph.specs.NetworkParts.{AreArcsOf, CopyMap, copies_in_map}
 
 -- one number more

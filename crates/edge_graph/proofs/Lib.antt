@@ -1,15 +1,3 @@
-pub mod ChainLemmas
-pub mod RuleLemmas
-pub mod NetworkLemmas
-pub mod FanLemmas
-pub mod TurnLemmas
-pub mod DecisionLemmas
-pub mod LeavingLemmas
-pub mod RangeLemmas
-pub mod CountLemmas
-mod Drops
-pub mod DepartureLemmas
-pub mod CourseLemmas
-pub mod ViaLemmas
-pub mod FindLemmas
 pub mod CopyLemmas
+pub mod NetworkLemmas
+pub mod RangeLemmas

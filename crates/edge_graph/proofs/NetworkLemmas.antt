@@ -15,22 +15,24 @@ use Rattle.via_paths.specs.Copies.{copies_of}
 use Rattle.via_paths.specs.declared.expansion.Copies.{Copies}
 use Rattle.via_paths.specs.Forbidden.{last_of}
 use Rattle.via_paths.specs.Expansion.{copy_arcs, expanded, expanded_arcs, onward, standing}
-use Rattle.via_paths.proofs.Turning.{arc-stands, turn-arc}
+use Rattle.via_paths.specs.TurnLaws.{arc-stands, turn-arc}
 use Rattle.edge_graph.specs.BuildCause.{IsBuildFault, IsSearchedFault, IsTurnsFault, IsViasFault, IsWithinLimits}
-use Rattle.edge_graph.specs.Limits.{most_copies, most_turns}
+use Rattle.edge_graph.specs.Limits.{most_copies}
+use Rattle.road_turns.specs.Limits.{most_turns}
 use Rattle.edge_graph.specs.declared.build_faults.BuildFault.{BuildFault}
 use Rattle.edge_graph.specs.declared.build_faults.BuildFault.TheVariants.{TooManySegments, TooManyVias, TooManyTurns, Memory}
 use Rattle.road_segments.specs.Limits.{most_segments}
-use Rattle.edge_graph.specs.NetworkView.{NetworkView, applied_along, copies_in, forbidden_on, graph_of, ignored_along, network_of, network_with, stands}
+use Rattle.edge_graph.specs.NetworkView.{NetworkView, copies_in, graph_of, network_of, network_with, stands}
+use Rattle.via_restrictions.specs.ViaWays.{applied_along, forbidden_on, ignored_along}
 use Rattle.edge_graph.specs.NetworkParts.{AreArcsOf, AreCopiesByVertex, AreCopiesFor, AreNetworkParts, AreWithin, CopyMap, IsGraphOf, searched, turns_of}
-use Rattle.edge_graph.specs.Restrictions.{applied_rules, applies}
+use Rattle.road_turns.specs.Restrictions.{applied_rules, applies}
 use Rattle.edge_graph.specs.Sound.{IsSoundNetwork}
-use Rattle.edge_graph.specs.DepartureParts.{AreDepartures}
-use Rattle.edge_graph.specs.Fans.{AreExits}
-use Rattle.edge_graph.specs.Turn.{IsSimple, turns}
-use Rattle.edge_graph.specs.TurnLaws.{turns-simple}
+use Rattle.road_turns.specs.DepartureParts.{AreDepartures}
+use Rattle.road_turns.specs.Fans.{AreExits}
+use Rattle.road_turns.specs.Turn.{IsSimple, turns}
+use Rattle.road_turns.specs.TurnLaws.{turns-simple}
 use Rattle.edge_graph.proofs.RangeLemmas.{turns-in_range}
-use Rattle.edge_graph.specs.ViaWays.{forbids_some}
+use Rattle.via_restrictions.specs.ViaWays.{forbids_some}
 use Rattle.road_segments.specs.Vertex.{vertices}
 use Rattle.road_segments.specs.Segment.{Segment, segments}
 use Rattle.edge_graph.specs.GraphLaws.{arc-is-turn, stands-below, turn-in-graph}

@@ -6,7 +6,7 @@ use Rattle.list_lemmas.proofs.Gets.{All_get}
 use Rattle.search_graph.specs.Faults.{AllInRange}
 use Rattle.turn_rules.specs.Rules.{Rule}
 use Rattle.road_segments.specs.Segment.{Segment}
-use Rattle.edge_graph.specs.Turn.{is_turn, numbered, turns, turns_from}
+use Rattle.road_turns.specs.Turn.{is_turn, numbered, turns, turns_from}
 use Rattle.road_segments.specs.Vertex.{Vertex, vertices}
 use Rattle.road_segments.specs.Laws.{length-vertices}
 

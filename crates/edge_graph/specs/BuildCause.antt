@@ -1,6 +1,7 @@
 -- When a network is refused.
 use Rattle.std.specs.Prelude.{ℕ, ◌<◌, ◌≤◌, length}
-use Rattle.edge_graph.specs.Limits.{most_copies, most_turns}
+use Rattle.edge_graph.specs.Limits.{most_copies}
+use Rattle.road_turns.specs.Limits.{most_turns}
 use Rattle.road_segments.specs.Limits.{most_segments}
 use Rattle.edge_graph.specs.NetworkView.{NetworkView, copies_in, graph_of}
 use Rattle.edge_graph.specs.declared.build_faults.BuildFault.{BuildFault}

@@ -14,10 +14,10 @@ use Rattle.edge_graph.specs.NetworkView.{NetworkView, copies_at, copies_in, grap
 use Rattle.edge_graph.specs.Sound.{IsSoundNetwork}
 use Rattle.via_paths.specs.Expansion.{arcs_out, copy_arcs, expanded_arcs, goes_on, onward}
 use Rattle.via_paths.specs.Forbidden.{last_of}
-use Rattle.via_paths.proofs.ArcLaws.{Contains-filter, Contains-map, filter-Contains, standing-word, word-copy}
-use Rattle.via_paths.proofs.Prefixes.{copies_of-are}
-use Rattle.via_paths.proofs.States.{copy-below}
-use Rattle.via_paths.proofs.Turning.{arc-stands, turn-arc}
+use Rattle.via_paths.specs.ArcLaws.{Contains-filter, Contains-map, filter-Contains, standing-word, word-copy}
+use Rattle.via_paths.specs.PrefixLaws.{copies_of-are}
+use Rattle.via_paths.specs.StateLaws.{copy-below}
+use Rattle.via_paths.specs.TurnLaws.{arc-stands, turn-arc}
 
 -- the vertices of the network, and the copies
 pub graph-vertices : (network : NetworkView) → (graph_of network).vertices ≡ 2 * length network.segments + length (copies_in network)

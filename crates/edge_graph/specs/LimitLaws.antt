@@ -2,7 +2,8 @@
 use Rattle.std.proofs.Common.{◌≡◌, ◌<◌, ◌≤◌, ◌^◌, ◌*◌, ◌+◌, ◌-◌, length, arith}
 use Rattle.edge_graph.specs.BuildCause.{IsWithinLimits}
 use Rattle.edge_graph.specs.GraphLaws.{graph-vertices}
-use Rattle.edge_graph.specs.Limits.{most_copies, most_turns}
+use Rattle.edge_graph.specs.Limits.{most_copies}
+use Rattle.road_turns.specs.Limits.{most_turns}
 use Rattle.edge_graph.specs.NetworkView.{NetworkView, copies_in, graph_of}
 use Rattle.road_segments.specs.Limits.{most_segments}
 

@@ -10,12 +10,13 @@ use Rattle.search_graph.specs.Digraph.{Digraph}
 use Rattle.search_graph.specs.Faults.{AllInRange}
 use Rattle.way_profile.specs.Vehicle.{IsSpeed}
 use Rattle.road_segments.specs.Segment.{Segment}
-use Rattle.edge_graph.specs.DepartureParts.{AreDepartures}
-use Rattle.edge_graph.specs.Fans.{AreExits}
-use Rattle.edge_graph.specs.Limits.{most_copies, most_turns}
+use Rattle.road_turns.specs.DepartureParts.{AreDepartures}
+use Rattle.road_turns.specs.Fans.{AreExits}
+use Rattle.edge_graph.specs.Limits.{most_copies}
+use Rattle.road_turns.specs.Limits.{most_turns}
 use Rattle.road_segments.specs.Limits.{most_segments}
-use Rattle.edge_graph.specs.NetworkView.{forbidden_on}
-use Rattle.edge_graph.specs.Turn.{IsSimple, turns}
+use Rattle.via_restrictions.specs.ViaWays.{forbidden_on}
+use Rattle.road_turns.specs.Turn.{IsSimple, turns}
 use Rattle.road_segments.specs.Vertex.{vertices}
 use Rattle.via_paths.specs.Copies.{copies_of}
 use Rattle.via_paths.specs.declared.expansion.Copies.{Copies}

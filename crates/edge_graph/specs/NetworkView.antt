@@ -1,5 +1,5 @@
 -- What a road network is to those who use it.
-use Rattle.std.specs.Prelude.{ℕ, ◌+◌, ◌*◌, ◌==◌, not, List, length, map, filter, count_by}
+use Rattle.std.specs.Prelude.{ℕ, ◌+◌, ◌*◌, ◌==◌, List, length, map, filter}
 use Rattle.std.specs.List.{range_with_len}
 use Rattle.search_graph.specs.Digraph.{Digraph}
 use Rattle.via_paths.specs.Copies.{copies_of}
@@ -8,10 +8,10 @@ use Rattle.via_paths.specs.Forbidden.{last_of}
 use Rattle.road_base.specs.declared.osm_objects.Object.{Object}
 use Rattle.turn_rules.specs.Rules.{RulesView, rules_of}
 use Rattle.way_profile.specs.Vehicle.{ProfileView}
-use Rattle.edge_graph.specs.Restrictions.{applied_rules}
+use Rattle.road_turns.specs.Restrictions.{applied_rules}
 use Rattle.road_segments.specs.Segment.{Segment, segments}
-use Rattle.edge_graph.specs.Turn.{turns}
-use Rattle.edge_graph.specs.ViaWays.{forbidden_words, forbids_some}
+use Rattle.road_turns.specs.Turn.{turns}
+use Rattle.via_restrictions.specs.ViaWays.{applied_along, forbidden_on, ignored_along}
 use Rattle.road_segments.specs.Vertex.{Vertex, vertices}
 
 -- the segments and the turns in their order, the sequences of vertices that no walk may run through, the profile of the
@@ -23,18 +23,6 @@ pub record NetworkView : Type 0 where
   pub profile : ProfileView
   pub applied : ℕ
   pub ignored : ℕ
-
--- the sequences of vertices that the rules over via ways forbid on these segments
-unfoldable pub forbidden_on : List Segment → RulesView → List (List ℕ)
-forbidden_on segments rules = forbidden_words (vertices segments) rules.kept rules.along
-
--- how many rules over via ways forbid a sequence there, and so apply
-unfoldable pub applied_along : List Segment → RulesView → ℕ
-applied_along segments rules = count_by (forbids_some (vertices segments) rules.kept) rules.along
-
--- and how many forbid none
-unfoldable pub ignored_along : List Segment → RulesView → ℕ
-ignored_along segments rules = count_by (λ rule. not (forbids_some (vertices segments) rules.kept rule)) rules.along
 
 -- the network of these segments under these rules, of which those over nodes apply there
 abbrev pub network_with : List Segment → RulesView → ProfileView → NetworkView

@@ -2,7 +2,7 @@
 use Rattle.std.specs.Prelude.{◌*◌, ◌<◌, ◌≤◌, All, length}
 use Rattle.search_graph.specs.Faults.{AllInRange}
 use Rattle.edge_graph.specs.NetworkView.{NetworkView}
-use Rattle.edge_graph.specs.Turn.{IsSimple}
+use Rattle.road_turns.specs.Turn.{IsSimple}
 
 -- no turn stands twice, and each is from a vertex to a vertex; the forbidden sequences are of three vertices or more
 pub record IsSoundNetwork (network : NetworkView) : Type 0 where

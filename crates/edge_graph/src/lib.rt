@@ -4,22 +4,9 @@
 #![tactic(auto)]
 
 mod build_faults;
-mod courses;
-mod decisions;
-mod departures;
-mod fans;
-mod leaving;
-mod limits;
 mod networks;
 mod parts;
-mod restrictions;
 mod searched;
-mod turn_counts;
-mod turn_lists;
-mod turning;
-mod via_ways;
-mod via_words;
-mod way_sets;
 
 pub use build_faults::BuildFault;
 pub use networks::Network;

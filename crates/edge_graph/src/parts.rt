@@ -4,30 +4,23 @@ ghost use Rattle.std.specs.Prelude.{◌≡◌, ◌*◌, ◌≤◌, All, IfOk, If
 ghost use Rattle.via_paths.specs.Copies.{copies_of};
 ghost use Rattle.via_paths.specs.Forbidden.{HasPath, IsBelow, words_in};
 ghost use Rattle.edge_graph.specs.BuildCause.{IsSearchedFault, IsTurnsFault};
-ghost use Rattle.edge_graph.specs.DepartureParts.{AreDepartures};
-ghost use Rattle.edge_graph.specs.Fans.{AreExits, AreFans};
-ghost use Rattle.edge_graph.specs.Leaving.{AreLeaving};
-ghost use Rattle.edge_graph.specs.Limits.{most_copies, most_turns};
+ghost use Rattle.road_turns.specs.DepartureParts.{AreDepartures};
+ghost use Rattle.road_turns.specs.Fans.{AreExits, AreFans};
+ghost use Rattle.road_turns.specs.Leaving.{AreLeaving};
+ghost use Rattle.edge_graph.specs.Limits.{most_copies};
+ghost use Rattle.road_turns.specs.Limits.{most_turns};
 ghost use Rattle.edge_graph.specs.NetworkParts.{AreArcsOf, searched};
-ghost use Rattle.edge_graph.specs.NetworkView.{applied_along, forbidden_on};
-ghost use Rattle.edge_graph.specs.Turn.{turns};
+ghost use Rattle.via_restrictions.specs.ViaWays.{applied_along, forbidden_on};
+ghost use Rattle.road_turns.specs.Turn.{turns};
 ghost use Rattle.road_segments.specs.Limits.{most_segments};
 ghost use Rattle.road_segments.specs.Vertex.{vertices};
 
 use crate::build_faults::BuildFault;
-use crate::courses::Courses;
-use crate::departures::Departures;
-use crate::fans::fans_of;
-use crate::leaving::Leaving;
-use crate::restrictions::Restrictions;
 use crate::searched::{Arcs, arcs_of, copies_for};
-use crate::turn_counts::turn_count;
-use crate::turn_lists::{Exits, exit_counts, turn_list};
-use crate::turning::Turning;
-use crate::via_ways::ViaWays;
-use crate::via_words::{Found, Vias};
 use road_segments::Roads;
+use road_turns::{Departures, Exits, Restrictions, turn_count, turn_list};
 use std::alloc::{AllocError, Global};
+use via_restrictions::Found;
 
 /// How many exits each vertex has, what the restrictions over via ways forbid, how many turns there are, and the arcs of
 /// the graph that is searched.
@@ -37,58 +30,6 @@ pub struct Parts {
     pub found: Found,
     pub turns: u32,
     pub arcs: Arcs,
-}
-
-// What leaves the nodes of these roads.
-fn exits_of(alloc: Global, roads: &Roads, restrictions: &Restrictions) -> Result<Exits, AllocError>
-    ensures fans { IfOk result (λ e. AreFans (vertices roads.now) 0 e.fans.next.items e.fans.by_node) }
-    ensures counts { IfOk result (λ e. AreExits (vertices roads.now) e.counts.items) }
-    ensures leaving { IfOk result (λ e. AreLeaving (vertices roads.now) restrictions.now.kept e.leaving.runs e.leaving.groups) }
-{
-    let fans = fans_of(alloc, roads)?;
-    let counts = exit_counts(alloc, roads, &fans)?;
-    let leaving = Leaving::of(alloc, roads, restrictions)?;
-    Ok(Exits {
-        counts,
-        fans,
-        leaving,
-    })
-}
-
-// What the restrictions over via ways forbid. Without such restrictions nothing is looked for.
-#[tactic(auto, unfolding(crate::specs::NetworkView::forbidden_on, crate::specs::NetworkView::applied_along))]
-fn found_of(
-    alloc: Global,
-    roads: &Roads,
-    departures: &Departures,
-    restrictions: &Restrictions,
-    exits: &[u32],
-) -> Result<Found, AllocError>
-    requires departures { AreDepartures (vertices roads.now) departures.now.order.items }
-    requires exits { AreExits (vertices roads.now) exits.now }
-    ensures words { IfOk result (λ found. words_in found.groups.items ≡ forbidden_on roads.now restrictions.now) }
-    ensures paths { IfOk result (λ found. All HasPath found.groups.items) }
-    ensures below { IfOk result (λ found. All (IsBelow (2 * length roads.now)) found.groups.items) }
-    ensures applied { IfOk result (λ found. found.applied ≡ applied_along roads.now restrictions.now) }
-    ensures few { IfOk result (λ found. found.applied ≤ length restrictions.now.along) }
-{
-    let rules = restrictions.along();
-    if rules.is_empty() {
-        let groups = Vec::new(alloc);
-        return Ok(Found { groups, applied: 0 });
-    }
-    let vias = Vias {
-        turning: Turning {
-            roads,
-            restrictions,
-            counts: exits,
-        },
-        departures,
-        rules,
-        ways: ViaWays::of(alloc, roads, rules)?,
-        courses: Courses::of(alloc, rules)?,
-    };
-    vias.find(alloc)
 }
 
 // All turns, unless they are more than a network may have: they are counted before any is stored.
@@ -151,8 +92,8 @@ pub fn parts_of(
     ensures few_copies { OnOk result (length (copies_of (forbidden_on roads.now restrictions.now)) ≤ most_copies) }
     ensures err { IfErr result (IsSearchedFault (length (copies_of (forbidden_on roads.now restrictions.now))) (length (searched roads.now restrictions.now).arcs)) }
 {
-    let exits = exits_of(alloc, roads, restrictions)?;
-    let found = found_of(alloc, roads, departures, restrictions, &exits.counts)?;
+    let exits = Exits::of(alloc, roads, restrictions)?;
+    let found = Found::of(alloc, roads, departures, restrictions, &exits.counts)?;
     let copies = copies_for(alloc, 2 * roads.len(), &found.groups)?;
     let (exits, list) = counts_and_turns(alloc, roads, restrictions, exits)?;
     let turns = list.len() as u32;

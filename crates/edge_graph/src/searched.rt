@@ -8,7 +8,8 @@ ghost use Rattle.via_paths.specs.Expansion.{expanded_arcs};
 ghost use Rattle.via_paths.specs.Forbidden.{HasPath, IsBelow, words_in};
 ghost use Rattle.via_paths.specs.Made.{AreMadeOf, ordinary_of};
 ghost use Rattle.edge_graph.specs.BuildCause.{IsTurnsFault, IsViasFault};
-ghost use Rattle.edge_graph.specs.Limits.{most_copies, most_turns};
+ghost use Rattle.edge_graph.specs.Limits.{most_copies};
+ghost use Rattle.road_turns.specs.Limits.{most_turns};
 ghost use Rattle.edge_graph.specs.NetworkParts.{AreArcsOf, AreCopiesByVertex, AreCopiesFor, AreWithin, copies_in_map};
 
 use crate::build_faults::BuildFault;
@@ -49,7 +50,7 @@ pub fn copies_for(
 }
 
 // The arcs with these copies, made in the list of the turns.
-#[tactic(auto, unfolding(crate::specs::Limits::most_turns))]
+#[tactic(auto, unfolding(road_turns::specs::Limits::most_turns))]
 fn arcs_with(alloc: Global, copies: &Copies, turns: Vec<(u32, u32)>) -> Result<Arcs, BuildFault>
     requires { All (λ t. (t.0 < ordinary_of copies.now) × (t.1 < ordinary_of copies.now)) turns.items }
     ensures are { IfOk result (λ arcs. (n : ℕ) (words : List (List ℕ)) → AreMadeOf n words copies.now → AreArcsOf n turns.items words arcs.stands_for.items arcs.list.items) }
@@ -87,7 +88,7 @@ pub fn arcs_of(
 }
 
 /// The graph of these arcs, which keeps their list. Each joins two vertices, so nothing but memory can be wanting.
-#[tactic(auto, unfolding(crate::specs::Limits::most_turns))]
+#[tactic(auto, unfolding(road_turns::specs::Limits::most_turns))]
 pub fn searched_graph(
     alloc: Global,
     vertices: u32,

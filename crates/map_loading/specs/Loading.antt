@@ -2,7 +2,8 @@
 -- refuses them. The map is judged first, then the settings, then the limits.
 use Rattle.std.specs.Prelude.{ℕ, nat_le, List, ◌++◌, length, codes, Result, Ok, Err, if◌then◌else◌}
 use Rattle.std.specs.Fmt.{decimal}
-use Rattle.edge_graph.specs.Limits.{most_copies, most_turns}
+use Rattle.edge_graph.specs.Limits.{most_copies}
+use Rattle.road_turns.specs.Limits.{most_turns}
 use Rattle.road_segments.specs.Limits.{most_segments}
 use Rattle.edge_graph.specs.NetworkView.{NetworkView, copies_in, graph_of, network_of}
 use Rattle.opl_read.specs.Objects.{opl_objects}

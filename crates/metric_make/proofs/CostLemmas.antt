@@ -16,7 +16,7 @@ use Rattle.search_graph.specs.declared.costs.WeightDurLen.{WeightDurLen}
 use Rattle.list_lemmas.proofs.Gets.{get_some}
 use Rattle.road_segments.specs.Segment.{Segment}
 use Rattle.edge_graph.specs.NetworkView.{NetworkView, vertices_of}
-use Rattle.edge_graph.specs.Turn.{exits}
+use Rattle.road_turns.specs.Turn.{exits}
 use Rattle.road_segments.specs.Vertex.{Vertex, against, along, opposite, vertices}
 use Rattle.road_segments.specs.Laws.{vertices-even, vertices-odd}
 use Rattle.metric_make.specs.MetricOf.{bearing_along, bend_penalty, cost_at, turn_cost_at, turn_cost_under, vertex_cost}

@@ -14,8 +14,8 @@ use Rattle.edge_graph.specs.NetworkView.{NetworkView, copies_in, graph_of, stand
 use Rattle.edge_graph.specs.Sound.{IsSoundNetwork}
 use Rattle.metric_make.specs.MetricOf.{AreAlike, with_copies}
 use Rattle.via_paths.specs.Forbidden.{last_of}
-use Rattle.via_paths.proofs.Costing.{costed}
-use Rattle.via_paths.proofs.Prefixes.{copies_of-are}
+use Rattle.via_paths.specs.CostLaws.{costed}
+use Rattle.via_paths.specs.PrefixLaws.{copies_of-are}
 
 -- what some arcs of the searched graph cost, where each costs what the turn does for which it stands
 abbrev pub by_ends : NetworkView → (ℕ × ℕ → WeightDurLen) → List (ℕ × ℕ) → List WeightDurLen

@@ -11,7 +11,7 @@ use Rattle.search_graph.specs.RoadCosts.{road_cost_ops}
 use Rattle.search_graph.specs.Weighted.{IsWeighting}
 use Rattle.search_graph.specs.declared.costs.WeightDurLen.{WeightDurLen}
 use Rattle.edge_graph.specs.NetworkView.{NetworkView, copies_in, graph_of, stands, turn_graph, vertices_of}
-use Rattle.edge_graph.specs.Turn.{exits}
+use Rattle.road_turns.specs.Turn.{exits}
 use Rattle.road_segments.specs.Vertex.{Vertex, opposite}
 use Rattle.metric_make.specs.TrafficRows.{speed_for, turn_for, unmatched_of}
 use Rattle.traffic_files.specs.declared.rows.SpeedRow.{SpeedRow}

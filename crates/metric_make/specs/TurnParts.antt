@@ -2,7 +2,7 @@
 -- signal, and the row that decides in their place.
 use Rattle.std.specs.Prelude.{ℕ, ◌==◌, List, Option, Some, None, if◌then◌else◌}
 use Rattle.edge_graph.specs.NetworkView.{NetworkView, vertices_of}
-use Rattle.edge_graph.specs.Turn.{exits}
+use Rattle.road_turns.specs.Turn.{exits}
 use Rattle.road_segments.specs.Vertex.{Vertex, opposite}
 use Rattle.metric_make.specs.MetricOf.{bend_penalty}
 use Rattle.metric_make.specs.TrafficRows.{turn_for}

@@ -1,6 +1,6 @@
 //! What the vertices and turns of a road network cost: weights in tenths, durations in deciseconds and lengths in
 //! decimetres, by the profile of the vehicle and the rows of traffic files. Worked maps are tested in
-//! `worked_maps`.
+//! `worked_metrics`.
 #![tactic(auto)]
 
 mod avoiding;

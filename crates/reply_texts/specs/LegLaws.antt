@@ -4,7 +4,7 @@ use Rattle.std.specs.List.{AllZip, slice_get, zip}
 use Rattle.std.proofs.lemmas.List.Elements.{All-cons, All-head, All-map, All-nil, All-tail}
 use Rattle.road_base.specs.declared.segments.Place.{Place}
 use Rattle.search_graph.specs.Faults.{AllInRange}
-use Rattle.edge_graph.specs.Turn.{IsSimple}
+use Rattle.road_turns.specs.Turn.{IsSimple}
 use Rattle.road_places.specs.Paid.{total_of}
 use Rattle.road_places.specs.Places.{IsPlaceOn}
 use Rattle.metric_make.specs.RoadMetric.{RoadMetric}

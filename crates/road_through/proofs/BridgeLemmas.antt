@@ -25,7 +25,7 @@ use Rattle.through_query.specs.ChainLaws.{both_are, both_some}
 use Rattle.through_query.specs.declared.legs.LegCosts.{LegCosts}
 use Rattle.via_paths.specs.Expansion.{word_of}
 use Rattle.via_paths.specs.Forbidden.{IsFree, IsFreeBehind}
-use Rattle.via_paths.proofs.Words.{behind-front, behind-nil, free-behind}
+use Rattle.via_paths.specs.WordLaws.{behind-front, behind-nil, free-behind}
 use Rattle.road_through.specs.States.{AreRoutesBy, AreTables, HasRoutesBy, IsTableOf}
 use Rattle.road_through.specs.Through.{AreJoined, BeginsWith, HasThrough, IsBrokenThrough, IsLeastThrough, IsThrough, cost_of_all, walks_behind}
 use Rattle.road_through.proofs.EndLemmas.{BeginWith, begin-behind, joined-behind, joined-from, joined-more}

@@ -19,8 +19,8 @@ use Rattle.road_places.specs.Permitted.{IsTarget}
 use Rattle.road_walks.specs.Searched.{IsTargetIn, all_at_copies, targets_at_copies}
 use Rattle.road_walks.proofs.TurnLemmas.{target-ordinary}
 use Rattle.via_paths.specs.Standing.{target_for}
-use Rattle.via_paths.proofs.ArcLaws.{Contains-map, map-Contains}
-use Rattle.via_paths.proofs.Words.{Contains-cons}
+use Rattle.via_paths.specs.ArcLaws.{Contains-map, map-Contains}
+use Rattle.via_paths.specs.WordLaws.{Contains-cons}
 
 no-target : (t : Target WeightDurLen) → ¬ Contains [] t
 no-target t h = omega (arith, h.1)

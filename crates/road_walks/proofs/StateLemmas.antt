@@ -24,7 +24,7 @@ use Rattle.road_walks.specs.Searched.{IsTargetIn}
 use Rattle.road_walks.proofs.KeptLemmas.{are_all-kept}
 use Rattle.road_walks.proofs.TableLemmas.{all_zip-at}
 use Rattle.via_paths.specs.Standing.{start_for, target_for}
-use Rattle.via_paths.proofs.ArcLaws.{Contains-map, map-Contains}
+use Rattle.via_paths.specs.ArcLaws.{Contains-map, map-Contains}
 
 -- a vertex has no more copies than the graph has vertices
 copies-few : (network : NetworkView) (v : ℕ) → length (copies_at network v) ≤ (graph_of network).vertices

@@ -22,11 +22,11 @@ use Rattle.road_walks.specs.Between.{IsAlongBetween, IsByTurnsBetween, IsPermitt
 use Rattle.via_paths.specs.Expansion.{IsStateOf, word_of}
 use Rattle.via_paths.specs.Forbidden.{IsFree, IsFreeBehind, last_of}
 use Rattle.via_paths.specs.Standing.{EndsStandBehind, start_for, target_for}
-use Rattle.via_paths.proofs.ArcLaws.{held-word}
-use Rattle.via_paths.proofs.Lifting.{ends_stand_behind}
-use Rattle.via_paths.proofs.Prefixes.{copies_of-are}
-use Rattle.via_paths.proofs.States.{own-state, state-last}
-use Rattle.via_paths.proofs.Words.{Contains-here, Contains-one, Contains-there, behind-cons, behind-head, behind-nil, behind-tail}
+use Rattle.via_paths.specs.ArcLaws.{held-word}
+use Rattle.via_paths.specs.WalkLaws.{ends_stand_behind}
+use Rattle.via_paths.specs.PrefixLaws.{copies_of-are}
+use Rattle.via_paths.specs.StateLaws.{own-state, state-last}
+use Rattle.via_paths.specs.WordLaws.{Contains-here, Contains-one, Contains-there, behind-cons, behind-head, behind-nil, behind-tail}
 
 -- ---- walks and what goes on behind them
 -- a walk is its front and its last vertex

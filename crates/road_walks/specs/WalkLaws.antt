@@ -24,8 +24,8 @@ use Rattle.road_places.specs.Ends.{AreAll}
 use Rattle.road_walks.specs.Choosing.{IsLeastOf, route_of}
 use Rattle.road_walks.specs.Searched.{CanCostFreely, IsFreeTo, StandsForTarget}
 use Rattle.via_paths.specs.Standing.{EndsStandForFree, target_for}
-use Rattle.via_paths.proofs.Lifting.{ends_stand_for_free}
-use Rattle.via_paths.proofs.Prefixes.{copies_of-are}
+use Rattle.via_paths.specs.WalkLaws.{ends_stand_for_free}
+use Rattle.via_paths.specs.PrefixLaws.{copies_of-are}
 
 -- walks of the searched graph from vertices of the network stand for the walks over the turns along which no forbidden
 -- sequence runs

@@ -7,7 +7,7 @@ use Rattle.std.proofs.lemmas.List.{reverse-append}
 use Rattle.std.proofs.lemmas.List.Sums.{sum_by-cons, take_while-cons}
 use Rattle.std.proofs.lemmas.Option.{slice_get-get_or}
 use Rattle.list_lemmas.proofs.Fronts.{take-get}
-use Rattle.edge_graph.specs.Departures.{vertices_from}
+use Rattle.road_turns.specs.Departures.{vertices_from}
 use Rattle.edge_graph.specs.NetworkView.{NetworkView, vertices_of}
 use Rattle.road_segments.specs.Vertex.{Vertex}
 use Rattle.route_steps.specs.Roundabouts.{exit_behind, exit_number, has_exit, is_round, leads_off}

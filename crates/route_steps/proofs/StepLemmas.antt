@@ -6,7 +6,7 @@ use Rattle.road_base.specs.declared.coordinates.Point.{Point}
 use Rattle.road_base.specs.declared.segments.Place.{Place}
 use Rattle.search_graph.specs.declared.costs.WeightDurLen.{WeightDurLen}
 use Rattle.search_graph.specs.RoadCosts.{road_cost_ops}
-use Rattle.edge_graph.specs.Turn.{IsSimple}
+use Rattle.road_turns.specs.Turn.{IsSimple}
 use Rattle.road_places.specs.Paid.{paid_along, total_of}
 use Rattle.road_places.specs.PaidLaws.{permitted_adds_up}
 use Rattle.road_places.specs.Permitted.{IsPermitted}

@@ -17,7 +17,7 @@ use Rattle.std.proofs.lemmas.Option.{get_or_from_slice_get, same_Some, slice_get
 use Rattle.list_lemmas.proofs.Fronts.{map-map}
 use Rattle.list_lemmas.proofs.Gets.{get_Contains}
 use Rattle.search_graph.specs.Digraph.{IsArc, Leaves}
-use Rattle.edge_graph.specs.Departures.{vertices_from}
+use Rattle.road_turns.specs.Departures.{vertices_from}
 use Rattle.road_segments.specs.Laws.{length-vertices}
 use Rattle.edge_graph.specs.GraphLaws.{arc-is-turn, turn-in-graph}
 use Rattle.edge_graph.specs.NetworkView.{NetworkView, graph_of, stands, vertices_of}

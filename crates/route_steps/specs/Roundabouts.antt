@@ -4,7 +4,7 @@
 use Rattle.std.specs.Prelude.{ℕ, ◌-◌, ◌^◌, Bool, true, false, not, ◌&&◌, List, Option, None, Some, drop, if◌then◌else◌, min, reverse, slice_index, take}
 use Rattle.std.specs.List.{count_by, list_all, list_any, slice_get, take_while}
 use Rattle.std.specs.Option.{option_map_or}
-use Rattle.edge_graph.specs.Departures.{vertices_from}
+use Rattle.road_turns.specs.Departures.{vertices_from}
 use Rattle.edge_graph.specs.NetworkView.{NetworkView, vertices_of}
 
 -- vertex v is a piece of a roundabout

@@ -14,7 +14,7 @@ use Rattle.search_graph.specs.Digraph.{Weighting}
 use Rattle.search_graph.specs.Faults.{AllInRange}
 use Rattle.search_graph.specs.RoadCosts.{road_cost_laws, road_cost_ops}
 use Rattle.edge_graph.specs.NetworkView.{NetworkView}
-use Rattle.edge_graph.specs.Turn.{IsSimple}
+use Rattle.road_turns.specs.Turn.{IsSimple}
 use Rattle.road_places.specs.Paid.{paid_along, paid_to, steps_of, total_of}
 use Rattle.road_places.specs.PaidLaws.{permitted_adds_up, total_of-append}
 use Rattle.road_places.specs.Permitted.{IsPermitted}

@@ -7,7 +7,7 @@ use Rattle.std.proofs.lemmas.Bool.Decides.{nat_tests}
 use Rattle.std.proofs.lemmas.Option.{same_Some}
 use Rattle.search_graph.specs.declared.costs.WeightDurLen.{WeightDurLen}
 use Rattle.search_graph.specs.RoadCosts.{road_cost_ops}
-use Rattle.edge_graph.specs.Turn.{IsSimple}
+use Rattle.road_turns.specs.Turn.{IsSimple}
 use Rattle.road_places.specs.Paid.{AreTurnsAlong, IsTurnCosting, steps_of}
 use Rattle.metric_make.specs.RoadMetric.{RoadMetric}
 use Rattle.route_steps.specs.Turnings.{turn_paid, turns_paid}

@@ -8,7 +8,7 @@ use Rattle.geo_integer.specs.Bearing.{modifier_of}
 use Rattle.search_graph.specs.declared.costs.WeightDurLen.{WeightDurLen}
 use Rattle.search_graph.specs.RoadCosts.{road_cost_ops}
 use Rattle.edge_graph.specs.NetworkView.{NetworkView, vertices_of}
-use Rattle.edge_graph.specs.Turn.{exits}
+use Rattle.road_turns.specs.Turn.{exits}
 use Rattle.road_segments.specs.Vertex.{opposite}
 use Rattle.metric_make.specs.MetricOf.{bearing_along}
 use Rattle.road_places.specs.Paid.{steps_of}

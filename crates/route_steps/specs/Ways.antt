@@ -3,7 +3,7 @@
 use Rattle.std.specs.Prelude.{ℕ, ℤ, ◌==◌, ◌&&◌, Bool, List, [], Option, filter, position}
 use Rattle.std.specs.List.{flat_map, list_any, range_with_len, slice_get}
 use Rattle.std.specs.Option.{option_map_or}
-use Rattle.edge_graph.specs.Departures.{vertices_from}
+use Rattle.road_turns.specs.Departures.{vertices_from}
 use Rattle.edge_graph.specs.NetworkView.{NetworkView, vertices_of}
 use Rattle.route_steps.specs.Turnings.{bearing_on}
 use Rattle.route_steps.specs.declared.ways.Way.{Way}

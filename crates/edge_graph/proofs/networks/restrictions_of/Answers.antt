@@ -1,7 +1,7 @@
 use Rattle.std.proofs.Common.{◌≡◌, ◌+◌, ◌^◌, ◌<◌, List, length, arith, rules, ap, ◌∙◌}
 use Rattle.std.proofs.lemmas.Result.{IfOk-weaker}
 use Rattle.turn_rules.specs.Rules.{RulesView, rules_of}
-use Rattle.edge_graph.specs.Restrictions.{applied_rules}
+use Rattle.road_turns.specs.Restrictions.{applied_rules}
 use Rattle.edge_graph.proofs.NetworkLemmas.{rules-many}
 use Rattle.road_segments.specs.Segment.{Segment}
 use Rattle.edge_graph.proofs.networks.restrictions_of.Goals as goal

@@ -5,7 +5,7 @@ use Rattle.std.proofs.lemmas.Int.{to_z-of_z}
 use Rattle.std.proofs.lemmas.List.{length-map}
 use Rattle.std.proofs.lemmas.List.Sorted.{All-permutation, IsNonDecreasingBy-from_sort_by_key, answers_always, length_permutation}
 use Rattle.road_segments.specs.LimitLaws.{few_segments}
-use Rattle.edge_graph.specs.Departures.{vertices_from}
+use Rattle.road_turns.specs.Departures.{vertices_from}
 use Rattle.edge_graph.specs.NetworkView.{vertices_of}
 use Rattle.route_steps.specs.Ways.{way_on}
 use Rattle.route_steps.specs.declared.ways.Way.{Way}

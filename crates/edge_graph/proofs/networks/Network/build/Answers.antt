@@ -6,12 +6,13 @@ use Rattle.road_segments.specs.Limits.{most_segments}
 use Rattle.road_segments.specs.Segment.{Segment}
 use Rattle.road_segments.specs.Vertex.{vertices}
 use Rattle.edge_graph.specs.BuildCause.{IsBuildFault}
-use Rattle.edge_graph.specs.Limits.{most_turns}
+use Rattle.road_turns.specs.Limits.{most_turns}
 use Rattle.edge_graph.specs.NetworkParts.{AreCopiesByVertex, AreNetworkParts, searched, turns_of}
-use Rattle.edge_graph.specs.NetworkView.{forbidden_on, network_of}
-use Rattle.edge_graph.specs.Turn.{turns}
+use Rattle.edge_graph.specs.NetworkView.{network_of}
+use Rattle.via_restrictions.specs.ViaWays.{forbidden_on}
+use Rattle.road_turns.specs.Turn.{turns}
 use Rattle.via_paths.specs.Forbidden.{words_in}
-use Rattle.via_paths.proofs.Grouping.{words-below, words-long}
+use Rattle.via_paths.specs.GroupLaws.{words-below, words-long}
 use Rattle.edge_graph.proofs.NetworkLemmas.{arcs-in_range, fault-of_map, few-copies, limits-of_map, network-is, parts-are, turns-are}
 use Rattle.edge_graph.proofs.RangeLemmas.{turns-in_range}
 use Rattle.edge_graph.proofs.networks.Network.build.Goals as goal

@@ -2,7 +2,7 @@ use Rattle.std.proofs.Common.{◌≡◌, List, ◌<◌, length, arith, sym, ap, 
 use Rattle.list_lemmas.proofs.Gets.{get_is}
 use Rattle.edge_graph.specs.NetworkView.{NetworkView}
 use Rattle.road_segments.specs.Segment.{Segment}
-use Rattle.edge_graph.specs.Turn.{exits}
+use Rattle.road_turns.specs.Turn.{exits}
 use Rattle.road_segments.specs.Vertex.{vertices}
 use Rattle.road_segments.specs.Laws.{length-vertices}
 use Rattle.edge_graph.proofs.networks.Network.exits.Goals as goal

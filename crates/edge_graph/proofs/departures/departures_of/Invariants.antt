@@ -1,8 +1,0 @@
-use Rattle.std.proofs.Common.{◌≡◌, take}
-use Rattle.edge_graph.specs.DepartureParts.{departures}
-use Rattle.road_segments.specs.Vertex.{vertices}
-use Rattle.edge_graph.proofs.departures.departures_of.Given as goal
-
--- the vertices so far
-abbrev pub invariant-loop-vertex : goal.invariant-loop-vertex
-invariant-loop-vertex l = l.all.items ≡ take l.vertex (departures (vertices l.roads))

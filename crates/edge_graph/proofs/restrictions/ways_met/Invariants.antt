@@ -1,8 +1,0 @@
-use Rattle.std.proofs.Common.{drop}
-use Rattle.road_segments.specs.Vertex.{vertices}
-use Rattle.edge_graph.proofs.RuleLemmas.{HaveMet}
-use Rattle.edge_graph.proofs.restrictions.ways_met.Given as goal
-
--- the vertices from number v on have met the nodes
-abbrev pub invariant-loop-v : goal.invariant-loop-v
-invariant-loop-v l = HaveMet l.nodes (drop l.v (vertices l.roads)) l.met

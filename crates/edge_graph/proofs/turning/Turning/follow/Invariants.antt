@@ -1,9 +1,0 @@
-use Rattle.std.proofs.Common.{◌≡◌, ◌-◌, drop}
-use Rattle.edge_graph.specs.ViaWays.{follow}
-use Rattle.road_segments.specs.Vertex.{vertices}
-use Rattle.edge_graph.proofs.turning.Turning.follow.Given as goal
-
--- what is left to try is from the vertex before on
-abbrev pub invariant-loop-i : goal.invariant-loop-i
-invariant-loop-i l =
-    follow (vertices l.self.roads.now) l.self.restrictions.now.kept (drop (l.i - 1) l.path) ≡ follow (vertices l.self.roads.now) l.self.restrictions.now.kept l.path

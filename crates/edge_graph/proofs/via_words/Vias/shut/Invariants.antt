@@ -1,8 +1,0 @@
-use Rattle.std.proofs.Common.{◌≡◌, filter, take}
-use Rattle.edge_graph.specs.ViaWays.{is_onto, is_shut}
-use Rattle.road_segments.specs.Vertex.{vertices}
-use Rattle.edge_graph.proofs.via_words.Vias.shut.Given as goal
-
--- those of the vertices so far
-abbrev pub invariant-loop-e : goal.invariant-loop-e
-invariant-loop-e l = l.ends.items ≡ filter (is_onto (vertices l.self.turning.roads.now) (is_shut l.self.rules.now l.number)) (take l.e-index l.exits)

@@ -1,0 +1,14 @@
+pub mod Chains
+pub mod Decisions
+pub mod DepartureParts
+pub mod Departures
+pub mod DropLaws
+pub mod Fans
+pub mod Leaving
+pub mod Limits
+pub mod RestrictionParts
+pub mod Restrictions
+pub mod Turn
+pub mod TurnLaws
+pub mod TurnParts
+pub mod VertexLaws

@@ -1,0 +1,3 @@
+pub mod ViaParts
+pub mod ViaWays
+pub mod WaySets
