@@ -1,36 +1,29 @@
--- Digits read one by one, in 64 bits.
-use Rattle.std.proofs.Common.{◌≡◌, ℕ, ◌+◌, ◌*◌, ◌-◌, ◌≤◌, ◌<◌, ◌^◌, List, [], ◌∷◌, true, length, get_or, drop, refl, sym, ◌∙◌, ap, arith, rules, add-one, drop-cons}
-use Rattle.std.specs.Char.{is_ascii_digit, digit_value}
+-- Digits whose number fits 64 bits.
+use Rattle.std.proofs.Common.{◌≡◌, ℕ, ◌≤◌, Bool, true, false, not, ◌&&◌, cond, leb, List, length, min, Some, None, refl, sym, ◌∙◌, ap, arith, rules}
+use Rattle.std.specs.Char.{is_ascii_digit}
 use Rattle.std.specs.List.{list_all}
-use Rattle.std.specs.Str.Parse.{digits_value, digits_value_after}
-use Rattle.std.proofs.lemmas.Bool.Decides.{nat_tests}
-use Rattle.std.proofs.lemmas.List.Recursion.{and_at}
+use Rattle.std.specs.Str.Parse.{digits_value}
+use Rattle.std.proofs.lemmas.Bool.{le-leb, and_parts}
 use Rattle.std.proofs.lemmas.Str.Parse.{IsNumeralModel, numerals_by_value, digits_value_short}
+use Rattle.decimal_text.specs.Numeral.{is_numeral, whole_within}
+use Rattle.control_port.specs.Asking.{number_of}
 
-pub own : IsNumeralModel (λ ds. list_all (λ b. is_ascii_digit b) ds ≡ true) (digits_value 10)
+own : IsNumeralModel (λ ds. list_all (λ b. is_ascii_digit b) ds ≡ true) (digits_value 10)
 own = numerals_by_value _ (search rules)
 
--- more digits make no less
-digits_value_after-le : (n : ℕ) (ds : List ℕ) → n ≤ digits_value_after 10 n ds
-digits_value_after-le n [] = omega arith
-digits_value_after-le n (d ∷ ds) = omega (arith, digits_value_after-le (n * 10 + digit_value d) ds)
+number_case : (text : List ℕ) (numeral : Bool) → is_numeral text ≡ numeral → length text ≤ 18
+    → cond numeral (Some (min (digits_value 10 text) 18446744073709551615)) None ≡ cond (numeral && leb (length text) 18) (Some (digits_value 10 text)) None
+number_case text false h few = refl
+number_case text true h few =
+    let small = digits_value_short own text 18 (and_parts _ _ h).1 few in
+    let held : min (digits_value 10 text) 18446744073709551615 ≡ digits_value 10 text = omega arith in
+    ap Some held ∙ sym (ap (λ b. cond b (Some (digits_value 10 text)) None) (le-leb (length text) 18 few))
 
-pub digit_value-digit : (d : ℕ) → is_ascii_digit d ≡ true → (48 ≤ d) × (d ≤ 57) × (digit_value d ≡ d - 48)
-digit_value-digit d h = grind (arith, nat_tests)
+-- eighteen digits make no number above 64 bits
+pub number_of_whole : (text : List ℕ) → length text ≤ 18 → whole_within 18446744073709551615 text ≡ number_of text
+number_of_whole text few = number_case text (is_numeral text) refl few
 
--- a digit of a numeral
-pub digit_of : (ds : List ℕ) (i : ℕ) → list_all (λ b. is_ascii_digit b) ds ≡ true → i < length ds → is_ascii_digit (get_or ds i 0) ≡ true
-digit_of ds i h lt = and_at (list_all (λ b. is_ascii_digit b)) (λ b. is_ascii_digit b) refl (λ _ _. refl) ds i 0 lt h
-
--- the digits from i on, read one by one
-pub digits_value_after-drop : (n i : ℕ) (ds : List ℕ) → i < length ds → digits_value_after 10 n (drop i ds) ≡ digits_value_after 10 (n * 10 + digit_value (get_or ds i 0)) (drop (i + 1) ds)
-digits_value_after-drop n i ds lt = rw (add-one, drop-cons ds i 0)
-
--- the number so far with one digit more is below 10 ^ 18
-pub next_small : (n i : ℕ) (ds : List ℕ) → list_all (λ b. is_ascii_digit b) ds ≡ true → length ds ≤ 18 → i < length ds → digits_value_after 10 n (drop i ds) ≡ digits_value 10 ds → n * 10 + (get_or ds i 0 - 48) < 10 ^ 18
-next_small n i ds are few lt rest =
-    let d = get_or ds i 0 in
-    let value = digit_value-digit d (digit_of ds i are lt) in
-    let small = digits_value_short own ds 18 are few in
-    let more = digits_value_after-le (n * 10 + digit_value d) (drop (i + 1) ds) in
-    omega (arith, value.2, small, more, digits_value_after-drop n i ds lt, rest)
+-- what is chosen where a condition doesn't hold
+pub else_of : {A : Type 0} → (b : Bool) (one other : A) → true ≡ not b → other ≡ cond b one other
+else_of true one other h = cc
+else_of false one other h = refl

@@ -1,9 +1,9 @@
 -- What the head of a request asks of a control connection, and which body stands behind it (RFC 9112, sections 3 and 6,
 -- in the grammar of `httparse`; which targets there are and how long a body may be is this project's rule).
-use Rattle.std.specs.Prelude.{◌≡◌, ℕ, ◌≤◌, Bool, ◌&&◌, ◌==◌, List, [], ◌∷◌, length, filter, drop, codes, bytes_eq, nat_eq, nat_le, Option, Some, None, if◌then◌else◌}
-use Rattle.std.specs.Char.{is_ascii_digit}
-use Rattle.std.specs.List.{list_all, list_any, starts_with}
+use Rattle.std.specs.Prelude.{◌≡◌, ℕ, ◌≤◌, ◌&&◌, ◌==◌, List, [], ◌∷◌, length, filter, drop, codes, bytes_eq, nat_eq, nat_le, Option, Some, None, if◌then◌else◌}
+use Rattle.std.specs.List.{list_any, starts_with}
 use Rattle.std.specs.Str.Parse.{digits_value}
+use Rattle.decimal_text.specs.Numeral.{is_numeral}
 use Rattle.httparse.specs.Grammar.{RequestHead}
 use Rattle.http_head.specs.Fields.{NameValue, fields_of, is_named}
 use Rattle.control_port.specs.declared.asking.Announced.{Announced}
@@ -11,13 +11,9 @@ use Rattle.control_port.specs.declared.asking.Announced.TheVariants as announced
 use Rattle.control_port.specs.declared.asking.ControlHead.{ControlHead}
 use Rattle.control_port.specs.declared.asking.ControlHead.TheVariants as asked
 
--- 1 to 18 decimal digits and nothing else; leading zeros are digits as others
-abbrev pub is_number : List ℕ → Bool
-is_number text = nat_le 1 (length text) && (nat_le (length text) 18 && list_all (λ b. is_ascii_digit b) text)
-
--- the number that they write
+-- the number that 1 to 18 decimal digits write, and nothing else; leading zeros are digits as others
 abbrev pub number_of : List ℕ → Option ℕ
-number_of text = if is_number text then Some (digits_value 10 text) else None
+number_of text = if is_numeral text && nat_le (length text) 18 then Some (digits_value 10 text) else None
 
 abbrev pub length_of : Option ℕ → Announced
 length_of None = announced.Other

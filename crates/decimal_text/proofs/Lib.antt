@@ -1,4 +1,4 @@
 pub mod Appending
 pub mod Parts
-pub mod SixDigits
+pub mod KeptDigits
 pub mod Ranges

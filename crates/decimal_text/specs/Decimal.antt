@@ -22,9 +22,17 @@ abbrev pub is_unsigned_decimal : List ℕ → Bool
 is_unsigned_decimal text =
     is_numeral (before_point text) && (is_none (position is_point text) || is_numeral (after_point text))
 
--- the digits of a value in millionths: those before the point and six after it, absent ones being 0
-abbrev pub kept_digits : List ℕ → List ℕ → List ℕ
-kept_digits whole fraction = whole ++ take 6 (fraction ++ codes "000000")
+-- the digits before a point and this many after it, at most six, absent ones being 0
+abbrev pub kept_digits : ℕ → List ℕ → List ℕ → List ℕ
+kept_digits kept whole fraction = whole ++ take kept (fraction ++ codes "000000")
+
+-- the number that a decimal's digits make with this many kept after the point, at most six
+abbrev pub scaled : ℕ → List ℕ → ℕ
+scaled kept text = digits_value 10 (kept_digits kept (before_point text) (after_point text))
+
+-- a decimal without a sign as such a number, held within a limit
+abbrev pub scaled_within : ℕ → ℕ → List ℕ → Option ℕ
+scaled_within kept limit text = if is_unsigned_decimal text then Some (min (scaled kept text) limit) else None
 
 -- one more millionth where the seventh digit after the point is 5 or more
 abbrev pub rounding : List ℕ → ℕ
@@ -32,7 +40,7 @@ rounding fraction = if nat_le 53 (slice_index fraction 6) then 1 else 0
 
 -- how many millionths the digits before and after a point make; digits behind the seventh count for nothing
 abbrev pub millionths : List ℕ → List ℕ → ℕ
-millionths whole fraction = digits_value 10 (kept_digits whole fraction) + rounding fraction
+millionths whole fraction = digits_value 10 (kept_digits 6 whole fraction) + rounding fraction
 
 -- decimals of more than so many millionths either way are told as this many
 abbrev pub farthest : ℕ

@@ -1,9 +1,10 @@
-//! Decimals in whole millionths.
+//! Decimals as whole numbers of their last digit's unit.
 
-ghost use Rattle.std.specs.Prelude.{◌≡◌, ◌++◌, take, codes, min, true, false, IfSome, MatchOption, position};
+ghost use Rattle.std.specs.Prelude.{◌≡◌, ◌≤◌, min, true, false, IfSome, MatchOption, position};
 ghost use Rattle.std.specs.Char.{is_ascii_digit};
 ghost use Rattle.std.specs.List.{list_all};
-ghost use Rattle.decimal_text.specs.Decimal.{farthest, TellsRanges, microdegrees_of, millionths, rounding, is_point, is_unsigned_decimal, ArePartsOf};
+ghost use Rattle.std.specs.Str.Parse.{digits_value};
+ghost use Rattle.decimal_text.specs.Decimal.{farthest, kept_digits, scaled_within, TellsRanges, microdegrees_of, millionths, rounding, is_point, is_unsigned_decimal, ArePartsOf};
 
 use crate::numerals::{append_digits, is_numeral, past_minus, signed};
 
@@ -11,7 +12,7 @@ use crate::numerals::{append_digits, is_numeral, past_minus, signed};
 /// 180, so that a test for a range on Earth comes out as it would for the number itself.
 pub const FARTHEST: u64 = 1_000_000_000_000;
 
-// The six digits that are kept after the point, where none is written.
+// The digits that are kept after the point, where none is written.
 const ABSENT_DIGITS: [u8; 6] = *b"000000";
 
 /// A decimal number of degrees in whole microdegrees: an optional `-`, one or more digits (leading zeros
@@ -27,6 +28,19 @@ pub fn microdegrees(bytes: &[u8]) -> Option<i64>
 {
     match parts(past_minus(bytes)) {
         Some((whole, fraction)) => Some(signed(bytes, rounded(whole, fraction))),
+        None => None,
+    }
+}
+
+/// A decimal number without a sign, with this many digits kept after its point, in whole units of the last one: 3 for
+/// thousandths. Further digits are dropped; a number above `limit` is told as that. None exactly where the bytes are
+/// something else.
+pub fn decimal(bytes: &[u8], kept: usize, limit: u64) -> Option<u64>
+    requires { kept ≤ 6 }
+    ensures { result ≡ scaled_within kept limit bytes.now }
+{
+    match parts(bytes) {
+        Some((whole, fraction)) => Some(joined(whole, fraction, kept, limit)),
         None => None,
     }
 }
@@ -69,12 +83,23 @@ fn rounded(whole: &[u8], fraction: &[u8]) -> u64
     requires fraction_digits { list_all (λ b. is_ascii_digit b) fraction.now ≡ true }
     ensures { result ≡ min (millionths whole.now fraction.now) farthest }
 {
-    let (_, absent) = ABSENT_DIGITS.split_at(fraction.len().min(6));
-    let (present, _) = fraction.split_at(fraction.len().min(6));
-    let degrees = append_digits(0, whole, FARTHEST);
-    let with_present = append_digits(degrees, present, FARTHEST);
-    let kept = append_digits(with_present, absent, FARTHEST);
-    (kept + seventh_rounding(fraction)).min(FARTHEST)
+    (joined(whole, fraction, 6, FARTHEST) + seventh_rounding(fraction)).min(FARTHEST)
+}
+
+// The number that these digits before and after a point make with this many kept after it, but `limit` where it is
+// above that.
+fn joined(whole: &[u8], fraction: &[u8], kept: usize, limit: u64) -> u64
+    requires whole_digits { list_all (λ b. is_ascii_digit b) whole.now ≡ true }
+    requires fraction_digits { list_all (λ b. is_ascii_digit b) fraction.now ≡ true }
+    requires few { kept ≤ 6 }
+    ensures { result ≡ min (digits_value 10 (kept_digits kept whole.now fraction.now)) limit }
+{
+    let written = fraction.len().min(kept);
+    let (present, _) = fraction.split_at(written);
+    let (absent, _) = ABSENT_DIGITS.split_at(kept - written);
+    let units = append_digits(0, whole, limit);
+    let with_present = append_digits(units, present, limit);
+    append_digits(with_present, absent, limit)
 }
 
 // What the seventh digit after the point adds.

@@ -1,10 +1,10 @@
-//! Digits and a minus sign.
+//! Whole numbers of digits, and a minus sign.
 
 ghost use Rattle.std.specs.Prelude.{◌≡◌, ℕ, ◌+◌, ◌*◌, ◌≤◌, ◌<◌, ◌^◌, min, drop, length, true, IsTrue};
 ghost use Rattle.std.specs.Char.{is_ascii_digit};
 ghost use Rattle.std.specs.List.{list_all};
 ghost use Rattle.std.specs.Str.Parse.{digits_value_after, starts_with_minus};
-ghost use Rattle.decimal_text.specs.Numeral.{is_numeral, without_minus, signed_as};
+ghost use Rattle.decimal_text.specs.Numeral.{is_numeral, whole_within, without_minus, signed_as};
 
 // Whether a text begins with a minus sign.
 pub(crate) fn has_minus(text: &[u8]) -> bool
@@ -20,8 +20,20 @@ pub(crate) fn past_minus(text: &[u8]) -> &[u8]
     if has_minus(text) { &text[1..] } else { text }
 }
 
-// Whether these are one or more digits and nothing else.
-pub(crate) fn is_numeral(bytes: &[u8]) -> bool
+/// The number that one or more digits write (leading zeros are allowed), but `limit` where it is above that.
+/// None exactly where the bytes are something else.
+pub fn whole(bytes: &[u8], limit: u64) -> Option<u64>
+    ensures { result ≡ whole_within limit bytes.now }
+{
+    if is_numeral(bytes) {
+        Some(append_digits(0, bytes, limit))
+    } else {
+        None
+    }
+}
+
+/// Whether these are one or more digits and nothing else.
+pub fn is_numeral(bytes: &[u8]) -> bool
     ensures { result ≡ is_numeral bytes.now }
 {
     !bytes.is_empty() && are_digits(bytes)

@@ -2,5 +2,4 @@ pub mod AllRead
 pub mod ChosenAmong
 pub mod Cuts
 pub mod EachRead
-pub mod Kept
 pub mod Numbers

@@ -1,4 +1,3 @@
 pub mod Values
 pub mod Entries
 pub mod Cutting
-pub mod Kept

@@ -1,12 +1,12 @@
 -- What the values of options stand for (OSRM's HTTP API, version 1; which numbers are too great, and that a
 -- radius is kept in whole decimetres, is this project's rule). Each definition gives None for a text that is
 -- not of the option's grammar.
-use Rattle.std.specs.Prelude.{ℕ, ◌==◌, Bool, true, false, not, ◌&&◌, ◌||◌, List, [], ◌∷◌, ◌++◌, take, length, map, codes, bytes_eq, nat_lt, nat_le, Option, Some, None, option_map, if◌then◌else◌}
+use Rattle.std.specs.Prelude.{ℕ, ◌==◌, Bool, true, false, not, ◌&&◌, ◌||◌, List, [], ◌∷◌, length, map, codes, bytes_eq, nat_lt, nat_le, Option, Some, None, option_map, if◌then◌else◌}
 use Rattle.std.specs.List.{before_first, after_first, list_all, list_any, slice_split}
 use Rattle.std.specs.Str.{byte}
 use Rattle.std.specs.Str.Parse.{digits_value}
 use Rattle.decimal_text.specs.Numeral.{is_numeral}
-use Rattle.decimal_text.specs.Decimal.{before_point, after_point, is_unsigned_decimal}
+use Rattle.decimal_text.specs.Decimal.{is_unsigned_decimal, scaled}
 use Rattle.option_values.specs.declared.option_types.Bearing.{Bearing}
 use Rattle.option_values.specs.declared.option_types.Approach.{Approach}
 use Rattle.option_values.specs.declared.option_types.Approach.TheVariants.{Unrestricted}
@@ -57,7 +57,7 @@ all_read read value = all_some (map read (entries_of value))
 
 -- a decimal without a sign, of metres, in whole decimetres: of the digits behind the point the first is kept
 abbrev pub decimetres_of : List ℕ → ℕ
-decimetres_of text = digits_value 10 (before_point text ++ take 1 (after_point text ++ codes "0"))
+decimetres_of text = scaled 1 text
 
 -- from 2^29 decimetres on, any distance will do
 abbrev pub limited : ℕ → Option ℕ

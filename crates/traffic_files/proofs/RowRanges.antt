@@ -5,11 +5,11 @@ use Rattle.std.specs.Option.{ForSome}
 use Rattle.std.specs.Result.{result_map_both}
 use Rattle.std.proofs.lemmas.Bool.{leb-true}
 use Rattle.std.proofs.lemmas.List.Elements.{All-cons, All-nil}
-use Rattle.decimal_text.specs.Decimal.{is_unsigned_decimal}
+use Rattle.decimal_text.specs.Decimal.{is_unsigned_decimal, scaled}
 use Rattle.decimal_text.specs.ObjectId.{id_of}
 use Rattle.traffic_files.specs.Fields.{optional_at, text_at}
 use Rattle.traffic_files.specs.Files.{Record, StandFor}
-use Rattle.traffic_files.specs.Numbers.{is_minus_decimal, kept_speed, limited, rate_kept, rate_of, scaled, scaled_of, speed_of, tenths_of}
+use Rattle.traffic_files.specs.Numbers.{is_minus_decimal, kept_speed, limited, rate_kept, rate_of, scaled_of, speed_of, tenths_of}
 use Rattle.traffic_files.specs.Ranges.{ArePenaltiesInRange, AreSpeedsInRange, IsPenaltyInRange, IsRate, IsRowSpeed, IsRowWeight, IsSpeedInRange}
 use Rattle.traffic_files.specs.Rows.{both_numbers, speed_judged, speed_row_of, turn_judged, turn_row_of}
 use Rattle.traffic_files.specs.declared.numbers.NumberFault.{NumberFault}

@@ -1,21 +1,17 @@
 -- Decimals of traffic files. How many digits are kept, and what is too great, is this project's rule.
-use Rattle.std.specs.Prelude.{ℕ, Bool, ◌&&◌, ◌==◌, List, ◌++◌, take, codes, max, nat_le, Result, Ok, Err, if◌then◌else◌}
+use Rattle.std.specs.Prelude.{ℕ, Bool, ◌&&◌, ◌==◌, List, max, nat_le, Result, Ok, Err, if◌then◌else◌}
 use Rattle.std.specs.Result.{result_map_both}
-use Rattle.std.specs.Str.Parse.{digits_value, starts_with_minus}
+use Rattle.std.specs.Str.Parse.{starts_with_minus}
 use Rattle.decimal_text.specs.Numeral.{without_minus}
-use Rattle.decimal_text.specs.Decimal.{before_point, after_point, is_unsigned_decimal}
+use Rattle.decimal_text.specs.Decimal.{is_unsigned_decimal, scaled}
 use Rattle.traffic_files.specs.declared.numbers.NumberFault.{NumberFault}
 use Rattle.traffic_files.specs.declared.numbers.NumberFault.TheVariants.{NoDecimal, NotInRange}
-
--- the number that a decimal's digits make with this many kept behind the point, at most three
-abbrev pub scaled : ℕ → List ℕ → ℕ
-scaled kept text = digits_value 10 (before_point text ++ take kept (after_point text ++ codes "000"))
 
 -- a number up to the greatest that a file may have: 1000 km/h or metres in thousandths, and 100000 s in deciseconds
 abbrev pub limited : ℕ → Result ℕ NumberFault
 limited number = if nat_le number 1000000 then Ok number else Err NotInRange
 
--- a decimal without a sign
+-- a decimal without a sign, with this many digits kept behind its point
 abbrev pub scaled_of : ℕ → List ℕ → Result ℕ NumberFault
 scaled_of kept text = if is_unsigned_decimal text then limited (scaled kept text) else Err NoDecimal
 
