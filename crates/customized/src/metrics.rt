@@ -18,7 +18,7 @@ use cell_frame::{Cliques, Frame};
 use class_sets::{CliqueSets, customize_all, recustomize_all};
 use edge_graph::Network;
 use metric_make::BaseMetric;
-use metric_publish::entry::Kindred;
+use metric_publish::Kindred;
 use search_graph::WeightDurLen;
 use std::alloc::{AllocError, Global};
 use std::marker::Model;

@@ -5,8 +5,7 @@ ghost use Rattle.door_workers.specs.Leading.{TurnGives, TendGives};
 
 use crate::sessions::{Controlling, Then};
 use crate::turns::{End, Turn};
-use metric_publish::entry::Kindred;
-use metric_publish::meaning::Publishing;
+use metric_publish::{Kindred, Publishing};
 use road_io::{Closer, Door};
 use std::sync::Wait;
 use std::thread::Threads;

@@ -7,7 +7,7 @@ ghost use Rattle.door_workers.specs.Serving.{AnsweredAt};
 
 use crate::sessions::Querying;
 use crate::workers::answer_all;
-use metric_publish::meaning::Reading;
+use metric_publish::Reading;
 use road_io::Door;
 use std::sync::Wait;
 use std::thread::{Threads, for_each_mut};

@@ -6,8 +6,7 @@ ghost use mathlib.Core.List.{IsPrefix};
 ghost use Rattle.metric_publish.specs.declared.entry.Entry.{Entry};
 ghost use Rattle.road_io.specs.Views.{IsFreshConn, Transcript};
 
-use metric_publish::entry::Kindred;
-use metric_publish::meaning::{Publishing, Reading};
+use metric_publish::{Kindred, Publishing, Reading};
 use road_io::Conn;
 use std::sync::Wait;
 use std::thread::Threads;

@@ -8,11 +8,7 @@ ghost use Rattle.metric_publish.specs.Calls.{Each};
 ghost use Rattle.door_workers.specs.Settling.{HasReadAll, IsSettled};
 
 use crate::posts::Post;
-use metric_publish::desk::DeskOf;
-use metric_publish::entry::Kindred;
-use metric_publish::history::Naming;
-use metric_publish::meaning::Reading;
-use metric_publish::seat::Seat;
+use metric_publish::{DeskOf, Kindred, Naming, Reading, Seat};
 
 /// Settles one seat, and says whether it has then read all that was published. It has not where its last
 /// Enter found no memory.

@@ -5,7 +5,7 @@ ghost use mathlib.Core.List.{IsPrefix};
 ghost use Rattle.door_workers.specs.Passing.{PassesOne, GoneToEnd};
 
 use crate::sessions::Querying;
-use metric_publish::meaning::Reading;
+use metric_publish::Reading;
 use road_io::Door;
 use std::sync::Wait;
 use std::thread::Threads;

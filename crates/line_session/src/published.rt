@@ -9,7 +9,7 @@ use control_port::{BodyRoom, ControlHead, control};
 use customized::{Metric, Roads, SERVER_LIMITS};
 use edge_graph::Network;
 use metric_make::base;
-use metric_publish::local_board::LocalBoard;
+use metric_publish::LocalBoard;
 use reply_core::{ReplyFault, line_answer};
 use road_base::Text;
 use snap_index::Grid;

@@ -3,5 +3,5 @@ pub mod Runs
 pub mod Kin
 pub mod Adding
 pub mod Turns
-pub mod Publishing
-pub mod Reading
+pub mod PendingLaws
+pub mod ReadLaws

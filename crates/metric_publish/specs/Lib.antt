@@ -1,3 +1,4 @@
 pub mod History
 pub mod Board
 pub mod Calls
+pub mod Published

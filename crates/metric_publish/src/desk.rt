@@ -5,11 +5,12 @@ ghost use Rattle.std.specs.Arc.{arc_value};
 ghost use Rattle.left_right.specs.Sides.{view};
 ghost use Rattle.metric_publish.specs.History.{IsKin, IsRun, last_number};
 ghost use Rattle.metric_publish.specs.Calls.{IsLastValue, PublishGives};
+ghost use Rattle.metric_publish.specs.Published.{list_of, published};
 
+use crate::board_traits::Publishing;
 use crate::entry::{Kindred, Put, View};
 use crate::held::{Receipt, Refused};
 use crate::history::{Book, Naming};
-use crate::meaning::Publishing;
 use crate::rule::{Adding, Board};
 use crate::seat::{Note, Seat};
 use crate::shown::Shown;
@@ -30,8 +31,8 @@ fn show<R: Wait, V: Kindred, J: Naming>(
     next: Shown<V, J>,
     kept: Arc<V>,
 ) -> (Under<V, J>, Result<(), Arc<V>>)
-    requires more { IsPrefix writer.desk.shown.value.front.token.log next.front.token.log }
-    ensures gives { MatchResult result.1 (λ _. result.0.desk.shown.value.front.token.log ≡ next.front.token.log) (λ back. (result.0.desk.shown.value ≡ writer.desk.shown.value) × (arc_value back ≡ arc_value kept)) }
+    requires more { IsPrefix (list_of writer) next.front.token.log }
+    ensures gives { MatchResult result.1 (λ _. list_of result.0 ≡ next.front.token.log) (λ back. (result.0.desk.shown.value ≡ writer.desk.shown.value) × (arc_value back ≡ arc_value kept)) }
 {
     if let Err(back) = writer.append(next) {
         drop(back);
@@ -51,8 +52,8 @@ fn published<R: Wait, V: Kindred, J: Naming>(
     book: &Book<V, J>,
     value: Arc<V>,
 ) -> (Under<V, J>, Result<Receipt, Refused<V>>)
-    requires { IsKin V.akin writer.desk.shown.value.front.token.log (arc_value value) }
-    ensures { PublishGives writer.desk.shown.value.front.token.log result.0.desk.shown.value.front.token.log (arc_value value) result.1 }
+    requires { IsKin V.akin (list_of writer) (arc_value value) }
+    ensures { PublishGives (list_of writer) (list_of result.0) (arc_value value) result.1 }
 {
     let shown = writer.published();
     let Some(number) = shown.next_number() else {
@@ -93,7 +94,7 @@ pub type DeskOf<V, J> = Desk<Shown<V, J>, V, Board, Book<V, J>>;
 impl<V: Kindred, J: Naming> Desk<Shown<V, J>, V, Board, Book<V, J>> {
     /// What was published, to be learned by a seat. It needs no memory and waits for nobody.
     pub fn tell(&self) -> Note<V, J>
-        ensures { result.front.token.log ≡ self.now.writer.desk.shown.value.front.token.log }
+        ensures { result.front.token.log ≡ published self.now }
     {
         Note {
             front: self.writer.published().front.again(),
@@ -102,8 +103,8 @@ impl<V: Kindred, J: Naming> Desk<Shown<V, J>, V, Board, Book<V, J>> {
 
     /// The number of the last publication. The numbers run up by one to it.
     pub fn number(&self) -> u32
-        ensures number { result ≡ last_number self.now.writer.desk.shown.value.front.token.log }
-        ensures runs { IsRun self.now.writer.desk.shown.value.front.token.log }
+        ensures number { result ≡ last_number (published self.now) }
+        ensures runs { IsRun (published self.now) }
     {
         let shown = self.writer.published();
         shown.front.check_law();
@@ -112,7 +113,7 @@ impl<V: Kindred, J: Naming> Desk<Shown<V, J>, V, Board, Book<V, J>> {
 
     /// Whether the seat has seen all that was published.
     pub fn is_caught_up(&self, seat: &Seat<V, J>) -> bool
-        ensures { IsTrue result ↔ (seat.now.seen.token.log ≡ self.now.writer.desk.shown.value.front.token.log) }
+        ensures { IsTrue result ↔ (seat.now.seen.token.log ≡ published self.now) }
     {
         let front = &self.writer.published().front;
         front.len() == seat.seen.len() && front.begins(&seat.seen)
@@ -121,7 +122,7 @@ impl<V: Kindred, J: Naming> Desk<Shown<V, J>, V, Board, Book<V, J>> {
     /// A seat that has seen what was published, and read nothing. It takes one of the places
     /// that were made room for; `AllocError` where none is left.
     pub fn seat(&self) -> Result<Seat<V, J>, AllocError>
-        ensures { IfOk result (λ s. (s.seen.token.log ≡ self.now.writer.desk.shown.value.front.token.log) × (s.learned.token.log ≡ self.now.writer.desk.shown.value.front.token.log) × ((view s.reader.place).reads ≡ [])) }
+        ensures { IfOk result (λ s. (s.seen.token.log ≡ published self.now) × (s.learned.token.log ≡ published self.now) × ((view s.reader.place).reads ≡ [])) }
     {
         let reader = self.writer.factory().reader()?;
         let seat = Seat::over(reader)?;
@@ -142,13 +143,13 @@ impl<V: Kindred, J: Naming> Desk<Shown<V, J>, V, Board, Book<V, J>> {
 }
 
 impl<V: Kindred, J: Naming, R: Wait> Publishing<V, R> for Desk<Shown<V, J>, V, Board, Book<V, J>> {
-    ghost list = { λ d. d.writer.desk.shown.value.front.token.log };
+    ghost list = { λ d. published d };
 
-    ghost kin = { λ d. IsKin V.akin d.writer.desk.shown.value.front.token.log };
+    ghost kin = { λ d. IsKin V.akin (published d) };
 
     fn last(&self) -> &Arc<V>
-        ensures last { IsLastValue self.now.writer.desk.shown.value.front.token.log (arc_value result.now) }
-        ensures kin { (x : V) → IsKin V.akin self.now.writer.desk.shown.value.front.token.log x → V.akin (arc_value result.now) x }
+        ensures last { IsLastValue (published self.now) (arc_value result.now) }
+        ensures kin { (x : V) → IsKin V.akin (published self.now) x → V.akin (arc_value result.now) x }
     {
         let shown = self.writer.published();
         shown.front.check_law();
@@ -156,16 +157,16 @@ impl<V: Kindred, J: Naming, R: Wait> Publishing<V, R> for Desk<Shown<V, J>, V, B
     }
 
     fn publish(&mut self, rt: &R, value: Arc<V>) -> Result<Receipt, Refused<V>>
-        requires { IsKin V.akin self.old.writer.desk.shown.value.front.token.log (arc_value value) }
-        ensures gives { PublishGives self.old.writer.desk.shown.value.front.token.log self.new.writer.desk.shown.value.front.token.log (arc_value value) result }
-        ensures kin_stays { (x : V) → IsKin V.akin self.old.writer.desk.shown.value.front.token.log x → IsKin V.akin self.new.writer.desk.shown.value.front.token.log x }
+        requires { IsKin V.akin (published self.old) (arc_value value) }
+        ensures gives { PublishGives (published self.old) (published self.new) (arc_value value) result }
+        ensures kin_stays { (x : V) → IsKin V.akin (published self.old) x → IsKin V.akin (published self.new) x }
     {
         replace_with(
             self,
             (rt, value),
             |desk: DeskOf<V, J>, given: (&R, Arc<V>)| -> (DeskOf<V, J>, Result<Receipt, Refused<V>>)
-                requires { IsKin V.akin desk.writer.desk.shown.value.front.token.log (arc_value given.1) }
-                ensures { PublishGives desk.writer.desk.shown.value.front.token.log result.0.writer.desk.shown.value.front.token.log (arc_value given.entry.1) result.1 }
+                requires { IsKin V.akin (published desk) (arc_value given.1) }
+                ensures { PublishGives (published desk) (published result.0) (arc_value given.entry.1) result.1 }
             {
                 let (rt, value) = given;
                 let Desk { writer, book } = desk;

@@ -11,13 +11,23 @@
 //! are this project's own.
 #![tactic(auto)]
 
-pub mod desk;
-pub mod entry;
-pub mod held;
-pub mod history;
-pub mod local_board;
-pub mod meaning;
-pub mod opening;
-pub mod rule;
-pub mod seat;
-pub mod shown;
+mod board_traits;
+mod desk;
+mod entry;
+mod held;
+mod history;
+mod local_board;
+mod opening;
+mod rule;
+mod seat;
+mod shown;
+
+pub use board_traits::{Publishing, Reading};
+pub use desk::{Desk, DeskOf};
+pub use entry::{Entry, Kindred, Put, View};
+pub use held::{Held, Receipt, Refused};
+pub use history::{Book, Front, Naming, Opened};
+pub use local_board::{LocalBoard, Page};
+pub use opening::open;
+pub use seat::{Note, Seat};
+pub use shown::Shown;

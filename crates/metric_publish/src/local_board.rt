@@ -4,10 +4,10 @@ ghost use Rattle.std.specs.Arc.{arc_value};
 ghost use Rattle.metric_publish.specs.History.{IsKin, IsRun, entry, entry_of, head_of, last_of, last_number};
 ghost use Rattle.metric_publish.specs.Calls.{IsLast, IsLastValue, PublishGives};
 
+use crate::board_traits::{Publishing, Reading};
 use crate::entry::{Kindred, Put};
 use crate::held::{Held, Receipt, Refused};
 use crate::history::{Head, Opened, Reached, append, check_law};
-use crate::meaning::{Publishing, Reading};
 use std::alloc::{AllocError, Global};
 use std::sync::Arc;
 

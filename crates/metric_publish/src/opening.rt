@@ -5,6 +5,7 @@ ghost use Rattle.std.specs.Vec.{vec_len};
 ghost use Rattle.left_right.specs.Sides.{view};
 ghost use Rattle.metric_publish.specs.Calls.{Each};
 ghost use Rattle.metric_publish.specs.History.{entry};
+ghost use Rattle.metric_publish.specs.Published.{published};
 
 use crate::desk::{Desk, DeskOf, Under};
 use crate::entry::{Kindred, Put};
@@ -25,7 +26,7 @@ fn desk_of<V: Kindred, J: Naming>(
 ) -> Result<DeskOf<V, J>, AllocError>
     requires seats { 0 < seats }
     requires book { opened.seen.book ≡ J.book }
-    ensures { IfOk result (λ d. d.writer.desk.shown.value.front.token.log ≡ entry number (arc_value first) ∷ []) }
+    ensures { IfOk result (λ d. published d ≡ entry number (arc_value first) ∷ []) }
 {
     let second = Arc::try_clone(&first)?;
     let (book, mut front) = opened.named::<J>();
@@ -53,7 +54,7 @@ fn seats_at<V: Kindred, J: Naming>(
     desk: &DeskOf<V, J>,
     seats: u32,
 ) -> Result<Vec<Seat<V, J>>, AllocError>
-    ensures { IfOk result (λ all. (vec_len all ≡ seats) × Each all.items (λ s. (s.seen.token.log ≡ desk.now.writer.desk.shown.value.front.token.log) × (s.learned.token.log ≡ desk.now.writer.desk.shown.value.front.token.log) × ((view s.reader.place).reads ≡ []))) }
+    ensures { IfOk result (λ all. (vec_len all ≡ seats) × Each all.items (λ s. (s.seen.token.log ≡ published desk.now) × (s.learned.token.log ≡ published desk.now) × ((view s.reader.place).reads ≡ []))) }
 {
     let mut all = Vec::with_capacity(alloc, seats as usize)?;
     for _ in 0..seats {
@@ -75,7 +76,7 @@ pub fn open<V: Kindred, J: Naming, R: Wait>(
 ) -> Result<(DeskOf<V, J>, Vec<Seat<V, J>>), AllocError>
     requires seats { 0 < seats }
     requires book { opened.seen.book ≡ J.book }
-    ensures list { IfOk result (λ o. o.0.writer.desk.shown.value.front.token.log ≡ entry number (arc_value first) ∷ []) }
+    ensures list { IfOk result (λ o. published o.0 ≡ entry number (arc_value first) ∷ []) }
     ensures count { IfOk result (λ o. vec_len o.1 ≡ seats) }
     ensures seats { IfOk result (λ o. Each o.1.items (λ s. (s.seen.token.log ≡ entry number (arc_value first) ∷ []) × (s.learned.token.log ≡ entry number (arc_value first) ∷ []) × ((view s.reader.place).reads ≡ []))) }
 {

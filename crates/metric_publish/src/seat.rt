@@ -6,10 +6,10 @@ ghost use Rattle.metric_publish.specs.History.{IsKin, IsRun};
 ghost use Rattle.metric_publish.specs.Board.{IsFront};
 ghost use Rattle.metric_publish.specs.Calls.{LookGives, ReadGives, EnterGives};
 
+use crate::board_traits::Reading;
 use crate::entry::{Kindred, View};
 use crate::held::Held;
 use crate::history::{Front, Naming};
-use crate::meaning::Reading;
 use crate::rule::{Board, Entering, Sitting};
 use crate::shown::Shown;
 use core::mem::replace_with;

@@ -21,7 +21,7 @@ use Rattle.search_graph.specs.RoadCosts.{road_cost_laws, road_cost_ops}
 use Rattle.search_graph.specs.Faults.{AllInRange}
 use Rattle.edge_graph.specs.GraphLaws.{segments-in-graph}
 use Rattle.edge_graph.specs.NetworkView.{NetworkView, graph_of}
-use Rattle.edge_graph.specs.Turn.{IsSimple}
+use Rattle.road_turns.specs.Turn.{IsSimple}
 use Rattle.metric_make.specs.MetricOf.{MetricView}
 use Rattle.reply_texts.specs.Replies.{route_reply}
 use Rattle.reply_texts.specs.LegLaws.{IsToldInSteps, legs_told-steps}

@@ -11,7 +11,7 @@ use crate::answers::{Answer, ReplyFault};
 use crate::excluding_answers::excluding_answer;
 use crate::request_answers::refusal;
 use customized::Metric;
-use metric_publish::held::Held;
+use metric_publish::Held;
 use refusal_texts::{Code, bad_request_text, refusal_text};
 use snap_index::Grid;
 use std::alloc::{AllocError, Global};

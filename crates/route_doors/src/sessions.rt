@@ -2,7 +2,7 @@
 
 use customized::{Metric, Roads};
 use door_workers::{Controlling, Querying, Then};
-use metric_publish::meaning::{Publishing, Reading};
+use metric_publish::{Publishing, Reading};
 use road_io::{Conn, Gate};
 use route_server::{ControlEnded, serve_connection, serve_control};
 use snap_index::Grid;

@@ -3,7 +3,7 @@
 ghost use Rattle.std.specs.Prelude.{◌≡◌, ℕ, List, IsTrue, IfOk};
 ghost use Rattle.http_head.specs.Replies.{is_status};
 
-use metric_publish::held::Held;
+use metric_publish::Held;
 use road_base::Text;
 use std::alloc::{AllocError, Global};
 

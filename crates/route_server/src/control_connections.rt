@@ -10,7 +10,7 @@ use crate::control_serving::{ControlEnded, control_with};
 use crate::controlling::Controlling;
 use control_port::{ControlHead, ReplyRoom, control};
 use customized::{Metric, Roads};
-use metric_publish::meaning::Publishing;
+use metric_publish::Publishing;
 use road_io::Conn;
 use std::alloc::{AllocError, Global};
 use std::thread::Threads;

@@ -6,8 +6,7 @@ ghost use Rattle.control_port.specs.Asking.{IsBodyOf};
 ghost use Rattle.route_server.specs.ControlRule.{ControlSays, IsCarriedOut};
 
 use control_port::ControlHead;
-use metric_publish::entry::Kindred;
-use metric_publish::meaning::Publishing;
+use metric_publish::{Kindred, Publishing};
 use std::alloc::{AllocError, Global};
 use std::thread::Threads;
 

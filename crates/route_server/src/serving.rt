@@ -16,7 +16,7 @@ use crate::answering::{Answering, Said};
 use http_head::parts::Head;
 use http_head::{busy_reply, response};
 use http_session::{Coming, Ended, Unread, next_head, refuse};
-use metric_publish::meaning::Reading;
+use metric_publish::Reading;
 use road_io::{Conn, Failed, Gate, put_whole};
 use std::alloc::{AllocError, Global};
 

@@ -1,5 +1,5 @@
 use Rattle.metric_publish.proofs.Turns.{adds}
-use Rattle.metric_publish.proofs.Publishing.{goes_on}
+use Rattle.metric_publish.proofs.PendingLaws.{goes_on}
 use Rattle.metric_publish.proofs.desk.show.Goals as goal
 
 pub publish_as-writer-requires : goal.publish_as-writer-requires

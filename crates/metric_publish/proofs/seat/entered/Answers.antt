@@ -1,5 +1,5 @@
 use Rattle.metric_publish.proofs.Fronts.{prefix_trans, prefix_of_front}
-use Rattle.metric_publish.proofs.Reading.{given, enter_gives, enter_kin}
+use Rattle.metric_publish.proofs.ReadLaws.{given, enter_gives, enter_kin}
 use Rattle.metric_publish.proofs.seat.entered.Goals as goal
 
 pub returns-clause-gives : goal.returns-clause-gives

@@ -2,7 +2,7 @@ use Rattle.std.proofs.Common.{◌≡◌, Some, ap, ◌∙◌}
 use Rattle.left_right.specs.Sides.{view}
 use Rattle.metric_publish.specs.History.{last_of, entry_of}
 use Rattle.metric_publish.specs.Board.{Sees}
-use Rattle.metric_publish.proofs.Reading.{entered_at}
+use Rattle.metric_publish.proofs.ReadLaws.{entered_at}
 use Rattle.metric_publish.proofs.Turns.{enters}
 use Rattle.metric_publish.proofs.seat.read.Goals as goal
 

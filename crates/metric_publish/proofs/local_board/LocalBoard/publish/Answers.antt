@@ -1,7 +1,7 @@
 use Rattle.std.proofs.Common.{◌≡◌, ap, ◌∙◌, arith}
 use Rattle.std.proofs.lemmas.Bool.Decides.{nat_tests}
 use Rattle.metric_publish.specs.History.{last_of}
-use Rattle.metric_publish.proofs.Reading.{exchanged}
+use Rattle.metric_publish.proofs.ReadLaws.{exchanged}
 use Rattle.metric_publish.proofs.Runs.{last_of-snoc}
 use Rattle.metric_publish.proofs.local_board.LocalBoard.publish.Goals as goal
 
