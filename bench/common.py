@@ -51,10 +51,10 @@ def compiled(source, made, *flags):
     return made
 
 
-def maps_tests():
-    """The built tests of worked_maps."""
-    path = os.environ.get("MAPS_TESTS") or os.path.join(os.path.dirname(CRATE), "worked_maps", "out", "worked_maps_tests")
-    return executable(path, "rt ci builds it, or rt test in crates/worked_maps, and MAPS_TESTS names one that stands elsewhere")
+def metrics_tests():
+    """The built tests of worked_metrics."""
+    path = os.environ.get("METRICS_TESTS") or os.path.join(os.path.dirname(CRATE), "worked_metrics", "out", "worked_metrics_tests")
+    return executable(path, "rt ci builds it, or rt test in crates/worked_metrics, and METRICS_TESTS names one that stands elsewhere")
 
 
 def baseline(folder):
@@ -216,7 +216,7 @@ def main():
         case ["program"]:
             print(program())
         case ["tests"]:
-            print(maps_tests())
+            print(metrics_tests())
         case ["baseline", folder]:
             print(baseline(folder))
         case ["overlays", folder]:

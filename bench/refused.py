@@ -29,7 +29,7 @@ before: each other line has its own text under the number of the last publicatio
 raise. `silent` are runs of `serve` that answered no query until they were stopped, since no thread could be started for the
 worker; the control port answered as ever.
 
-With --tests what runs is the test program of crates/worked_maps, as `rt ci` or `rt test` leaves it: each test that makes
+With --tests what runs is the test program of crates/worked_metrics, as `rt ci` or `rt test` leaves it: each test that makes
 metrics and ends in `_or_memory`, which makes each call that wants memory once more, demands its own outcome then, and tells
 the lists of the old metric again, so that it has to pass; and, where there is one, the test of the same name without that
 end, which passes with its own outcome, or fails with AllocError. Each runs on one processor, where no thread is started, and
@@ -544,7 +544,7 @@ def test_runs(place, processors):
 
 def main():
     words = words_read()
-    program = common.maps_tests() if words.tests else common.program()
+    program = common.metrics_tests() if words.tests else common.program()
     processors = os.sched_getaffinity(0)
     os.sched_setaffinity(0, {min(processors)})
     kinds = ("own", "memory", None) if words.tests else ("own", "Busy", "status 4", "silent", None)

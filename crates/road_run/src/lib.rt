@@ -4,7 +4,8 @@
 //!
 //! The contract of `run` is the program's theorem: `specs/Ending` says what stands in the output, by the status, and
 //! what each status comes from. `run_to_end` is one call of it, on the words as the system hands them over, and what it
-//! answers no one else can make. The program is `road_router`, and the tests are those of `worked_runs`.
+//! answers no one else can make. The program is `road_router`, and the tests are those of `worked_runs`, `worked_traffic`
+//! and `worked_served`.
 #![tactic(auto)]
 
 mod endings;

@@ -3,14 +3,9 @@
 ghost use Rattle.std.specs.Prelude.{◌≡◌};
 ghost use Rattle.worked_doors.specs.declared.publishing.Figure.{Figure};
 
-use metric_publish::desk::DeskOf;
-use metric_publish::entry::Kindred;
-use metric_publish::held::{Receipt, Refused};
-use metric_publish::history::{Naming, Opened};
-use metric_publish::local_board::LocalBoard;
-use metric_publish::meaning::{Publishing, Reading};
-use metric_publish::opening::open;
-use metric_publish::seat::Seat;
+use metric_publish::{
+    DeskOf, Kindred, LocalBoard, Naming, Opened, Publishing, Reading, Receipt, Refused, Seat, open,
+};
 use std::alloc::{AllocError, Global};
 use std::marker::Brand;
 use std::process::Abort;

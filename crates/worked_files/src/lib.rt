@@ -1,5 +1,5 @@
-//! Tests over worked files, of what no clause says: that what is read at the start (maps, settings, restrictions, traffic files)
-//! is read where memory is ample, with these very values, and that the definitions say what was meant.
+//! Tests over worked files, of what no clause says: that what is read at the start (maps, restrictions, traffic files) is read
+//! where memory is ample, with these very values, and that the definitions say what was meant.
 #![tactic(auto)]
 
 #[cfg(test)]
@@ -10,12 +10,6 @@ mod numbers;
 mod objects;
 #[cfg(test)]
 mod restrictions;
-#[cfg(test)]
-mod rows;
-#[cfg(test)]
-mod second_settings;
-#[cfg(test)]
-mod settings;
 #[cfg(test)]
 mod towns;
 #[cfg(test)]

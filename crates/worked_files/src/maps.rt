@@ -1,6 +1,6 @@
 //! Worked texts; expected values are from the OPL manual and this project's rules.
 
-use crate::rows::{count, row};
+use case_tables::{count, pair};
 use opl_read::{ReadFault, read};
 use road_base::{Node, Object, Relation, Tags, Way};
 use std::alloc::{AllocError, Global};
@@ -217,7 +217,7 @@ fn told(alloc: Global, text: &[u8]) -> Result<String, AllocError> {
 #[test]
 fn the_first_fault_of_a_text_is_told(rt: HostRuntime) -> Result<(), AllocError> {
     for number in 0..count(TEXTS) {
-        let (text, want) = row(&rt, TEXTS, number);
+        let (text, want) = pair(TEXTS, number).expect(&rt, "a row of two");
         assert_eq!(rt; told(rt.alloc(), text)?.as_bytes(), want, "row {number}");
     }
     Ok(())

@@ -1,6 +1,6 @@
 //! Values from outside: what the OPL manual and this project's rules say of single texts.
 
-use crate::rows::{count, row};
+use case_tables::{count, pair};
 use decimal_text::{id, microdegrees};
 use std::alloc::{AllocError, Global};
 
@@ -33,7 +33,7 @@ const DECIMALS: &[u8] = b"0|0$\
 #[test]
 fn decimals_keep_six_digits_and_round_by_the_seventh(rt: HostRuntime) -> Result<(), AllocError> {
     for number in 0..count(DECIMALS) {
-        let (text, want) = row(&rt, DECIMALS, number);
+        let (text, want) = pair(DECIMALS, number).expect(&rt, "a row of two");
         let found = told(rt.alloc(), microdegrees(text))?;
         assert_eq!(rt; found.as_bytes(), want, "row {number}");
     }
@@ -53,7 +53,7 @@ a1|none";
 #[test]
 fn ids_have_at_most_nineteen_digits(rt: HostRuntime) -> Result<(), AllocError> {
     for number in 0..count(IDS) {
-        let (text, want) = row(&rt, IDS, number);
+        let (text, want) = pair(IDS, number).expect(&rt, "a row of two");
         let found = told(rt.alloc(), id(text))?;
         assert_eq!(rt; found.as_bytes(), want, "row {number}");
     }

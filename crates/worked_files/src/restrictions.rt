@@ -1,6 +1,6 @@
 //! What no clause says: that the calls succeed, and that the definitions say what was meant.
 
-use crate::rows::{count, row};
+use case_tables::{count, pair};
 use opl_read::read;
 use std::alloc::{AllocError, Global};
 use std::process::Abort;
@@ -36,7 +36,7 @@ fn map_told(rt: &impl Abort, alloc: Global, map: &[u8]) -> Result<String, AllocE
 // Asserts that the rules of each map of a table tell what its row says: the map, which is one restriction, and what is told.
 fn assert_told(rt: &impl Abort, alloc: Global, table: &[u8]) -> Result<(), AllocError> {
     for number in 0..count(table) {
-        let (map, want) = row(rt, table, number);
+        let (map, want) = pair(table, number).expect(rt, "a row of two");
         assert_eq!(rt; map_told(rt, alloc, map)?.as_bytes(), want, "row {number}");
     }
     Ok(())
@@ -142,7 +142,7 @@ fn ways_on_told(rt: &impl Abort, alloc: Global, map: &[u8]) -> Result<String, Al
 // Asserts the same as `assert_told`, of what is told of via ways.
 fn assert_ways_on(rt: &impl Abort, alloc: Global, table: &[u8]) -> Result<(), AllocError> {
     for number in 0..count(table) {
-        let (map, want) = row(rt, table, number);
+        let (map, want) = pair(table, number).expect(rt, "a row of two");
         assert_eq!(rt;
             ways_on_told(rt, alloc, map)?.as_bytes(),
             want,

@@ -1,6 +1,6 @@
 //! Rows by hand, from what the formats of OSRM's traffic files and this project's rules say.
 
-use crate::rows::{count, row};
+use case_tables::{count, pair};
 use std::alloc::{AllocError, Global};
 use std::process::Abort;
 use std::test::Fail;
@@ -107,7 +107,7 @@ fn speed_fault(rt: &impl Abort, alloc: Global, text: &[u8]) -> TrafficFault {
 #[test]
 fn the_first_faulty_speed_is_told(rt: HostRuntime) -> Result<(), AllocError> {
     for number in 0..count(FAULTY_SPEEDS) {
-        let (text, want) = row(&rt, FAULTY_SPEEDS, number);
+        let (text, want) = pair(FAULTY_SPEEDS, number).expect(&rt, "a row of two");
         let found = told(rt.alloc(), speed_fault(&rt, rt.alloc(), text))?;
         assert_eq!(rt; found.as_bytes(), want, "row {number}");
     }
@@ -136,7 +136,7 @@ fn turn_fault(rt: &impl Abort, alloc: Global, text: &[u8]) -> TrafficFault {
 #[test]
 fn the_first_faulty_turn_is_told(rt: HostRuntime) -> Result<(), AllocError> {
     for number in 0..count(FAULTY_TURNS) {
-        let (text, want) = row(&rt, FAULTY_TURNS, number);
+        let (text, want) = pair(FAULTY_TURNS, number).expect(&rt, "a row of two");
         let found = told(rt.alloc(), turn_fault(&rt, rt.alloc(), text))?;
         assert_eq!(rt; found.as_bytes(), want, "row {number}");
     }
@@ -178,7 +178,7 @@ fn first_rate(rt: &impl Abort, rows: &[SpeedRow]) -> Option<u32> {
 #[test]
 fn rates_are_read(rt: HostRuntime) -> Result<(), AllocError> {
     for number in 0..count(RATES) {
-        let (text, want) = row(&rt, RATES, number);
+        let (text, want) = pair(RATES, number).expect(&rt, "a row of two");
         let found = match read_speeds(rt.alloc(), text) {
             Ok(rows) => format!(in rt.alloc(); "{:?}", first_rate(&rt, rows.as_slice()))?,
             Err(fault) => told(rt.alloc(), fault)?,
@@ -213,7 +213,7 @@ fn first_weight(rt: &impl Abort, rows: &[TurnRow]) -> Option<u32> {
 #[test]
 fn weights_are_read(rt: HostRuntime) -> Result<(), AllocError> {
     for number in 0..count(WEIGHTS) {
-        let (text, want) = row(&rt, WEIGHTS, number);
+        let (text, want) = pair(WEIGHTS, number).expect(&rt, "a row of two");
         let found = match read_turns(rt.alloc(), text) {
             Ok(rows) => format!(in rt.alloc(); "{:?}", first_weight(&rt, rows.as_slice()))?,
             Err(fault) => told(rt.alloc(), fault)?,

@@ -2,9 +2,10 @@
 
 ghost use Rattle.std.specs.Prelude.{◌≤◌, length};
 
-use crate::drawings::{cost_told, parts_of, row_told};
 use cost_lists::CostList;
+use cost_texts::{cost_told, row_told};
 use search_graph::WeightDurLen;
+use small_graphs::parts_of;
 use std::alloc::{AllocError, Global};
 use std::process::Abort;
 
@@ -13,21 +14,17 @@ const COSTS: &str =
     "7/7/12 - 2147483647/2147483647/2147483647 2147483648/2147483648/0 0/0/2147483648 12/7/12 9/7/12 18446744073709551615/18446744073709551615/18446744073709551615 0/0/0";
 
 // The cost that a text tells, None for `-`.
-fn cost(rt: &impl Abort, text: &str) -> Option<WeightDurLen> {
+fn cost(text: &str) -> Result<Option<WeightDurLen>, AllocError> {
     if text == "-" {
-        return None;
+        return Ok(None);
     }
-    Some(parts_of(rt, text))
+    Ok(Some(parts_of(text)?))
 }
 
 // Puts costs at the end of a list.
-fn push_all(
-    rt: &impl Abort,
-    list: &mut CostList<WeightDurLen>,
-    costs: &str,
-) -> Result<(), AllocError> {
+fn push_all(list: &mut CostList<WeightDurLen>, costs: &str) -> Result<(), AllocError> {
     for text in costs.split(' ') {
-        list.push(cost(rt, text))?;
+        list.push(cost(text)?)?;
     }
     Ok(())
 }
@@ -42,25 +39,21 @@ fn list_told(alloc: Global, list: &CostList<WeightDurLen>) -> Result<String, All
 }
 
 // A list of these costs.
-fn list_of(
-    rt: &impl Abort,
-    alloc: Global,
-    costs: &str,
-) -> Result<CostList<WeightDurLen>, AllocError> {
+fn list_of(alloc: Global, costs: &str) -> Result<CostList<WeightDurLen>, AllocError> {
     let mut list = CostList::new(alloc);
-    push_all(rt, &mut list, costs)?;
+    push_all(&mut list, costs)?;
     Ok(list)
 }
 
 // The costs that a list of these gives back.
-fn given_back(rt: &impl Abort, alloc: Global, costs: &str) -> Result<String, AllocError> {
-    let list = list_of(rt, alloc, costs)?;
+fn given_back(alloc: Global, costs: &str) -> Result<String, AllocError> {
+    let list = list_of(alloc, costs)?;
     list_told(alloc, &list)
 }
 
 #[test]
 fn a_list_gives_back_what_was_put_in(rt: HostRuntime) -> Result<(), AllocError> {
-    let told = given_back(&rt, rt.alloc(), COSTS)?;
+    let told = given_back(rt.alloc(), COSTS)?;
     let want = format!(in rt.alloc(); "9: {COSTS} ")?;
     assert_eq!(rt; told.as_str(), want.as_str());
     Ok(())
@@ -104,7 +97,7 @@ fn assert_parts(
 #[test]
 fn a_row_has_its_places(rt: HostRuntime) -> Result<(), AllocError> {
     let mut list = CostList::with_capacity(rt.alloc(), 9)?;
-    push_all(&rt, &mut list, COSTS)?;
+    push_all(&mut list, COSTS)?;
     assert_parts(&rt, rt.alloc(), &list)
 }
 
@@ -122,7 +115,7 @@ fn assert_put_together(
         "3: 2147483648/2147483648/1 - 1/1/2147483648 "
     );
     assert!(rt; one.len() == 3);
-    one.set(0, cost(rt, "5/6"))?;
+    one.set(0, cost("5/6")?)?;
     let told = list_told(alloc, one)?;
     assert_eq!(rt; told.as_str(), "3: 5/5/6 - 1/1/2147483648 ");
     Ok(())
@@ -130,7 +123,59 @@ fn assert_put_together(
 
 #[test]
 fn lists_are_put_together_and_changed(rt: HostRuntime) -> Result<(), AllocError> {
-    let mut one = list_of(&rt, rt.alloc(), "2147483648/1")?;
-    let other = list_of(&rt, rt.alloc(), "- 1/2147483648")?;
+    let mut one = list_of(rt.alloc(), "2147483648/1")?;
+    let other = list_of(rt.alloc(), "- 1/2147483648")?;
     assert_put_together(&rt, rt.alloc(), &mut one, &other)
+}
+
+// What a list is once all places but the first of another stand behind it.
+fn extended(rt: &impl Abort, alloc: Global, costs: &str, more: &str) -> Result<String, AllocError> {
+    let mut list = list_of(alloc, costs)?;
+    let other = list_of(alloc, more)?;
+    let end = other.len();
+    assert!(rt; end > 0);
+    let row = other.row(1, end);
+    list.extend_from_row(&row)?;
+    list_told(alloc, &list)
+}
+
+// Asserts that a list with all places but the first of another behind it has these costs.
+fn assert_extended(
+    rt: &impl Abort,
+    alloc: Global,
+    costs: &str,
+    more: &str,
+    want: &str,
+) -> Result<(), AllocError> {
+    let told = extended(rt, alloc, costs, more)?;
+    assert_eq!(rt; told.as_str(), want);
+    Ok(())
+}
+
+#[test]
+fn a_row_is_put_behind_a_list(rt: HostRuntime) -> Result<(), AllocError> {
+    let alloc = rt.alloc();
+    assert_extended(&rt, alloc, "7/12", "1/1 - 5/6", "3: 7/7/12 - 5/5/6 ")?;
+    assert_extended(&rt, alloc, "-", "1/1", "1: - ")?;
+    assert_extended(
+        &rt,
+        alloc,
+        "2147483648/1 -",
+        "1/1 5/6 -",
+        "4: 2147483648/2147483648/1 - 5/5/6 - ",
+    )?;
+    assert_extended(
+        &rt,
+        alloc,
+        "7/12",
+        "1/1 - 2147483648/1 5/6",
+        "4: 7/7/12 - 2147483648/2147483648/1 5/5/6 ",
+    )?;
+    assert_extended(
+        &rt,
+        alloc,
+        "2147483648/1 2147483649/1",
+        "2147483650/1 2147483651/1 - 2147483652/1",
+        "5: 2147483648/2147483648/1 2147483649/2147483649/1 2147483651/2147483651/1 - 2147483652/2147483652/1 ",
+    )
 }

@@ -4,8 +4,9 @@ ghost use Rattle.std.specs.Prelude.{◌≡◌, ◌^◌, ◌<◌, length, All};
 ghost use Rattle.search_graph.specs.RoadCosts.{road_cost_ops};
 ghost use Rattle.search_graph.specs.Weighted.{IsWeighting};
 
-use crate::drawings::{Drawing, cost_told, graph, graph_of, vertices_told, weights};
+use cost_texts::{cost_told, vertices_told};
 use search_graph::{ArcRow, Cost, Graph, GraphFault, WeightDurLen, Weights, index_by};
+use small_graphs::{Drawing, graph, graph_of, weights};
 use std::alloc::{AllocError, Global};
 use std::process::Abort;
 use std::test::Fail;
@@ -67,8 +68,8 @@ fn graph_told(alloc: Global, graph: &Graph) -> Result<String, AllocError> {
 }
 
 // The number of the bad arc among these; `-` where there is none.
-fn bad_told(rt: &impl Abort, alloc: Global, arcs: &str) -> Result<String, AllocError> {
-    match graph_of(rt, alloc, 4, arcs) {
+fn bad_told(alloc: Global, arcs: &str) -> Result<String, AllocError> {
+    match graph_of(alloc, 4, arcs) {
         Err(GraphFault::BadArc(number)) => format!(in alloc; "{number}"),
         _ => String::from_str(alloc, "-"),
     }
@@ -76,11 +77,11 @@ fn bad_told(rt: &impl Abort, alloc: Global, arcs: &str) -> Result<String, AllocE
 
 #[test]
 fn a_graph_lists_the_arcs_out_of_each_vertex(rt: HostRuntime) -> Result<(), Fail> {
-    let graph = graph_of(&rt, rt.alloc(), 4, ARCS)?;
+    let graph = graph_of(rt.alloc(), 4, ARCS)?;
     let told = graph_told(rt.alloc(), &graph)?;
     let want = "4/5 2-0 0-1 2-3 0-2 2-0: 1 3 | - | 0 2 4 | - | ";
     assert_eq!(rt; told.as_str(), want);
-    let bad = bad_told(&rt, rt.alloc(), "0-1 1-4 9-0")?;
+    let bad = bad_told(rt.alloc(), "0-1 1-4 9-0")?;
     assert_eq!(rt; bad.as_str(), "1");
     Ok(())
 }
@@ -93,7 +94,7 @@ fn copy_told(alloc: Global, graph: &Graph) -> Result<String, AllocError> {
 
 #[test]
 fn arcs_by_tail_stand_side_by_side_in_a_copy_too(rt: HostRuntime) -> Result<(), Fail> {
-    let graph = graph_of(&rt, rt.alloc(), 4, BY_TAIL)?;
+    let graph = graph_of(rt.alloc(), 4, BY_TAIL)?;
     let told = copy_told(rt.alloc(), &graph)?;
     let want = "4/5 0-1 0-2 2-0 2-3 2-0: 0 1 | - | 2 3 4 | - | ";
     assert_eq!(rt; told.as_str(), want);
@@ -181,15 +182,15 @@ fn calculate(rt: &impl Abort) {
 }
 
 // What the vertices and the arcs of the two cost.
-fn two_told(rt: &impl Abort, alloc: Global, graph: &Graph) -> Result<String, AllocError> {
-    let weights = weights(rt, alloc, graph, &TWO)?;
+fn two_told(alloc: Global, graph: &Graph) -> Result<String, AllocError> {
+    let weights = weights(alloc, graph, &TWO)?;
     weights_told(alloc, graph, &weights)
 }
 
 #[test]
 fn weights_are_read_by_vertex_and_arc(rt: HostRuntime) -> Result<(), Fail> {
-    let graph = graph(&rt, rt.alloc(), &TWO)?;
-    let told = two_told(&rt, rt.alloc(), &graph)?;
+    let graph = graph(rt.alloc(), &TWO)?;
+    let told = two_told(rt.alloc(), &graph)?;
     assert_eq!(rt; told.as_str(), "7/7/2 - | 3/3/9 ");
     calculate(&rt);
     Ok(())

@@ -8,8 +8,8 @@ ghost use Rattle.step_search.specs.Paths.{AreStarts};
 ghost use Rattle.step_search.specs.UnderWay.{IsUnderWay};
 ghost use Rattle.worked_graphs.specs.RingOfSix.{AreOfRing, ring_of_six};
 
-use crate::drawings::{cost_told, vertices_told};
 use cost_lists::{CostList, CostRow};
+use cost_texts::{cost_told, vertices_told};
 use search_graph::{ArcRow, Start, WeightDurLen};
 use std::alloc::{AllocError, Global};
 use std::process::Abort;

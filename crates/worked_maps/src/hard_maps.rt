@@ -1,8 +1,8 @@
 //! Networks of maps made to be hard: a way to and fro between two nodes, where each pair of its vertices
 //! meets, and a star of many streets. Expected values are from this project's rules, worked out by hand.
 
-use crate::networks::{CAR, assert_leaving};
-use crate::towns::{network_of, to_and_fro};
+use crate::networks::assert_leaving;
+use small_towns::{CAR, network_of, to_and_fro};
 use std::alloc::{AllocError, Global};
 use std::process::Abort;
 

@@ -2,13 +2,10 @@
 
 ghost use Rattle.std.specs.Prelude.{◌*◌, ◌<◌, length};
 
-use crate::towns::{bend, crossing, network_of, to_and_fro};
 use edge_graph::{BuildFault, Network};
+use small_towns::{CAR, bend, crossing, network_of, to_and_fro};
 use std::alloc::{AllocError, Global};
 use std::process::Abort;
-
-pub const CAR: &str =
-    "name = \"car\"\nvehicle = \"motorcar\"\nbarriers = [\"bollard\"]\nu_turn_penalty = 200\n[speeds]\nresidential = 40\n";
 
 // All turns of the crossing where nothing forbids any.
 const CROSSING: &str = "0-2 0-4 0-7 1-0 2-3 3-1 3-4 3-7 4-5 5-1 5-2 5-7 6-1 6-2 6-4 7-6 ";

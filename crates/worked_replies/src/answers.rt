@@ -73,7 +73,9 @@ fn a_route_through_three_coordinates(rt: HostRuntime) -> Result<(), ReplyFault> 
     let answer = ask(&rt, rt.alloc(), CORNER, target)?;
     assert_eq!(rt;
         answer.text.as_str(),
-        "{\"code\":\"Ok\",\"data_version\":\"7\",\"routes\":[{\"distance\":222.2,\"duration\":19.8,\"weight\":19.8,\"weight_name\":\"duration\",\"legs\":[{\"distance\":55.5,\"duration\":4.9,\"weight\":4.9,\"summary\":\"\",\"steps\":[]},{\"distance\":166.7,\"duration\":14.9,\"weight\":14.9,\"summary\":\"\",\"steps\":[]}]}],\"waypoints\":[{\"distance\":0.0,\"name\":\"\",\"location\":[0.000000,0.000000]},{\"distance\":1.1,\"name\":\"\",\"location\":[0.000000,0.000500]},{\"distance\":0.0,\"name\":\"\",\"location\":[0.001000,0.001000]}]}"
+        "{\"code\":\"Ok\",\"data_version\":\"7\",\"routes\":[{\"distance\":222.2,\"duration\":19.8,\"weight\":19.8,\"weight_name\":\"duration\",\"legs\":[{\"distance\":55.5,\"duration\":4.9,\"weight\":4.9,\"summary\":\"\",\"steps\":[]},\
+{\"distance\":166.7,\"duration\":14.9,\"weight\":14.9,\"summary\":\"\",\"steps\":[]}]}],\"waypoints\":[{\"distance\":0.0,\"name\":\"\",\"location\":[0.000000,0.000000]},{\"distance\":1.1,\"name\":\"\",\"location\":[0.000000,0.000500]},\
+{\"distance\":0.0,\"name\":\"\",\"location\":[0.001000,0.001000]}]}"
     );
     Ok(())
 }

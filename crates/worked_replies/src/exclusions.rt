@@ -49,7 +49,8 @@ fn a_toll_road_is_avoided_where_it_is_asked_for(rt: HostRuntime) -> Result<(), R
 
 // The whole text of each answer, or what it ends in.
 const AVOIDING: &str =
-    "toll|/nearest/v1/car/0.0005,0?number=9|{\"code\":\"Ok\",\"data_version\":\"7\",\"waypoints\":[{\"nodes\":[1,2],\"distance\":0.0,\"name\":\"\",\"location\":[0.000500,0.000000]},{\"nodes\":[2,3],\"distance\":55.5,\"name\":\"\",\"location\":[0.001000,0.000000]},{\"nodes\":[4,1],\"distance\":55.5,\"name\":\"\",\"location\":[0.000000,0.000000]},{\"nodes\":[3,4],\"distance\":111.1,\"name\":\"\",\"location\":[0.000500,0.001000]}]}
+    "toll|/nearest/v1/car/0.0005,0?number=9|{\"code\":\"Ok\",\"data_version\":\"7\",\"waypoints\":[{\"nodes\":[1,2],\"distance\":0.0,\"name\":\"\",\"location\":[0.000500,0.000000]},{\"nodes\":[2,3],\"distance\":55.5,\"name\":\"\",\
+\"location\":[0.001000,0.000000]},{\"nodes\":[4,1],\"distance\":55.5,\"name\":\"\",\"location\":[0.000000,0.000000]},{\"nodes\":[3,4],\"distance\":111.1,\"name\":\"\",\"location\":[0.000500,0.001000]}]}
 toll|/nearest/v1/car/0.0005,0?number=9&exclude=toll|{\"code\":\"Ok\",\"data_version\":\"7\",\"waypoints\":[{\"nodes\":[4,1],\"distance\":55.5,\"name\":\"\",\"location\":[0.000000,0.000000]},{\"nodes\":[3,4],\"distance\":111.1,\"name\":\"\",\"location\":[0.000500,0.001000]}]}
 toll|/table/v1/car/0,0;0.001,0?skip_waypoints=true|{\"code\":\"Ok\",\"data_version\":\"7\",\"durations\":[[0.0,9.9],[9.9,0.0]]}
 toll|/table/v1/car/0,0;0.001,0.0009?exclude=toll&skip_waypoints=true|{\"code\":\"Ok\",\"data_version\":\"7\",\"durations\":[[0.0,19.8],[19.8,0.0]]}

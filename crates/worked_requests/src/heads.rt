@@ -1,7 +1,7 @@
 ghost use Rattle.std.specs.Prelude.{◌≤◌, IsTrue};
 ghost use Rattle.http_head.specs.Replies.{is_status};
 
-use crate::rows::{count, pair};
+use case_tables::{count, pair};
 use http_head::parts::{Front, Head, Span};
 use http_head::{BUSY, BUSY_CLOSE, HEAD_BAD, busy_reply, head, head_bad_reply, response};
 use std::alloc::{AllocError, Global};
@@ -63,7 +63,7 @@ GET / HTTP/1.1\rHost: a\r\n\r\n|bad$\
 #[test]
 fn each_kind_of_head_is_told_apart(rt: HostRuntime) {
     for number in 0..count(HEADS) {
-        let (bytes, want) = pair(&rt, HEADS, number);
+        let (bytes, want) = pair(HEADS, number).expect(&rt, "a row of two");
         assert_eq!(rt; told(bytes).as_bytes(), want, "row {number}");
     }
 }

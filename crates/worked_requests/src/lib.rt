@@ -7,8 +7,6 @@ mod heads;
 #[cfg(test)]
 mod options;
 #[cfg(test)]
-mod rows;
-#[cfg(test)]
 mod targets;
 #[cfg(test)]
 mod values;

@@ -1,7 +1,7 @@
 //! Worked options; expected values are from OSRM's API and this project's rules.
 
-use crate::rows::{count, row};
 use crate::targets::assert_refused;
+use case_tables::{count, row};
 use std::alloc::{AllocError, Global};
 use std::process::Abort;
 use url_read::request;
@@ -104,7 +104,7 @@ fn is_taken(alloc: Global, target: &[u8]) -> bool {
 fn each_option_has_its_values(rt: HostRuntime) {
     for number in 0..count(TAKEN) {
         assert!(rt;
-            is_taken(rt.alloc(), row(&rt, TAKEN, number)),
+            is_taken(rt.alloc(), row(TAKEN, number).expect(&rt, "a row")),
             "row {number}"
         );
     }

@@ -1,6 +1,6 @@
 //! Worked targets; expected values are from OSRM's API and this project's rules.
 
-use crate::rows::{count, triple};
+use case_tables::{count, triple};
 use std::alloc::{AllocError, Global};
 use std::process::Abort;
 use url_read::{RequestFault, request};
@@ -24,7 +24,7 @@ pub(crate) fn assert_refused(
     table: &[u8],
 ) -> Result<(), AllocError> {
     for number in 0..count(table) {
-        let (target, code, message) = triple(rt, table, number);
+        let (target, code, message) = triple(table, number).expect(rt, "a row of three");
         assert!(rt; is_told(alloc, target, code, message)?, "row {number}");
     }
     Ok(())
@@ -196,7 +196,7 @@ const MANY: &[u8] = b"0,0|TooBig|501 coordinates, at most 500$\
 fn a_route_has_at_most_500_coordinates(rt: HostRuntime) -> Result<(), AllocError> {
     assert_most_taken(&rt, rt.alloc())?;
     for number in 0..count(MANY) {
-        let (last, code, message) = triple(&rt, MANY, number);
+        let (last, code, message) = triple(MANY, number).expect(&rt, "a row of three");
         assert!(rt;
             is_told_of_many(rt.alloc(), last, code, message)?,
             "row {number}"

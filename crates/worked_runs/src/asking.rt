@@ -1,10 +1,8 @@
 //! Runs of `ask`: the first route, lines of every kind, and each status with its line.
 
-use crate::cases::{
-    Case, LINE, REPLY, SETTINGS, TOWN, begins, ends, files_of, pair_of, run_over, words,
-};
 use road_base::Status;
 use road_io::MemFiles;
+use run_cases::{Case, LINE, REPLY, SETTINGS, TOWN, begins, ends, files_of, run_over, words};
 use std::alloc::{AllocError, Global};
 use std::net::{Net, TcpListener, TcpStream};
 use std::sync::Wait;
@@ -46,7 +44,7 @@ GET /\nTRAFFIC -  -|{\"code\":\"InvalidUrl\",\"message\":\"path\"}\n{\"code\":\"
 #[test]
 fn lines_are_answered_one_by_one(rt: HostRuntime) -> Result<(), AllocError> {
     for row in INPUTS.split('$') {
-        let (input, expected) = pair_of(&rt, row);
+        let (input, expected) = row.split_once('|').expect(&rt, "a row of two");
         let case = Case::over_town(input.as_bytes());
         assert!(rt;
             ends(&rt, rt.alloc(), case, Status::Ok, expected.as_bytes())?,
@@ -133,7 +131,7 @@ fn unread(
 #[test]
 fn both_files_are_read_before_they_are_judged(rt: HostRuntime) -> Result<(), AllocError> {
     for row in UNREAD.split('$') {
-        let (words, expected) = pair_of(&rt, row);
+        let (words, expected) = row.split_once('|').expect(&rt, "a row of two");
         assert!(rt;
             unread(&rt, rt.alloc(), words)?.as_str() == expected,
             "{row}"

@@ -1,7 +1,7 @@
 //! What `check` counts in maps.
 
-use crate::cases::{Case, LINE, TOWN, TOWN_NAMED, ends};
 use road_base::Status;
+use run_cases::{Case, LINE, TOWN, TOWN_NAMED, ends};
 use std::alloc::{AllocError, Global};
 use std::net::{Net, TcpListener, TcpStream};
 use std::sync::Wait;

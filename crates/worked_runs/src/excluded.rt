@@ -1,9 +1,9 @@
 //! Runs under settings with classes of ways: routes that leave out a class, under one metric and the next, and what
 //! `check` tells.
 
-use crate::cases::{Case, ends, files_of, named, run_over};
 use road_base::Status;
 use road_io::MemFiles;
+use run_cases::{Case, ends, files_of, named, run_over};
 use std::alloc::{AllocError, Global};
 use std::net::{Net, TcpListener, TcpStream};
 use std::sync::Wait;
@@ -50,12 +50,21 @@ fn are_told(text: &str, fronts: &str) -> bool {
     lines.next() == Some("") && lines.next().is_none()
 }
 
-const LINES: &[u8] =
-    b"TRAFFIC fast.csv -\nGET /route/v1/car/0,0;0.001,0.001?overview=false\nGET /route/v1/car/0,0;0.001,0.001?overview=false&exclude=toll\nGET /table/v1/car/0,0;0.001,0.001?exclude=toll,toll\nTRAFFIC slow.csv -\nGET /route/v1/car/0,0;0.001,0.001?overview=false\nGET /route/v1/car/0,0;0.001,0.001?overview=false&exclude=toll\nGET /route/v1/car/0,0;0.001,0.001?exclude=ferry&since=9\nGET /nearest/v1/car/0.001,0?exclude=\n";
+const LINES: &[u8] = b"TRAFFIC fast.csv -\nGET /route/v1/car/0,0;0.001,0.001?overview=false\n\
+GET /route/v1/car/0,0;0.001,0.001?overview=false&exclude=toll\nGET /table/v1/car/0,0;0.001,0.001?exclude=toll,toll\n\
+TRAFFIC slow.csv -\nGET /route/v1/car/0,0;0.001,0.001?overview=false\n\
+GET /route/v1/car/0,0;0.001,0.001?overview=false&exclude=toll\n\
+GET /route/v1/car/0,0;0.001,0.001?exclude=ferry&since=9\nGET /nearest/v1/car/0.001,0?exclude=\n";
 
 // On the street with toll and its own row 4.9 and 9.9 seconds, on the other one twice 9.9, and 19.9 where its row counts.
-const FRONTS: &str =
-    "{\"code\":\"Ok\",\"data_version\":\"1\",\"unmatched\":0}\n{\"code\":\"Ok\",\"data_version\":\"1\",\"routes\":[{\"distance\":222.2,\"duration\":14.8,\n{\"code\":\"Ok\",\"data_version\":\"1\",\"routes\":[{\"distance\":222.2,\"duration\":19.8,\n{\"code\":\"Ok\",\"data_version\":\"1\",\"durations\":[[0.0,19.8],[19.8,0.0]],\n{\"code\":\"Ok\",\"data_version\":\"2\",\"unmatched\":0}\n{\"code\":\"Ok\",\"data_version\":\"2\",\"routes\":[{\"distance\":222.2,\"duration\":19.8,\n{\"code\":\"Ok\",\"data_version\":\"2\",\"routes\":[{\"distance\":222.2,\"duration\":29.8,\n{\"code\":\"InvalidValue\",\"message\":\"exclude\"}\n{\"code\":\"InvalidOptions\",\"message\":\"option exclude\"}";
+const FRONTS: &str = "{\"code\":\"Ok\",\"data_version\":\"1\",\"unmatched\":0}\n\
+{\"code\":\"Ok\",\"data_version\":\"1\",\"routes\":[{\"distance\":222.2,\"duration\":14.8,\n\
+{\"code\":\"Ok\",\"data_version\":\"1\",\"routes\":[{\"distance\":222.2,\"duration\":19.8,\n\
+{\"code\":\"Ok\",\"data_version\":\"1\",\"durations\":[[0.0,19.8],[19.8,0.0]],\n\
+{\"code\":\"Ok\",\"data_version\":\"2\",\"unmatched\":0}\n\
+{\"code\":\"Ok\",\"data_version\":\"2\",\"routes\":[{\"distance\":222.2,\"duration\":19.8,\n\
+{\"code\":\"Ok\",\"data_version\":\"2\",\"routes\":[{\"distance\":222.2,\"duration\":29.8,\n\
+{\"code\":\"InvalidValue\",\"message\":\"exclude\"}\n{\"code\":\"InvalidOptions\",\"message\":\"option exclude\"}";
 
 #[test]
 fn a_class_is_left_out_under_each_metric(rt: HostRuntime) -> Result<(), AllocError> {

@@ -1,9 +1,9 @@
 //! What no clause says of the commands over a generated town: that they succeed with ample memory, what the least town is,
 //! and which numbers are words.
 
-use crate::cases::{Case, ends};
 use road_base::Status;
 use road_run::USAGE;
+use run_cases::{Case, ends};
 use std::alloc::{AllocError, Global};
 use std::net::{Net, TcpListener, TcpStream};
 use std::sync::Wait;

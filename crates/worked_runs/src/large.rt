@@ -1,7 +1,7 @@
 //! What is long or large: routes of 500 places, a thousand lines, long names, and maps past the limits.
 
-use crate::cases::{Case, LINE, REPLY, ends, repeated, shows};
 use road_base::Status;
+use run_cases::{Case, LINE, REPLY, ends, repeated, shows};
 use std::alloc::{AllocError, Global};
 use std::net::{Net, TcpListener, TcpStream};
 use std::sync::Wait;

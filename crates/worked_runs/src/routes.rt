@@ -1,6 +1,6 @@
 //! Routes over small maps, each worked out by hand.
 
-use crate::cases::{Case, LINE, SETTINGS, SOUTH_TO_WEST, TOWN_NAMED, pair_of, shows, star};
+use run_cases::{Case, LINE, SETTINGS, SOUTH_TO_WEST, TOWN_NAMED, shows, star};
 use std::alloc::{AllocError, Global};
 use std::net::{Net, TcpListener, TcpStream};
 use std::process::Abort;
@@ -86,8 +86,8 @@ fn star_shows(
     settings: &[u8],
     row: &str,
 ) -> Result<bool, AllocError> {
-    let (tags, rest) = pair_of(rt, row);
-    let (restriction, expected) = pair_of(rt, rest);
+    let (tags, rest) = row.split_once('|').expect(rt, "a row of two");
+    let (restriction, expected) = rest.split_once('|').expect(rt, "a row of two");
     let map = star(alloc, tags.as_bytes(), restriction.as_bytes())?;
     let case = Case {
         map: map.as_slice(),

@@ -1,6 +1,6 @@
 //! Routes with steps, by a run over worked maps.
 
-use crate::cases::{Case, SETTINGS, shows};
+use run_cases::{Case, SETTINGS, shows};
 use std::alloc::{AllocError, Global};
 use std::net::{Net, TcpListener, TcpStream};
 use std::process::Abort;
@@ -16,14 +16,39 @@ const CROSSING: &[u8] =
 
 // From the south to the west, but for the side that is driven on, for which dollar signs stand.
 const SOUTH_TO_WEST: &str =
-    "\"steps\":[{\"distance\":111.1,\"duration\":9.9,\"weight\":9.9,\"geometry\":\"?gEgE?\",\"name\":\"South\",\"mode\":\"driving\",\"driving_side\":\"$\",\"maneuver\":{\"location\":[0.001000,0.000000],\"bearing_before\":0,\"bearing_after\":0,\"type\":\"depart\"},\"intersections\":[{\"location\":[0.001000,0.000000],\"bearings\":[0],\"entry\":[true],\"out\":0}]},{\"distance\":111.1,\"duration\":9.9,\"weight\":9.9,\"geometry\":\"gEgE?fE\",\"name\":\"West\",\"mode\":\"driving\",\"driving_side\":\"$\",\"maneuver\":{\"location\":[0.001000,0.001000],\"bearing_before\":0,\"bearing_after\":270,\"type\":\"turn\",\"modifier\":\"left\"},\"intersections\":[{\"location\":[0.001000,0.001000],\"bearings\":[0,90,180,270],\"entry\":[true,true,false,true],\"in\":2,\"out\":3}]},{\"distance\":0.0,\"duration\":0.0,\"weight\":0.0,\"geometry\":\"gE???\",\"name\":\"West\",\"mode\":\"driving\",\"driving_side\":\"$\",\"maneuver\":{\"location\":[0.000000,0.001000],\"bearing_before\":270,\"bearing_after\":0,\"type\":\"arrive\"},\"intersections\":[{\"location\":[0.000000,0.001000],\"bearings\":[90],\"entry\":[true],\"in\":0}]}]";
+    "\"steps\":[{\"distance\":111.1,\"duration\":9.9,\"weight\":9.9,\"geometry\":\"?gEgE?\",\"name\":\"South\",\
+\"mode\":\"driving\",\"driving_side\":\"$\",\"maneuver\":{\"location\":[0.001000,0.000000],\"bearing_before\":0,\
+\"bearing_after\":0,\"type\":\"depart\"},\"intersections\":[{\"location\":[0.001000,0.000000],\"bearings\":[0],\
+\"entry\":[true],\"out\":0}]},{\"distance\":111.1,\"duration\":9.9,\"weight\":9.9,\"geometry\":\"gEgE?fE\",\
+\"name\":\"West\",\"mode\":\"driving\",\"driving_side\":\"$\",\"maneuver\":{\"location\":[0.001000,0.001000],\
+\"bearing_before\":0,\"bearing_after\":270,\"type\":\"turn\",\"modifier\":\"left\"},\
+\"intersections\":[{\"location\":[0.001000,0.001000],\"bearings\":[0,90,180,270],\"entry\":[true,true,false,true],\
+\"in\":2,\"out\":3}]},{\"distance\":0.0,\"duration\":0.0,\"weight\":0.0,\"geometry\":\"gE???\",\"name\":\"West\",\
+\"mode\":\"driving\",\"driving_side\":\"$\",\"maneuver\":{\"location\":[0.000000,0.001000],\"bearing_before\":270,\
+\"bearing_after\":0,\"type\":\"arrive\"},\"intersections\":[{\"location\":[0.000000,0.001000],\"bearings\":[90],\
+\"entry\":[true],\"in\":0}]}]";
 
 // On one street, from a place to itself, but for the bearing, for which dollar signs stand.
 const TO_ITSELF: &str =
-    "\"steps\":[{\"distance\":0.0,\"duration\":0.0,\"weight\":0.0,\"geometry\":\"gEcB??\",\"name\":\"\",\"mode\":\"driving\",\"driving_side\":\"right\",\"maneuver\":{\"location\":[0.000500,0.001000],\"bearing_before\":0,\"bearing_after\":$,\"type\":\"depart\"},\"intersections\":[{\"location\":[0.000500,0.001000],\"bearings\":[$],\"entry\":[true],\"out\":0}]},{\"distance\":0.0,\"duration\":0.0,\"weight\":0.0,\"geometry\":\"gEcB??\",\"name\":\"\",\"mode\":\"driving\",\"driving_side\":\"right\",\"maneuver\":{\"location\":[0.000500,0.001000],\"bearing_before\":$,\"bearing_after\":0,\"type\":\"arrive\"},\"intersections\":[{\"location\":[0.000500,0.001000],\"bearings\":[";
+    "\"steps\":[{\"distance\":0.0,\"duration\":0.0,\"weight\":0.0,\"geometry\":\"gEcB??\",\"name\":\"\",\
+\"mode\":\"driving\",\"driving_side\":\"right\",\"maneuver\":{\"location\":[0.000500,0.001000],\"bearing_before\":0,\
+\"bearing_after\":$,\"type\":\"depart\"},\"intersections\":[{\"location\":[0.000500,0.001000],\"bearings\":[$],\
+\"entry\":[true],\"out\":0}]},{\"distance\":0.0,\"duration\":0.0,\"weight\":0.0,\"geometry\":\"gEcB??\",\
+\"name\":\"\",\"mode\":\"driving\",\"driving_side\":\"right\",\"maneuver\":{\"location\":[0.000500,0.001000],\
+\"bearing_before\":$,\"bearing_after\":0,\"type\":\"arrive\"},\"intersections\":[{\"location\":[0.000500,0.001000],\
+\"bearings\":[";
 
 const ROUND_THE_CORNER: &str =
-    "\"geometry\":\"??gE??gE\",\"legs\":[{\"distance\":222.2,\"duration\":19.8,\"weight\":19.8,\"summary\":\"\",\"steps\":[{\"distance\":222.2,\"duration\":19.8,\"weight\":19.8,\"geometry\":\"??gE??gE\",\"name\":\"\",\"mode\":\"driving\",\"driving_side\":\"right\",\"maneuver\":{\"location\":[0.000000,0.000000],\"bearing_before\":0,\"bearing_after\":0,\"type\":\"depart\"},\"intersections\":[{\"location\":[0.000000,0.000000],\"bearings\":[0],\"entry\":[true],\"out\":0},{\"location\":[0.000000,0.001000],\"bearings\":[90,180],\"entry\":[true,false],\"in\":1,\"out\":0}]},{\"distance\":0.0,\"duration\":0.0,\"weight\":0.0,\"geometry\":\"gEgE??\",\"name\":\"\",\"mode\":\"driving\",\"driving_side\":\"right\",\"maneuver\":{\"location\":[0.001000,0.001000],\"bearing_before\":90,\"bearing_after\":0,\"type\":\"arrive\"},\"intersections\":[{\"location\":[0.001000,0.001000],\"bearings\":[270],\"entry\":[true],\"in\":0}]}],\"annotation\":{\"distance\":[111.1,111.1],\"duration\":[9.9,9.9],\"weight\":[9.9,9.9],\"nodes\":[1,2,3],\"speed\":[11.2,11.2]}}]}]}\n";
+    "\"geometry\":\"??gE??gE\",\"legs\":[{\"distance\":222.2,\"duration\":19.8,\"weight\":19.8,\"summary\":\"\",\
+\"steps\":[{\"distance\":222.2,\"duration\":19.8,\"weight\":19.8,\"geometry\":\"??gE??gE\",\"name\":\"\",\
+\"mode\":\"driving\",\"driving_side\":\"right\",\"maneuver\":{\"location\":[0.000000,0.000000],\"bearing_before\":0,\
+\"bearing_after\":0,\"type\":\"depart\"},\"intersections\":[{\"location\":[0.000000,0.000000],\"bearings\":[0],\
+\"entry\":[true],\"out\":0},{\"location\":[0.000000,0.001000],\"bearings\":[90,180],\"entry\":[true,false],\"in\":1,\
+\"out\":0}]},{\"distance\":0.0,\"duration\":0.0,\"weight\":0.0,\"geometry\":\"gEgE??\",\"name\":\"\",\
+\"mode\":\"driving\",\"driving_side\":\"right\",\"maneuver\":{\"location\":[0.001000,0.001000],\
+\"bearing_before\":90,\"bearing_after\":0,\"type\":\"arrive\"},\"intersections\":[{\"location\":[0.001000,0.001000],\
+\"bearings\":[270],\"entry\":[true],\"in\":0}]}],\"annotation\":{\"distance\":[111.1,111.1],\"duration\":[9.9,9.9],\
+\"weight\":[9.9,9.9],\"nodes\":[1,2,3],\"speed\":[11.2,11.2]}}]}]}\n";
 
 // The text, with this in the place of each dollar sign.
 fn filled(alloc: Global, text: &str, between: &str) -> Result<String, AllocError> {

@@ -1,7 +1,7 @@
 //! Routes through several places that go straight on at each of them, worked out by hand, and where none does.
 
-use crate::cases::{Case, REPLY, ends, pair_of, shows};
 use road_base::Status;
+use run_cases::{Case, REPLY, ends, shows};
 use std::alloc::{AllocError, Global};
 use std::net::{Net, TcpListener, TcpStream};
 use std::sync::Wait;
@@ -92,7 +92,7 @@ fn street_shows(
 #[test]
 fn no_walk_leads_through_where_each_leg_has_one(rt: HostRuntime) -> Result<(), AllocError> {
     for row in THROUGH_THE_STREET.split('$') {
-        let (line, expected) = pair_of(&rt, row);
+        let (line, expected) = row.split_once('|').expect(&rt, "a row of two");
         assert!(rt; street_shows(&rt, rt.alloc(), line, expected)?, "{row}");
     }
     Ok(())

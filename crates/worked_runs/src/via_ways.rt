@@ -1,8 +1,8 @@
 //! Routes, tables and trips under turn restrictions over via ways, worked out by hand, which of these apply, and how many
 //! there may be.
 
-use crate::cases::{Case, LINE, ends, pair_of, repeated, shows};
 use road_base::Status;
+use run_cases::{Case, LINE, ends, repeated, shows};
 use std::alloc::{AllocError, Global};
 use std::net::{Net, TcpListener, TcpStream};
 use std::sync::Wait;
@@ -94,7 +94,11 @@ const THROUGH_THE_VIA_WAY: &[u8] =
     b"GET /route/v1/car/0,0;0.0015,0;0.003,0?overview=false&continue_straight=true\n";
 
 const ROUND_BEHIND_THE_PLACE: &[u8] =
-    b"{\"code\":\"Ok\",\"data_version\":\"0\",\"routes\":[{\"distance\":555.5,\"duration\":69.5,\"weight\":69.5,\"weight_name\":\"duration\",\"legs\":[{\"distance\":166.6,\"duration\":14.8,\"weight\":14.8,\"summary\":\"\",\"steps\":[]},{\"distance\":388.9,\"duration\":54.7,\"weight\":54.7,\"summary\":\"\",\"steps\":[]}]}],\"waypoints\":[{\"distance\":0.0,\"name\":\"\",\"location\":[0.000000,0.000000]},{\"distance\":0.0,\"name\":\"\",\"location\":[0.001500,0.000000]},{\"distance\":0.0,\"name\":\"\",\"location\":[0.003000,0.000000]}]}\n";
+    b"{\"code\":\"Ok\",\"data_version\":\"0\",\"routes\":[{\"distance\":555.5,\"duration\":69.5,\"weight\":69.5,\
+\"weight_name\":\"duration\",\"legs\":[{\"distance\":166.6,\"duration\":14.8,\"weight\":14.8,\"summary\":\"\",\
+\"steps\":[]},{\"distance\":388.9,\"duration\":54.7,\"weight\":54.7,\"summary\":\"\",\"steps\":[]}]}],\
+\"waypoints\":[{\"distance\":0.0,\"name\":\"\",\"location\":[0.000000,0.000000]},{\"distance\":0.0,\"name\":\"\",\
+\"location\":[0.001500,0.000000]},{\"distance\":0.0,\"name\":\"\",\"location\":[0.003000,0.000000]}]}\n";
 
 #[test]
 fn a_place_on_the_via_way_lets_nobody_go_on(rt: HostRuntime) -> Result<(), AllocError> {
@@ -128,7 +132,7 @@ GET /route/v1/car/0.003,0;0,0?overview=false\n|\"routes\":[{\"distance\":333.3,\
 #[test]
 fn each_line_has_its_reply(rt: HostRuntime) -> Result<(), AllocError> {
     for row in LINES.split('$') {
-        let (line, expected) = pair_of(&rt, row);
+        let (line, expected) = row.split_once('|').expect(&rt, "a row of two");
         assert!(rt;
             fork_shows(&rt, rt.alloc(), NOT_STRAIGHT_ON, line, expected)?,
             "{row}"
@@ -157,8 +161,8 @@ r1 Ttype=restriction,restriction=no_straight_on Mw1@from,w2@via,w2@via,w2@via,w2
 #[test]
 fn each_relation_forbids_what_it_says(rt: HostRuntime) -> Result<(), AllocError> {
     for row in RELATIONS.split('$') {
-        let (relations, rest) = pair_of(&rt, row);
-        let (line, expected) = pair_of(&rt, rest);
+        let (relations, rest) = row.split_once('|').expect(&rt, "a row of two");
+        let (line, expected) = rest.split_once('|').expect(&rt, "a row of two");
         assert!(rt;
             fork_shows(&rt, rt.alloc(), relations.as_bytes(), line, expected)?,
             "{row}"
@@ -213,7 +217,7 @@ r1 Ttype=restriction,restriction=no_straight_on,except=motorcar Mw1@from,w2@via,
 #[test]
 fn relations_apply_or_are_ignored(rt: HostRuntime) -> Result<(), AllocError> {
     for row in COUNTS.split('$') {
-        let (relations, expected) = pair_of(&rt, row);
+        let (relations, expected) = row.split_once('|').expect(&rt, "a row of two");
         assert!(rt;
             counts(&rt, rt.alloc(), relations.as_bytes(), expected)?,
             "{row}"
@@ -249,8 +253,8 @@ fn shows_under(
 #[test]
 fn traffic_is_that_of_the_via_way(rt: HostRuntime) -> Result<(), AllocError> {
     for row in UNDER_TRAFFIC.split('$') {
-        let (rows, rest) = pair_of(&rt, row);
-        let (lines, expected) = pair_of(&rt, rest);
+        let (rows, rest) = row.split_once('|').expect(&rt, "a row of two");
+        let (lines, expected) = rest.split_once('|').expect(&rt, "a row of two");
         assert!(rt;
             shows_under(&rt, rt.alloc(), rows, lines, expected)?,
             "{row}"

@@ -16,7 +16,12 @@ const THREE_REQUESTS: &[u8] =
 
 /// The replies to them.
 const THREE_REPLIES: &[u8] =
-    b"HTTP/1.1 400 Bad Request\r\nContent-Type: application/json; charset=utf-8\r\nContent-Length: 61\r\nConnection: keep-alive\r\n\r\n{\"code\":\"Refused\",\"file\":\"speeds\",\"row\":3,\"kind\":\"BadNumber\"}HTTP/1.1 200 OK\r\nContent-Type: application/json; charset=utf-8\r\nContent-Length: 46\r\nConnection: keep-alive\r\n\r\n{\"code\":\"Ok\",\"data_version\":\"1\",\"unmatched\":0}HTTP/1.1 200 OK\r\nContent-Type: application/json; charset=utf-8\r\nContent-Length: 29\r\nConnection: close\r\n\r\n{\"code\":\"Ok\",\"stopping\":true}";
+    b"HTTP/1.1 400 Bad Request\r\nContent-Type: application/json; charset=utf-8\r\nContent-Length: 61\r\n\
+Connection: keep-alive\r\n\r\n{\"code\":\"Refused\",\"file\":\"speeds\",\"row\":3,\
+\"kind\":\"BadNumber\"}HTTP/1.1 200 OK\r\nContent-Type: application/json; charset=utf-8\r\nContent-Length: 46\r\n\
+Connection: keep-alive\r\n\r\n{\"code\":\"Ok\",\"data_version\":\"1\",\"unmatched\":0}HTTP/1.1 200 OK\r\n\
+Content-Type: application/json; charset=utf-8\r\nContent-Length: 29\r\nConnection: close\r\n\r\n\
+{\"code\":\"Ok\",\"stopping\":true}";
 
 /// The reply to a metric that closes the connection.
 const PUBLISHED_CLOSE: &[u8] =

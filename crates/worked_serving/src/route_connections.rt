@@ -18,7 +18,16 @@ const TWO_ROUTES: &[u8] =
 
 /// The replies to both.
 const TWO_REPLIES: &[u8] =
-    b"HTTP/1.1 200 OK\r\nContent-Type: application/json; charset=utf-8\r\nContent-Length: 329\r\nConnection: keep-alive\r\n\r\n{\"code\":\"Ok\",\"data_version\":\"0\",\"routes\":[{\"distance\":222.2,\"duration\":19.8,\"weight\":19.8,\"weight_name\":\"duration\",\"legs\":[{\"distance\":222.2,\"duration\":19.8,\"weight\":19.8,\"summary\":\"\",\"steps\":[]}]}],\"waypoints\":[{\"distance\":0.0,\"name\":\"\",\"location\":[0.000000,0.000000]},{\"distance\":0.0,\"name\":\"\",\"location\":[0.001000,0.001000]}]}HTTP/1.1 200 OK\r\nContent-Type: application/json; charset=utf-8\r\nContent-Length: 329\r\nConnection: close\r\n\r\n{\"code\":\"Ok\",\"data_version\":\"0\",\"routes\":[{\"distance\":222.2,\"duration\":19.8,\"weight\":19.8,\"weight_name\":\"duration\",\"legs\":[{\"distance\":222.2,\"duration\":19.8,\"weight\":19.8,\"summary\":\"\",\"steps\":[]}]}],\"waypoints\":[{\"distance\":0.0,\"name\":\"\",\"location\":[0.000000,0.000000]},{\"distance\":0.0,\"name\":\"\",\"location\":[0.001000,0.001000]}]}";
+    b"HTTP/1.1 200 OK\r\nContent-Type: application/json; charset=utf-8\r\nContent-Length: 329\r\n\
+Connection: keep-alive\r\n\r\n{\"code\":\"Ok\",\"data_version\":\"0\",\"routes\":[{\"distance\":222.2,\
+\"duration\":19.8,\"weight\":19.8,\"weight_name\":\"duration\",\"legs\":[{\"distance\":222.2,\"duration\":19.8,\
+\"weight\":19.8,\"summary\":\"\",\"steps\":[]}]}],\"waypoints\":[{\"distance\":0.0,\"name\":\"\",\
+\"location\":[0.000000,0.000000]},{\"distance\":0.0,\"name\":\"\",\
+\"location\":[0.001000,0.001000]}]}HTTP/1.1 200 OK\r\nContent-Type: application/json; charset=utf-8\r\nContent-Length: 329\r\n\
+Connection: close\r\n\r\n{\"code\":\"Ok\",\"data_version\":\"0\",\"routes\":[{\"distance\":222.2,\"duration\":19.8,\
+\"weight\":19.8,\"weight_name\":\"duration\",\"legs\":[{\"distance\":222.2,\"duration\":19.8,\"weight\":19.8,\
+\"summary\":\"\",\"steps\":[]}]}],\"waypoints\":[{\"distance\":0.0,\"name\":\"\",\"location\":[0.000000,0.000000]},\
+{\"distance\":0.0,\"name\":\"\",\"location\":[0.001000,0.001000]}]}";
 
 /// The reply to a target that is no path of a service, where it leaves the connection open.
 const NO_PATH: &[u8] =
@@ -99,7 +108,12 @@ pub const NEAREST_TWICE: &[u8] =
 
 /// The replies to both.
 const NEAREST_REPLIES: &[u8] =
-    b"HTTP/1.1 200 OK\r\nContent-Type: application/json; charset=utf-8\r\nContent-Length: 118\r\nConnection: keep-alive\r\n\r\n{\"code\":\"Ok\",\"data_version\":\"0\",\"waypoints\":[{\"nodes\":[1,2],\"distance\":0.0,\"name\":\"\",\"location\":[0.000000,0.000000]}]}HTTP/1.1 200 OK\r\nContent-Type: application/json; charset=utf-8\r\nContent-Length: 118\r\nConnection: keep-alive\r\n\r\n{\"code\":\"Ok\",\"data_version\":\"0\",\"waypoints\":[{\"nodes\":[1,2],\"distance\":0.0,\"name\":\"\",\"location\":[0.000000,0.000000]}]}";
+    b"HTTP/1.1 200 OK\r\nContent-Type: application/json; charset=utf-8\r\nContent-Length: 118\r\n\
+Connection: keep-alive\r\n\r\n{\"code\":\"Ok\",\"data_version\":\"0\",\"waypoints\":[{\"nodes\":[1,2],\
+\"distance\":0.0,\"name\":\"\",\"location\":[0.000000,0.000000]}]}HTTP/1.1 200 OK\r\n\
+Content-Type: application/json; charset=utf-8\r\nContent-Length: 118\r\nConnection: keep-alive\r\n\r\n\
+{\"code\":\"Ok\",\"data_version\":\"0\",\"waypoints\":[{\"nodes\":[1,2],\"distance\":0.0,\"name\":\"\",\
+\"location\":[0.000000,0.000000]}]}";
 
 #[test]
 fn the_nearest_place_is_answered_twice(rt: HostRuntime) -> Result<(), AllocError> {

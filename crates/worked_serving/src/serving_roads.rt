@@ -8,8 +8,7 @@ use crate::towns::{first_metric, grid, roads};
 use customized::{Metric, Roads};
 use flag_doors::{Flags, Told, gate_of, new_flags, push_conn, push_door, put_back};
 use memory_doors::{FlagConn, FlagGate, MemDoors, QueueDoor};
-use metric_publish::history::{Naming, Opened as History};
-use metric_publish::opening::open;
+use metric_publish::{Naming, Opened as History, open};
 use road_io::{Door, Doors, Gate, MemConn};
 use route_doors::serve;
 use snap_index::Grid;
@@ -35,7 +34,12 @@ const NEAREST_SINCE: &[u8] =
     b"GET /nearest/v1/car/0,0 HTTP/1.1\r\nHost: a\r\n\r\nGET /nearest/v1/car/0,0?since=2 HTTP/1.1\r\nHost: a\r\n\r\n";
 
 const SINCE_REPLIES: &[u8] =
-    b"HTTP/1.1 200 OK\r\nContent-Type: application/json; charset=utf-8\r\nContent-Length: 118\r\nConnection: keep-alive\r\n\r\n{\"code\":\"Ok\",\"data_version\":\"2\",\"waypoints\":[{\"nodes\":[1,2],\"distance\":0.0,\"name\":\"\",\"location\":[0.000000,0.000000]}]}HTTP/1.1 200 OK\r\nContent-Type: application/json; charset=utf-8\r\nContent-Length: 118\r\nConnection: keep-alive\r\n\r\n{\"code\":\"Ok\",\"data_version\":\"2\",\"waypoints\":[{\"nodes\":[1,2],\"distance\":0.0,\"name\":\"\",\"location\":[0.000000,0.000000]}]}";
+    b"HTTP/1.1 200 OK\r\nContent-Type: application/json; charset=utf-8\r\nContent-Length: 118\r\n\
+Connection: keep-alive\r\n\r\n{\"code\":\"Ok\",\"data_version\":\"2\",\"waypoints\":[{\"nodes\":[1,2],\
+\"distance\":0.0,\"name\":\"\",\"location\":[0.000000,0.000000]}]}HTTP/1.1 200 OK\r\n\
+Content-Type: application/json; charset=utf-8\r\nContent-Length: 118\r\nConnection: keep-alive\r\n\r\n\
+{\"code\":\"Ok\",\"data_version\":\"2\",\"waypoints\":[{\"nodes\":[1,2],\"distance\":0.0,\"name\":\"\",\
+\"location\":[0.000000,0.000000]}]}";
 
 /// A request for a metric of one row.
 const PUBLISH: &[u8] =

@@ -1,5 +1,0 @@
--- Weights are small for the frame's graph.
-use Rattle.worked_graphs.proofs.cliques.of_streets.Goals as goal
-
-pub customize-requires : goal.customize-requires
-customize-requires g c = record { weights = rw c.graph.ensures at c.in_ok-weights.ensures.small }
