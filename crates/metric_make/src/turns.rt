@@ -5,7 +5,6 @@ ghost use Rattle.std.specs.List.{slice_get};
 ghost use Rattle.edge_graph.specs.NetworkView.{vertices_of};
 ghost use Rattle.geo_integer.specs.Bearing.{bearing_of};
 ghost use Rattle.geo_integer.specs.Position.{position_of};
-ghost use Rattle.road_segments.specs.Vertex.{opposite};
 ghost use Rattle.metric_make.specs.LastRows.{AreLastTurns, AreMarked, triple_eq};
 ghost use Rattle.metric_make.specs.MetricOf.{bearing_along, turn_cost, turn_cost_under, turn_weight};
 ghost use Rattle.metric_make.specs.TrafficRows.{is_turn_over};
@@ -18,6 +17,7 @@ use cost_lists::FullCostList;
 use edge_graph::Network;
 use geo_integer::{bearing, modifier};
 use road_base::Point;
+use road_turns::other_way;
 use search_graph::WeightDurLen;
 use std::alloc::{AllocError, Global};
 use traffic_files::TurnRow;
@@ -53,13 +53,6 @@ fn bearings_of(alloc: Global, network: &Network) -> Result<Vec<u32>, AllocError>
         bearings.push(bearing_back(from, to, there))?;
     }
     Ok(bearings)
-}
-
-// The other direction of a vertex's segment.
-fn other_way(v: u32) -> u32
-    ensures { result ≡ opposite v }
-{
-    if v % 2 == 0 { v + 1 } else { v - 1 }
 }
 
 // The profile's penalty of a turn but for signals.

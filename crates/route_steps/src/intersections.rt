@@ -4,10 +4,11 @@ ghost use Rattle.std.specs.Prelude.{◌≡◌, ◌+◌, ◌*◌, ◌<◌, ◌≤
 ghost use Rattle.route_steps.specs.Intersections.{arrival_on, departure_onto, intersection_at, intersection_between, intersections_between};
 
 use crate::intersection_lists::{Flags, Intersection, Intersections};
-use crate::turnings::{bearing_on, other_way};
+use crate::turnings::bearing_on;
 use crate::ways::{bearings_of, entries_of, followers, place_of, ways_behind};
 use edge_graph::Network;
 use road_base::Point;
+use road_turns::other_way;
 use search_graph::Numbers;
 use std::alloc::{AllocError, Global};
 

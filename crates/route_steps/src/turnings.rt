@@ -2,7 +2,6 @@
 
 ghost use Rattle.std.specs.Prelude.{◌≡◌, ◌*◌, ◌<◌, List, All, IfOk, length};
 ghost use Rattle.search_graph.specs.declared.costs.WeightDurLen.{WeightDurLen};
-ghost use Rattle.road_segments.specs.Vertex.{opposite};
 ghost use Rattle.road_places.specs.Paid.{AreTurnsAlong, IsTurnCosting};
 ghost use Rattle.metric_make.specs.RoadMetric.{road_of};
 ghost use Rattle.route_steps.specs.Turnings.{bearing_on, turn_paid, turn_told, turns_paid};
@@ -13,6 +12,7 @@ use edge_graph::Network;
 use geo_integer::{bearing, modifier};
 use metric_make::BaseMetric;
 use road_base::Modifier;
+use road_turns::other_way;
 use search_graph::{Cost, WeightDurLen};
 use std::alloc::{AllocError, Global};
 
@@ -28,13 +28,6 @@ pub(crate) fn bearing_on(network: &Network, v: u32) -> u32
     } else {
         bearing(to, from)
     }
-}
-
-/// The other direction of a vertex's segment.
-pub(crate) fn other_way(v: u32) -> u32
-    ensures { result ≡ opposite v }
-{
-    if v % 2 == 0 { v + 1 } else { v - 1 }
 }
 
 /// What a driver is told of the turn from vertex `d` onto vertex `e`, or None where nothing.
