@@ -34,17 +34,17 @@ slot_on-resized slots new n k le is r = ap (λ (p : List (Slot _)). slot_on p r)
 
 -- where the slot of v stands
 abbrev pub index : List ℕ → ℕ → ℕ
-index table v = place_of table (v / 64) * 64 + v % 64
+index table v = place_of table (v / 16) * 16 + v % 16
 
 -- as it is computed from the table that was borrowed
 pub index_is : (table borrowed : List ℕ) (i v : ℕ) → borrowed ≡ table → i ≡ index borrowed v → i ≡ index table v
 index_is table borrowed i v e is = is ∙ ap (λ (t : List ℕ). index t v) e
 
 -- the slots stand before the place of a page that isn't made
-pub IsArena-fits : {C : Type 0} (arena : List (Slot C)) (touched : List ℕ) → IsArena arena touched → length arena ≤ unmade * 64
+pub IsArena-fits : {C : Type 0} (arena : List (Slot C)) (touched : List ℕ) → IsArena arena touched → length arena ≤ unmade * 16
 IsArena-fits arena touched h = let a = h.long in let b = h.few in omega arith
 
-module _ {C : Type 0} (table : List ℕ) (arena : List (Slot C)) (fits : length arena ≤ unmade * 64) where
+module _ {C : Type 0} (table : List ℕ) (arena : List (Slot C)) (fits : length arena ≤ unmade * 16) where
   -- a page past the table's end
   past_table : (p : ℕ) → length table ≤ p → page_of (pages_of table arena) p ≡ []
   past_table p le = get_or_past (pages_of table arena) p [] (let e : length (pages_of table arena) ≡ length table = length-map table (page_in arena) in omega arith)
@@ -52,34 +52,34 @@ module _ {C : Type 0} (table : List ℕ) (arena : List (Slot C)) (fits : length 
   -- the slot of v is where the table says
   pub slot_at-index : (v : ℕ) → slot_at (pages_of table arena) v ≡ get_or arena (index table v) Untouched
   slot_at-index v =
-      let small : v % 64 < 64 = omega arith in
-      elim (cases_lt (v / 64) (length table)) [
-        | inl lt ↦ ap (λ (page : List (Slot C)). slot_on page (v % 64)) (get_or-map (page_in arena) table (v / 64) unmade [] lt) ∙ get_or-take 64 (drop (place_of table (v / 64) * 64) arena) (v % 64) Untouched small ∙ get_or-drop (place_of table (v / 64) * 64) arena (v % 64) Untouched
+      let small : v % 16 < 16 = omega arith in
+      elim (cases_lt (v / 16) (length table)) [
+        | inl lt ↦ ap (λ (page : List (Slot C)). slot_on page (v % 16)) (get_or-map (page_in arena) table (v / 16) unmade [] lt) ∙ get_or-take 16 (drop (place_of table (v / 16) * 16) arena) (v % 16) Untouched small ∙ get_or-drop (place_of table (v / 16) * 16) arena (v % 16) Untouched
         | inr le ↦
-            let past : length arena ≤ unmade * 64 + v % 64 = omega arith in
-            ap (λ (page : List (Slot C)). slot_on page (v % 64)) (past_table (v / 64) le)
-            ∙ sym (ap (λ (k : ℕ). get_or arena (k * 64 + v % 64) Untouched) (get_or_past table (v / 64) unmade le) ∙ get_or_past arena (unmade * 64 + v % 64) Untouched past)
+            let past : length arena ≤ unmade * 16 + v % 16 = omega arith in
+            ap (λ (page : List (Slot C)). slot_on page (v % 16)) (past_table (v / 16) le)
+            ∙ sym (ap (λ (k : ℕ). get_or arena (k * 16 + v % 16) Untouched) (get_or_past table (v / 16) unmade le) ∙ get_or_past arena (unmade * 16 + v % 16) Untouched past)
       ]
 
   -- how many slots a page has
-  page_length : (k : ℕ) → length (page_in arena k) ≡ min 64 (length arena - k * 64)
-  page_length k = length-take 64 (drop (k * 64) arena) ∙ ap (min 64) (length-drop (k * 64) arena)
+  page_length : (k : ℕ) → length (page_in arena k) ≡ min 16 (length arena - k * 16)
+  page_length k = length-take 16 (drop (k * 16) arena) ∙ ap (min 16) (length-drop (k * 16) arena)
 
   -- its page is made where it stands among the slots
   pub IsMade-index : (v : ℕ) → index table v < length arena → IsMade (pages_of table arena) v
-  IsMade-index v lt = elim (cases_lt (v / 64) (length table)) [
+  IsMade-index v lt = elim (cases_lt (v / 16) (length table)) [
     | inl in_table ↦
-        let e : length (page_of (pages_of table arena) (v / 64)) ≡ min 64 (length arena - place_of table (v / 64) * 64) = ap length (get_or-map (page_in arena) table (v / 64) unmade [] in_table) ∙ page_length (place_of table (v / 64)) in
+        let e : length (page_of (pages_of table arena) (v / 16)) ≡ min 16 (length arena - place_of table (v / 16) * 16) = ap length (get_or-map (page_in arena) table (v / 16) unmade [] in_table) ∙ page_length (place_of table (v / 16)) in
         omega arith
-    | inr le ↦ let e : place_of table (v / 64) ≡ unmade = get_or_past table (v / 64) unmade le in absurd (omega arith)
+    | inr le ↦ let e : place_of table (v / 16) ≡ unmade = get_or_past table (v / 16) unmade le in absurd (omega arith)
   ]
 
   pub index-IsMade : (v : ℕ) → IsMade (pages_of table arena) v → index table v < length arena
-  index-IsMade v made = elim (cases_lt (v / 64) (length table)) [
+  index-IsMade v made = elim (cases_lt (v / 16) (length table)) [
     | inl in_table ↦
-        let e : length (page_of (pages_of table arena) (v / 64)) ≡ min 64 (length arena - place_of table (v / 64) * 64) = ap length (get_or-map (page_in arena) table (v / 64) unmade [] in_table) ∙ page_length (place_of table (v / 64)) in
+        let e : length (page_of (pages_of table arena) (v / 16)) ≡ min 16 (length arena - place_of table (v / 16) * 16) = ap length (get_or-map (page_in arena) table (v / 16) unmade [] in_table) ∙ page_length (place_of table (v / 16)) in
         omega arith
-    | inr le ↦ let e : length (page_of (pages_of table arena) (v / 64)) ≡ 0 = ap length (past_table (v / 64) le) in absurd (omega arith)
+    | inr le ↦ let e : length (page_of (pages_of table arena) (v / 16)) ≡ 0 = ap length (past_table (v / 16) le) in absurd (omega arith)
   ]
 
 -- no two pages that are made have one place
@@ -96,10 +96,10 @@ apart table touched h p q e lt = elim (h.each p) [
 module _ {C : Type 0} (table : List ℕ) (arena : List (Slot C)) (touched : List ℕ) (h : IsPaged table arena touched) (v : ℕ) (slot : Slot C) (in_arena : index table v < length arena) where
   other_index : (u : ℕ) → v ≢ u → index table u ≢ index table v
   other_index u ne e =
-      let fits : length arena ≤ unmade * 64 = IsArena-fits arena touched h.slots in
-      let same : place_of table (v / 64) ≡ place_of table (u / 64) = omega arith in
-      let lt : place_of table (v / 64) < unmade = omega arith in
-      let page : v / 64 ≡ u / 64 = apart table touched h.places (v / 64) (u / 64) same lt in
+      let fits : length arena ≤ unmade * 16 = IsArena-fits arena touched h.slots in
+      let same : place_of table (v / 16) ≡ place_of table (u / 16) = omega arith in
+      let lt : place_of table (v / 16) < unmade = omega arith in
+      let page : v / 16 ≡ u / 16 = apart table touched h.places (v / 16) (u / 16) same lt in
       let here : v ≡ u = omega arith in
       ne here
 
@@ -111,34 +111,34 @@ module _ {C : Type 0} (table : List ℕ) (arena : List (Slot C)) (touched : List
 
   pub slot_at-written : slot_at (pages_of table (set arena (index table v) slot)) ≡ changed (slot_at (pages_of table arena)) v slot
   slot_at-written =
-      let fits : length arena ≤ unmade * 64 = IsArena-fits arena touched h.slots in
-      let fits_new : length (set arena (index table v) slot) ≤ unmade * 64 = omega (arith, length-set arena (index table v) slot) in
+      let fits : length arena ≤ unmade * 16 = IsArena-fits arena touched h.slots in
+      let fits_new : length (set arena (index table v) slot) ≤ unmade * 16 = omega (arith, length-set arena (index table v) slot) in
       let old : slot_at (pages_of table arena) ≡ (λ w. get_or arena (index table w) Untouched) = λ i u. slot_at-index table arena fits u i in
       (λ i u. (slot_at-index table (set arena (index table v) slot) fits_new u ∙ written_index u) i) ∙ ap (λ (f : ℕ → Slot C). changed f v slot) (sym old)
 
 -- where the slots behind are blank and places stay, all slots are what they were
-module _ {C : Type 0} (old new : List ℕ) (arena more : List (Slot C)) (fits : length arena ≤ unmade * 64) (fits_more : length more ≤ unmade * 64) (same : (i : ℕ) → get_or more i Untouched ≡ get_or arena i Untouched) where
+module _ {C : Type 0} (old new : List ℕ) (arena more : List (Slot C)) (fits : length arena ≤ unmade * 16) (fits_more : length more ≤ unmade * 16) (same : (i : ℕ) → get_or more i Untouched ≡ get_or arena i Untouched) where
   stays_at : (u : ℕ) → get_or more (index new u) Untouched ≡ get_or arena (index old u) Untouched → slot_at (pages_of new more) u ≡ slot_at (pages_of old arena) u
   stays_at u e = slot_at-index new more fits_more u ∙ e ∙ sym (slot_at-index old arena fits u)
 
-  place_stays : (u : ℕ) → place_of new (u / 64) ≡ place_of old (u / 64) → slot_at (pages_of new more) u ≡ slot_at (pages_of old arena) u
-  place_stays u e = stays_at u (same (index new u) ∙ ap (λ (k : ℕ). get_or arena (k * 64 + u % 64) Untouched) e)
+  place_stays : (u : ℕ) → place_of new (u / 16) ≡ place_of old (u / 16) → slot_at (pages_of new more) u ≡ slot_at (pages_of old arena) u
+  place_stays u e = stays_at u (same (index new u) ∙ ap (λ (k : ℕ). get_or arena (k * 16 + u % 16) Untouched) e)
 
   pub slot_at-kept : ((p : ℕ) → place_of new p ≡ place_of old p) → slot_at (pages_of new more) ≡ slot_at (pages_of old arena)
-  slot_at-kept places = λ i u. place_stays u (places (u / 64)) i
+  slot_at-kept places = λ i u. place_stays u (places (u / 16)) i
 
   -- so they are where a page that had no slots gets a place behind them
-  pub slot_at-made : (page : ℕ) → length arena ≤ place_of old page * 64 → length arena ≤ place_of new page * 64 → ((p : ℕ) → p ≢ page → place_of new p ≡ place_of old p) → slot_at (pages_of new more) ≡ slot_at (pages_of old arena)
+  pub slot_at-made : (page : ℕ) → length arena ≤ place_of old page * 16 → length arena ≤ place_of new page * 16 → ((p : ℕ) → p ≢ page → place_of new p ≡ place_of old p) → slot_at (pages_of new more) ≡ slot_at (pages_of old arena)
   slot_at-made page before after others =
       let at : (u : ℕ) → slot_at (pages_of new more) u ≡ slot_at (pages_of old arena) u =
-      λ u. elim (cases_eq (u / 64) page) [
+      λ u. elim (cases_eq (u / 16) page) [
         | inl e ↦
-            let a : place_of old (u / 64) ≡ place_of old page = ap (place_of old) e in
-            let b : place_of new (u / 64) ≡ place_of new page = ap (place_of new) e in
+            let a : place_of old (u / 16) ≡ place_of old page = ap (place_of old) e in
+            let b : place_of new (u / 16) ≡ place_of new page = ap (place_of new) e in
             let past_old : length arena ≤ index old u = omega arith in
             let past_new : length arena ≤ index new u = omega arith in
             stays_at u (same (index new u) ∙ get_or_past arena (index new u) Untouched past_new ∙ sym (get_or_past arena (index old u) Untouched past_old))
-        | inr ne ↦ place_stays u (others (u / 64) ne)
+        | inr ne ↦ place_stays u (others (u / 16) ne)
       ] in
       λ i u. at u i
 
@@ -146,7 +146,7 @@ module _ {C : Type 0} (old new : List ℕ) (arena more : List (Slot C)) (fits : 
 pub blank_at : {C : Type 0} (table : List ℕ) (arena : List (Slot C)) → arena ≡ [] → (v : ℕ) → slot_at (pages_of table arena) v ≡ Untouched
 blank_at table arena e v =
     let none : length arena ≡ 0 = ap length e in
-    let fits : length arena ≤ unmade * 64 = omega arith in
+    let fits : length arena ≤ unmade * 16 = omega arith in
     let past : length arena ≤ index table v = omega arith in
     slot_at-index table arena fits v ∙ get_or_past arena (index table v) Untouched past
 

@@ -1,4 +1,4 @@
-//! Slots by vertex on pages: each page has the slots of 64 neighbouring vertices, or none until it is made. The
+//! Slots by vertex on pages: each page has the slots of 16 neighbouring vertices, or none until it is made. The
 //! pages that are made stand one behind the other in one list, and a table says where each of them stands.
 
 ghost use Rattle.std.specs.Prelude.{◌≡◌, ◌≢◌, ℕ, ◌+◌, ◌*◌, ◌/◌, ◌%◌, ◌<◌, [], ◌∷◌, ◌++◌, length, slice_index_or, OnOk, OnErr, IfOk};
@@ -11,7 +11,7 @@ use std::alloc::{AllocError, Global};
 use std::marker::Model;
 
 /// How many vertices a page is for.
-const PAGE: usize = 64;
+const PAGE: usize = 16;
 
 /// In place of the place of a page that isn't made.
 const UNMADE: u32 = u32::MAX;
@@ -107,7 +107,7 @@ impl<C: Copy> Pages<C> {
 // Where the slot of `v` stands among those of the pages that are made: past them all where its page isn't.
 #[inline(always)]
 fn index_of(table: &[u32], v: u32) -> usize
-    ensures { result ≡ place_of table.now (v / 64) * 64 + v % 64 }
+    ensures { result ≡ place_of table.now (v / 16) * 16 + v % 16 }
 {
     let place = match table.get(v as usize / PAGE) {
         Some(place) => *place,
@@ -124,7 +124,7 @@ fn append_page<C: Copy>(
 ) -> Result<u32, AllocError>
     requires { IsArena arena.old.items touched.old.items }
     ensures arena { IsArena arena.new.items touched.new.items }
-    ensures place { IfOk result (λ place. (place ≡ length touched.old.items) × (place < unmade) × (length arena.new.items ≡ place * 64 + 64)) }
+    ensures place { IfOk result (λ place. (place ≡ length touched.old.items) × (place < unmade) × (length arena.new.items ≡ place * 16 + 16)) }
     ensures touched { OnOk result (touched.new.items ≡ touched.old.items ++ page ∷ []) }
     ensures keeps { Keeps touched.old.items touched.new.items }
     ensures same { (i : ℕ) → slice_index_or arena.new.items i Untouched ≡ slice_index_or arena.old.items i Untouched }
