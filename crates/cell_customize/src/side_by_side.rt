@@ -10,15 +10,25 @@ ghost use Rattle.cell_customize.specs.Ready.{IsReady};
 use crate::pieces::{Piece, cliques_of};
 use crate::scratch::Scratch;
 use cell_frame::{Cliques, Frame, LevelCliques};
+use rayon::current_num_threads;
 use rayon::prelude::*;
 use search_graph::{Cost, Weights};
 use std::alloc::{AllocError, Global};
 use std::thread::Threads;
 
 /// How many pieces the cells of a level are cut into.
-// Each has a search of its own and a table by vertex, so more of them
-// cost more memory and time than they bring on a machine of few processors.
 pub const PIECES: u32 = 16;
+
+/// How few pieces a thread takes, one behind another with one scratch: all of a level where there is one processor, and else
+/// as few as come to two threads a processor, since some pieces take longer than others.
+// A scratch has a table by vertex, so each more costs time and memory.
+pub fn least_share(rt: &impl Threads) -> usize {
+    if current_num_threads(rt) == 1 {
+        PIECES as usize
+    } else {
+        1
+    }
+}
 
 /// At which cell a piece of a level begins, of as many cells.
 pub fn cut(count: u32, place: u32) -> u32
@@ -36,6 +46,7 @@ fn piece<C: Cost>(
     cliques: &Cliques<C>,
     level: u32,
     place: u32,
+    scratch: &mut Scratch<C>,
 ) -> Result<Piece<C>, AllocError>
     requires ready { IsReady C.ops frame.now weights.now cliques.now level }
     requires place { place < 16 }
@@ -44,17 +55,7 @@ fn piece<C: Cost>(
     let count = frame.count(level);
     let from = cut(count, place);
     let to = cut(count, place + 1);
-    let mut scratch = Scratch::new(alloc);
-    cliques_of(
-        alloc,
-        frame,
-        weights,
-        cliques,
-        level,
-        from,
-        to,
-        &mut scratch,
-    )
+    cliques_of(alloc, frame, weights, cliques, level, from, to, scratch)
 }
 
 // The pieces of a level, in order.
@@ -71,12 +72,13 @@ fn pieces<C: Cost + Send + Sync>(
 {
     let done: Result<Vec<Piece<C>>, AllocError> = (0..PIECES)
         .into_par_iter()
-        .with_min_len(1)
-        .map(
-            |place: u32| -> Result<Piece<C>, AllocError>
+        .with_min_len(least_share(rt))
+        .map_init(
+            || Scratch::new(alloc),
+            |scratch: &mut Scratch<C>, place: u32| -> Result<Piece<C>, AllocError>
                 requires { IsReady C.ops frame.now weights.now cliques.now level × (place < 16) }
                 ensures { IfOk result (IsPiece C.ops frame.entry.now weights.entry.now level place) }
-            { piece(alloc, frame, weights, cliques, level, place) },
+            { piece(alloc, frame, weights, cliques, level, place, scratch) },
         )
         .collect(rt, alloc)?;
     done
