@@ -11,7 +11,7 @@ use crate::counting::entries_of;
 use crate::marking::{Changes, marks_of};
 use crate::pieces::cliques_of;
 use crate::recustomizing::Recustomized;
-use cell_customize::{PIECES, Piece, Scratch, cut, level_of};
+use cell_customize::{PIECES, Piece, Scratch, cut, least_share, level_of};
 use cell_frame::{Cliques, Frame, LevelCliques};
 use rayon::prelude::*;
 use search_graph::{Cost, Weights};
@@ -28,6 +28,7 @@ fn piece<C: Cost>(
     marks: &[bool],
     level: u32,
     place: u32,
+    scratch: &mut Scratch<C>,
 ) -> Result<Piece<C>, AllocError>
     requires prepared { IsPrepared C.ops frame.now weights.now old.now cliques.now marks.now level }
     requires place { place < 16 }
@@ -36,18 +37,8 @@ fn piece<C: Cost>(
     let count = frame.count(level);
     let from = cut(count, place);
     let to = cut(count, place + 1);
-    let mut scratch = Scratch::new(alloc);
     cliques_of(
-        alloc,
-        frame,
-        weights,
-        old,
-        cliques,
-        marks,
-        level,
-        from,
-        to,
-        &mut scratch,
+        alloc, frame, weights, old, cliques, marks, level, from, to, scratch,
     )
 }
 
@@ -67,12 +58,17 @@ fn pieces<C: Cost + Send + Sync>(
 {
     let done: Result<Vec<Piece<C>>, AllocError> = (0..PIECES)
         .into_par_iter()
-        .with_min_len(1)
-        .map(
-            |place: u32| -> Result<Piece<C>, AllocError>
+        .with_min_len(least_share(rt))
+        .map_init(
+            || Scratch::new(alloc),
+            |scratch: &mut Scratch<C>, place: u32| -> Result<Piece<C>, AllocError>
                 requires { IsPrepared C.ops frame.now weights.now old.now cliques.now marks.now level × (place < 16) }
                 ensures { IfOk result (IsPiece C.ops frame.entry.now weights.entry.now level place) }
-            { piece(alloc, frame, weights, old, cliques, marks, level, place) },
+            {
+                piece(
+                    alloc, frame, weights, old, cliques, marks, level, place, scratch,
+                )
+            },
         )
         .collect(rt, alloc)?;
     done
