@@ -73,28 +73,25 @@ pub(crate) fn values_for(
 fn truth_or(default: bool, name: &str, query: &str) -> bool
     ensures { result ≡ read_or default truth_of name.now (options_of query.now) }
 {
-    match last_value_of(name, query) {
-        Some(value) => truth_of(value).unwrap_or(default),
-        None => default,
-    }
+    last_value_of(name, query)
+        .and_then(|value| truth_of(value))
+        .unwrap_or(default)
 }
 
 fn snapping_in(query: &str) -> Snapping
     ensures { result ≡ read_or snapping.Default snapping_of (codes "snapping") (options_of query.now) }
 {
-    match last_value_of("snapping", query) {
-        Some(value) => snapping_of(value).unwrap_or(Snapping::Default),
-        None => Snapping::Default,
-    }
+    last_value_of("snapping", query)
+        .and_then(|value| snapping_of(value))
+        .unwrap_or(Snapping::Default)
 }
 
 fn since_in(query: &str) -> u32
     ensures { result ≡ read_or 0 since_of (codes "since") (options_of query.now) }
 {
-    match last_value_of("since", query) {
-        Some(value) => since_of(value).unwrap_or(0),
-        None => 0,
-    }
+    last_value_of("since", query)
+        .and_then(|value| since_of(value))
+        .unwrap_or(0)
 }
 
 // The names of the classes that are not to be used, None where no class is named.
@@ -207,64 +204,57 @@ fn trip_options(query: &str) -> TripOptions
 fn alternatives_in(query: &str) -> Alternatives
     ensures { result ≡ read_or alternatives.Off alternatives_of (codes "alternatives") (options_of query.now) }
 {
-    match last_value_of("alternatives", query) {
-        Some(value) => alternatives_of(value).unwrap_or(Alternatives::Off),
-        None => Alternatives::Off,
-    }
+    last_value_of("alternatives", query)
+        .and_then(|value| alternatives_of(value))
+        .unwrap_or(Alternatives::Off)
 }
 
 fn route_annotations_in(query: &str) -> RouteAnnotations
     ensures { result ≡ read_or (every_annotation false) route_annotations_of (codes "annotations") (options_of query.now) }
 {
-    match last_value_of("annotations", query) {
-        Some(value) => route_annotations_of(value).unwrap_or(every_annotation(false)),
-        None => every_annotation(false),
-    }
+    last_value_of("annotations", query)
+        .and_then(|value| route_annotations_of(value))
+        .unwrap_or(every_annotation(false))
 }
 
 fn geometries_in(query: &str) -> Geometries
     ensures { result ≡ read_or Polyline geometries_of (codes "geometries") (options_of query.now) }
 {
-    match last_value_of("geometries", query) {
-        Some(value) => geometries_of(value).unwrap_or(Geometries::Polyline),
-        None => Geometries::Polyline,
-    }
+    last_value_of("geometries", query)
+        .and_then(|value| geometries_of(value))
+        .unwrap_or(Geometries::Polyline)
 }
 
 fn overview_in(query: &str) -> Overview
     ensures { result ≡ read_or overview.Simplified overview_of (codes "overview") (options_of query.now) }
 {
-    match last_value_of("overview", query) {
-        Some(value) => overview_of(value).unwrap_or(Overview::Simplified),
-        None => Overview::Simplified,
-    }
+    last_value_of("overview", query)
+        .and_then(|value| overview_of(value))
+        .unwrap_or(Overview::Simplified)
 }
 
 fn continue_straight_in(query: &str) -> ContinueStraight
     ensures { result ≡ read_or straight.Default continue_straight_of (codes "continue_straight") (options_of query.now) }
 {
-    match last_value_of("continue_straight", query) {
-        Some(value) => continue_straight_of(value).unwrap_or(ContinueStraight::Default),
-        None => ContinueStraight::Default,
-    }
+    last_value_of("continue_straight", query)
+        .and_then(|value| continue_straight_of(value))
+        .unwrap_or(ContinueStraight::Default)
 }
 
 fn source_in(query: &str) -> Source
     ensures { result ≡ read_or source.Any source_of (codes "source") (options_of query.now) }
 {
-    match last_value_of("source", query) {
-        Some(value) => source_of(value).unwrap_or(Source::Any),
-        None => Source::Any,
-    }
+    last_value_of("source", query)
+        .and_then(|value| source_of(value))
+        .unwrap_or(Source::Any)
 }
 
 fn destination_in(query: &str) -> Destination
     ensures { result ≡ read_or destination.Any destination_of (codes "destination") (options_of query.now) }
 {
-    match last_value_of("destination", query) {
-        Some(value) => destination_of(value).unwrap_or(Destination::Any),
-        None => Destination::Any,
-    }
+    last_value_of("destination", query)
+        .and_then(|value| destination_of(value))
+        .unwrap_or(Destination::Any)
 }
 
 fn table_options(alloc: Global, count: usize, query: &str) -> Result<TableOptions, RequestFault>
@@ -284,10 +274,9 @@ fn table_options(alloc: Global, count: usize, query: &str) -> Result<TableOption
 fn table_annotations_in(query: &str) -> TableAnnotations
     ensures { result ≡ table_annotations (options_of query.now) }
 {
-    match last_value_of("annotations", query) {
-        Some(value) => table_annotations_of(value).unwrap_or(DURATION),
-        None => DURATION,
-    }
+    last_value_of("annotations", query)
+        .and_then(|value| table_annotations_of(value))
+        .unwrap_or(DURATION)
 }
 
 // The sources or the destinations of a table.
@@ -306,9 +295,8 @@ fn nearest_options(query: &str) -> NearestOptions
     ensures own { result ≡ nearest_options (options_of query.now) }
     ensures some { 1 ≤ result.number }
 {
-    let number = match last_value_of("number", query) {
-        Some(value) => number_of(value).unwrap_or(1),
-        None => 1,
-    };
+    let number = last_value_of("number", query)
+        .and_then(|value| number_of(value))
+        .unwrap_or(1);
     NearestOptions { number }
 }
