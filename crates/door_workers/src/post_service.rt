@@ -11,6 +11,7 @@ ghost use Rattle.door_workers.specs.Leading.{TendGives};
 ghost use Rattle.door_workers.specs.Serving.{AnsweredAt};
 ghost use Rattle.door_workers.specs.Settling.{HasReadAll};
 ghost use Rattle.metric_publish.specs.History.{IsKin, IsRun, last_number};
+ghost use Rattle.metric_publish.specs.Published.{published};
 
 use crate::control_loop::ControlPost;
 use crate::posts::Post;
@@ -56,14 +57,14 @@ where
     requires new { All (λ p. IsNewDoor (D.view p.door)) posts.old.items }
     requires fits { All (λ p. (x : V) → IsKin V.akin p.seat.seen.token.log x → Q.fits queries.now x) posts.old.items }
     requires control_new { IsNewDoor (D.view control.old.door) }
-    requires makes { (x : V) → C.makes controls.now x → IsKin V.akin desk.old.writer.desk.shown.value.front.token.log x }
-    ensures control { TendGives (C.rule controls.now) desk.old.writer.desk.shown.value.front.token.log desk.new.writer.desk.shown.value.front.token.log (D.view control.old.door) (D.view control.new.door) control.old.closer control.new.closer control.new.connections control.new.end }
+    requires makes { (x : V) → C.makes controls.now x → IsKin V.akin (published desk.old) x }
+    ensures control { TendGives (C.rule controls.now) (published desk.old) (published desk.new) (D.view control.old.door) (D.view control.new.door) control.old.closer control.new.closer control.new.connections control.new.end }
     ensures posts { AllZip (λ p q. AnsweredAt (Q.rule queries.now) (D.view p.door) (D.view q.door) p.seat.seen.token.log q.seat.seen.token.log q.connections) posts.old.items posts.new.items }
-    ensures all { result.short ≡ false → AllZip (λ p q. GoneToEnd (D.view p.door) (D.view q.door) (Q.rule queries.now desk.new.writer.desk.shown.value.front.token.log) q.connections) posts.old.items posts.new.items }
-    ensures learned { All (λ q. IsPrefix desk.new.writer.desk.shown.value.front.token.log q.seat.learned.token.log) posts.new.items }
-    ensures read { result.short ≡ false → Each posts.new.items (λ q. HasReadAll desk.new.writer.desk.shown.value.front.token.log q.seat.seen.token.log (view q.seat.reader.place).reads) }
-    ensures metric { result.metric ≡ last_number desk.new.writer.desk.shown.value.front.token.log }
-    ensures runs { IsRun desk.new.writer.desk.shown.value.front.token.log }
+    ensures all { result.short ≡ false → AllZip (λ p q. GoneToEnd (D.view p.door) (D.view q.door) (Q.rule queries.now (published desk.new)) q.connections) posts.old.items posts.new.items }
+    ensures learned { All (λ q. IsPrefix (published desk.new) q.seat.learned.token.log) posts.new.items }
+    ensures read { result.short ≡ false → Each posts.new.items (λ q. HasReadAll (published desk.new) q.seat.seen.token.log (view q.seat.reader.place).reads) }
+    ensures metric { result.metric ≡ last_number (published desk.new) }
+    ensures runs { IsRun (published desk.new) }
     ensures connections { result.connections ≡ min (sum_by (λ p. (D.view p.door).finished) posts.new.items + (D.view control.new.door).finished) (2 ^ 64 - 1) }
 {
     serve_doors(rt, queries, controls, posts, control, desk);

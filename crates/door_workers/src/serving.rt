@@ -9,6 +9,7 @@ ghost use Rattle.metric_publish.specs.Calls.{Each};
 ghost use Rattle.road_io.specs.DoorOpening.{IsNewDoor};
 ghost use Rattle.metric_publish.specs.declared.entry.Entry.{Entry};
 ghost use Rattle.metric_publish.specs.History.{IsKin, IsRun, last_number};
+ghost use Rattle.metric_publish.specs.Published.{published};
 ghost use Rattle.door_workers.specs.Serving.{Answered, AnsweredUnder, Tended};
 ghost use Rattle.door_workers.specs.Settling.{HasReadAll};
 
@@ -75,16 +76,16 @@ where
     requires new { All IsNewDoor (map D.view opened.queries.items) }
     requires control_new { IsNewDoor (D.view opened.control) }
     requires fits { All (λ s. (x : V) → IsKin V.akin s.seen.token.log x → Q.fits queries.now x) seats.old.items }
-    requires makes { (x : V) → C.makes controls.now x → IsKin V.akin desk.old.writer.desk.shown.value.front.token.log x }
-    ensures control { Tended (C.rule controls.now) desk.old.writer.desk.shown.value.front.token.log desk.new.writer.desk.shown.value.front.token.log (D.view opened.control) (D.view result.doors.control) (Some opened.closer) result.closer }
-    ensures all { result.short ≡ false → AllZip (λ d e. Answered d e (Q.rule queries.now desk.new.writer.desk.shown.value.front.token.log)) (map D.view opened.queries.items) (map D.view result.doors.queries.items) }
+    requires makes { (x : V) → C.makes controls.now x → IsKin V.akin (published desk.old) x }
+    ensures control { Tended (C.rule controls.now) (published desk.old) (published desk.new) (D.view opened.control) (D.view result.doors.control) (Some opened.closer) result.closer }
+    ensures all { result.short ≡ false → AllZip (λ d e. Answered d e (Q.rule queries.now (published desk.new))) (map D.view opened.queries.items) (map D.view result.doors.queries.items) }
     ensures each { (first : List (Entry V)) → All (λ s. IsPrefix first s.seen.token.log) seats.old.items → AllZip (λ d e. AnsweredUnder first d e (Q.rule queries.now)) (map D.view opened.queries.items) (map D.view result.doors.queries.items) }
     ensures doors { length result.doors.queries.items ≡ length opened.queries.items }
     ensures seats { vec_len seats.new ≡ vec_len seats.old }
-    ensures learned { All (λ s. IsPrefix desk.new.writer.desk.shown.value.front.token.log s.learned.token.log) seats.new.items }
-    ensures read { result.short ≡ false → Each seats.new.items (λ s. HasReadAll desk.new.writer.desk.shown.value.front.token.log s.seen.token.log (view s.reader.place).reads) }
-    ensures metric { result.metric ≡ last_number desk.new.writer.desk.shown.value.front.token.log }
-    ensures runs { IsRun desk.new.writer.desk.shown.value.front.token.log }
+    ensures learned { All (λ s. IsPrefix (published desk.new) s.learned.token.log) seats.new.items }
+    ensures read { result.short ≡ false → Each seats.new.items (λ s. HasReadAll (published desk.new) s.seen.token.log (view s.reader.place).reads) }
+    ensures metric { result.metric ≡ last_number (published desk.new) }
+    ensures runs { IsRun (published desk.new) }
     ensures connections { result.connections ≡ min (sum_by (λ d. d.finished) (map D.view result.doors.queries.items) + (D.view result.doors.control).finished) (2 ^ 64 - 1) }
 {
     let Opened {

@@ -5,6 +5,7 @@ ghost use Rattle.std.specs.List.{AllZip};
 ghost use Rattle.left_right.specs.Sides.{view};
 ghost use mathlib.Core.List.{IsPrefix};
 ghost use Rattle.metric_publish.specs.Calls.{Each};
+ghost use Rattle.metric_publish.specs.Published.{published};
 ghost use Rattle.door_workers.specs.Settling.{HasReadAll, IsSettled};
 
 use crate::posts::Post;
@@ -14,8 +15,8 @@ use metric_publish::{DeskOf, Kindred, Naming, Reading, Seat};
 /// Enter found no memory.
 pub fn settle<V: Kindred, J: Naming, D>(desk: &DeskOf<V, J>, post: &mut Post<D, Seat<V, J>>) -> bool
     ensures settled { IsSettled post.old post.new (λ s. s.seen.token.log) }
-    ensures learned { IsPrefix desk.now.writer.desk.shown.value.front.token.log post.new.seat.learned.token.log }
-    ensures all { IsTrue result → HasReadAll desk.now.writer.desk.shown.value.front.token.log post.new.seat.seen.token.log (view post.new.seat.reader.place).reads }
+    ensures learned { IsPrefix (published desk.now) post.new.seat.learned.token.log }
+    ensures all { IsTrue result → HasReadAll (published desk.now) post.new.seat.seen.token.log (view post.new.seat.reader.place).reads }
 {
     post.seat.learn(desk.tell());
     match post.seat.enter() {
@@ -30,8 +31,8 @@ pub fn settle_all<V: Kindred, J: Naming, D>(
     posts: &mut Vec<Post<D, Seat<V, J>>>,
 ) -> bool
     ensures settled { AllZip (λ p q. IsSettled p q (λ s. s.seen.token.log)) posts.old.items posts.new.items }
-    ensures learned { All (λ q. IsPrefix desk.now.writer.desk.shown.value.front.token.log q.seat.learned.token.log) posts.new.items }
-    ensures all { IsTrue result → Each posts.new.items (λ q. HasReadAll desk.now.writer.desk.shown.value.front.token.log q.seat.seen.token.log (view q.seat.reader.place).reads) }
+    ensures learned { All (λ q. IsPrefix (published desk.now) q.seat.learned.token.log) posts.new.items }
+    ensures all { IsTrue result → Each posts.new.items (λ q. HasReadAll (published desk.now) q.seat.seen.token.log (view q.seat.reader.place).reads) }
 {
     let mut all = true;
     for i in 0..posts.len() {

@@ -8,6 +8,7 @@ ghost use Rattle.control_port.specs.Controlling.{Board};
 ghost use Rattle.door_workers.specs.Settling.{HasReadAll};
 ghost use Rattle.metric_publish.specs.Calls.{Each};
 ghost use Rattle.metric_publish.specs.History.{IsRun, last_number};
+ghost use Rattle.metric_publish.specs.Published.{published};
 ghost use Rattle.road_io.specs.DoorOpening.{IsNewDoor, door_set};
 ghost use Rattle.road_io.specs.Faults.{Rose};
 ghost use Rattle.route_doors.specs.RoadDoors.{BeginsOn, IsServed, IsServedApart};
@@ -66,17 +67,17 @@ where
     requires control_new { IsNewDoor (D.view opened.control) }
     requires ends { grid.now ≡ all_ends roads.now.network.segments }
     requires seats_begin { All (λ s. BeginsOn roads.now s.seen.token.log) seats.old.items }
-    requires desk_begins { BeginsOn roads.now desk.old.writer.desk.shown.value.front.token.log }
-    ensures served { result.short ≡ false → IsServed roads.now desk.old.writer.desk.shown.value.front.token.log desk.new.writer.desk.shown.value.front.token.log (door_set (map D.view result.doors.queries.items) (D.view result.doors.control)) }
-    ensures apart { (opening : Board) → All (λ s. IsPrefix opening s.seen.token.log) seats.old.items → IsServedApart roads.now opening desk.old.writer.desk.shown.value.front.token.log desk.new.writer.desk.shown.value.front.token.log (door_set (map D.view result.doors.queries.items) (D.view result.doors.control)) }
+    requires desk_begins { BeginsOn roads.now (published desk.old) }
+    ensures served { result.short ≡ false → IsServed roads.now (published desk.old) (published desk.new) (door_set (map D.view result.doors.queries.items) (D.view result.doors.control)) }
+    ensures apart { (opening : Board) → All (λ s. IsPrefix opening s.seen.token.log) seats.old.items → IsServedApart roads.now opening (published desk.old) (published desk.new) (door_set (map D.view result.doors.queries.items) (D.view result.doors.control)) }
     ensures spent { IsNone result.closer ↔ (((D.view result.doors.control).ended ≡ false) ⊎ Rose 0 (D.view result.doors.control).faults) }
     ensures kept { IfSome result.closer (λ closer. closer ≡ opened.closer) }
     ensures doors { length result.doors.queries.items ≡ length opened.queries.items }
     ensures seats { vec_len seats.new ≡ vec_len seats.old }
-    ensures learned { All (λ s. IsPrefix desk.new.writer.desk.shown.value.front.token.log s.learned.token.log) seats.new.items }
-    ensures read { result.short ≡ false → Each seats.new.items (λ s. HasReadAll desk.new.writer.desk.shown.value.front.token.log s.seen.token.log (view s.reader.place).reads) }
-    ensures metric { result.metric ≡ last_number desk.new.writer.desk.shown.value.front.token.log }
-    ensures runs { IsRun desk.new.writer.desk.shown.value.front.token.log }
+    ensures learned { All (λ s. IsPrefix (published desk.new) s.learned.token.log) seats.new.items }
+    ensures read { result.short ≡ false → Each seats.new.items (λ s. HasReadAll (published desk.new) s.seen.token.log (view s.reader.place).reads) }
+    ensures metric { result.metric ≡ last_number (published desk.new) }
+    ensures runs { IsRun (published desk.new) }
     ensures connections { result.connections ≡ min (sum_by (λ d. d.finished) (map D.view result.doors.queries.items) + (D.view result.doors.control).finished) (2 ^ 64 - 1) }
 {
     let queries = Queries { alloc, gate, grid };

@@ -6,6 +6,7 @@ ghost use Rattle.std.specs.Vec.{vec_len, vec_capacity};
 ghost use Rattle.command_words.specs.Commands.{serving_seen};
 ghost use Rattle.metric_publish.specs.Calls.{Each};
 ghost use Rattle.metric_publish.specs.History.{entry};
+ghost use Rattle.metric_publish.specs.Published.{published};
 ghost use Rattle.control_port.specs.Controlling.{IsOn};
 ghost use Rattle.road_io.specs.DoorOpening.{IsNewDoor};
 ghost use Rattle.road_io.specs.Faults.{FilesRose, OutputRose, Rose};
@@ -77,7 +78,7 @@ where
     requires ends { start.now.grid ≡ all_ends start.now.roads.network.segments }
     requires on { IsOn start.now.roads (arc_value start.now.metric) }
     requires seats_begin { Each seats.old.items (λ s. s.seen.token.log ≡ entry 0 (arc_value start.now.metric) ∷ []) }
-    requires desk_begins { desk.old.writer.desk.shown.value.front.token.log ≡ entry 0 (arc_value start.now.metric) ∷ [] }
+    requires desk_begins { published desk.old ≡ entry 0 (arc_value start.now.metric) ∷ [] }
     requires out { length opened.queries.items + 1 ≤ (N.Doors.view doors.old).out }
     ensures { EndsOpened result (length opened.queries.items) start.now.roads (entry 0 (arc_value start.now.metric) ∷ []) (O.view output.old) (O.view output.new) (N.Doors.view doors.old) (N.Doors.view doors.new) }
 {
@@ -133,7 +134,7 @@ where
     requires ends { start.now.grid ≡ all_ends start.now.roads.network.segments }
     requires on { IsOn start.now.roads (arc_value start.now.metric) }
     requires seats_begin { Each seats.old.items (λ s. s.seen.token.log ≡ entry 0 (arc_value start.now.metric) ∷ []) }
-    requires desk_begins { desk.old.writer.desk.shown.value.front.token.log ≡ entry 0 (arc_value start.now.metric) ∷ [] }
+    requires desk_begins { published desk.old ≡ entry 0 (arc_value start.now.metric) ∷ [] }
     ensures { EndsStarted result (asked_in (serving_seen what.now)) start.now.roads (entry 0 (arc_value start.now.metric) ∷ []) (O.view output.old) (O.view output.new) (N.Doors.view doors.old) (N.Doors.view doors.new) }
 {
     match doors.open(rt, alloc, what.listen, what.control, what.workers) {
@@ -176,7 +177,7 @@ where
     requires ends { start.now.grid ≡ all_ends start.now.roads.network.segments }
     requires on { IsOn start.now.roads (arc_value start.now.metric) }
     requires seats_begin { Each seats.old.items (λ s. s.seen.token.log ≡ entry 0 (arc_value start.now.metric) ∷ []) }
-    requires desk_begins { desk.old.writer.desk.shown.value.front.token.log ≡ entry 0 (arc_value start.now.metric) ∷ [] }
+    requires desk_begins { published desk.old ≡ entry 0 (arc_value start.now.metric) ∷ [] }
     ensures { EndsStarted result (asked_in (serving_seen what.now)) start.now.roads (entry 0 (arc_value start.now.metric) ∷ []) (O.view output.old) (O.view output.new) (N.Doors.view doors.old) (N.Doors.view doors.new) }
 {
     match Vec::with_capacity(alloc, what.workers as usize) {
