@@ -46,6 +46,7 @@ fn costs_over<C: Cost>(
     over: &Over<C, TerminalCells>,
     starts: &[Start<C>],
     targets: &[Target<C>],
+    search: &mut Search<C>,
 ) -> Result<Vec<Option<C>>, AllocError>
     requires query { IsQuery C.ops over.now.frame.now over.now.weights.now over.now.cliques.now over.now.parts.now.vertices.items starts.now }
     requires cells { AreTerminalCells over.now.frame.now over.now.parts.now.vertices.items over.now.parts.now.levels.items }
@@ -53,10 +54,10 @@ fn costs_over<C: Cost>(
     ensures one_each { IfOk result (λ costs. length costs.items ≡ length targets.now) }
     ensures least { IfOk result (λ costs. (k : ℕ) (t : Target C) (cost : _) → slice_get targets.now k ≡ Some t → slice_get costs.items k ≡ Some cost → IsLeastCost C.ops over.now.frame.now over.now.weights.now starts.now t cost) }
 {
-    let mut search = Search::begin(alloc, over, starts)?;
+    search.restart(over, starts)?;
     let mut costs = Vec::with_capacity(alloc, targets.len())?;
     for target in targets {
-        let cost = cost_to(over, &mut search, starts, *target)?;
+        let cost = cost_to(over, search, starts, *target)?;
         costs.push(cost)?;
     }
     Ok(costs)
@@ -65,7 +66,7 @@ fn costs_over<C: Cost>(
 /// For each target what a cheapest walk from one of the starts to it costs, in the order of the targets, or `None` exactly
 /// where there is no walk. Where a walk begins and ends at one vertex, it leads round.
 ///
-/// It answers `Memory` where memory runs out.
+/// `search` is memory that is used again; nothing is asked of it. It answers `Memory` where memory runs out.
 pub fn least_costs<C: Cost>(
     alloc: Global,
     frame: &Frame,
@@ -73,6 +74,7 @@ pub fn least_costs<C: Cost>(
     cliques: &Cliques<C>,
     starts: &[Start<C>],
     targets: &[Target<C>],
+    search: &mut Search<C>,
 ) -> Result<Vec<Option<C>>, SearchFault>
     requires weights { AreSmall C.ops frame.now.graph weights.now }
     requires cliques { AreExact C.ops frame.now weights.now cliques.now (length frame.now.cells.levels) }
@@ -92,6 +94,6 @@ pub fn least_costs<C: Cost>(
     parts.alone(frame);
     parts.known(frame);
     over.known();
-    let costs = costs_over(alloc, &over, starts, targets)?;
+    let costs = costs_over(alloc, &over, starts, targets, search)?;
     Ok(costs)
 }

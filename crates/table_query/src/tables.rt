@@ -18,6 +18,7 @@ use rayon::prelude::*;
 use search_graph::{Cost, Start, Target, Weights};
 use std::alloc::Global;
 use std::thread::Threads;
+use step_search::Search;
 
 // What each row of a table is made by: the costs and cliques that its searches go by, and the columns. `all` are the
 // targets of all columns.
@@ -30,11 +31,12 @@ struct Columns<'a, C: Cost> {
     all: &'a [Target<C>],
 }
 
-// The row from these starts.
+// The row from these starts. The search may be any: it is begun anew, in the memory that it has.
 fn row<C: Cost>(
     alloc: Global,
     columns: &Columns<C>,
     starts: &[Start<C>],
+    search: &mut Search<C>,
 ) -> Result<Row<C>, SearchFault>
     requires ready { AreReady C.ops columns.now.frame.now columns.now.weights.now columns.now.cliques.now columns.now.targets.now columns.now.all.now }
     requires starts { (s : Start C) → Contains starts.now s → (s.vertex < columns.now.frame.now.graph.vertices) × C.ops.units s.cost 1 }
@@ -47,6 +49,7 @@ fn row<C: Cost>(
         columns.cliques,
         starts,
         columns.all,
+        search,
     )?;
     let targets = columns.targets;
     let mut values = Vec::with_capacity(alloc, targets.len())?;
@@ -59,7 +62,8 @@ fn row<C: Cost>(
     Ok(Row::of(values))
 }
 
-// The rows, side by side, as many at once as there are processors. A single row is made by the calling thread.
+// The rows, side by side, as many at once as there are processors, those of a thread with one search. A single row is made by
+// the calling thread.
 fn rows_in_threads<C: Cost + Send + Sync>(
     rt: &(impl Threads + Sync),
     alloc: Global,
@@ -73,11 +77,12 @@ fn rows_in_threads<C: Cost + Send + Sync>(
     let done: Result<Vec<Row<C>>, SearchFault> = sources
         .par_iter()
         .with_min_len(1)
-        .map(
-            |starts: &Starts<C>| -> Result<Row<C>, SearchFault>
+        .map_init(
+            || Search::new(alloc),
+            |search: &mut Search<C>, starts: &Starts<C>| -> Result<Row<C>, SearchFault>
                 requires { AreReady C.ops columns.now.frame.now columns.now.weights.now columns.now.cliques.now columns.now.targets.now columns.now.all.now × ((s : Start C) → Contains starts.now s → (s.vertex < columns.now.frame.now.graph.vertices) × C.ops.units s.cost 1) }
                 ensures { IfOk result (IsRow C.ops columns.entry.now.frame.now.graph columns.entry.now.weights.now columns.entry.now.targets.now starts.now) }
-            { row(alloc, columns, starts.as_slice()) },
+            { row(alloc, columns, starts.as_slice(), search) },
         )
         .collect(rt, alloc)?;
     done

@@ -114,6 +114,7 @@ pub fn least_costs_told(
     let vertices = overlay.frame.graph().vertices();
     let starts = starts(alloc, vertices, from)?;
     let targets = targets(alloc, vertices, to)?;
+    let mut search = Box::new(alloc, Search::new(alloc))?;
     let costs = least_costs(
         alloc,
         &overlay.frame,
@@ -121,6 +122,7 @@ pub fn least_costs_told(
         &overlay.cliques,
         &starts,
         &targets,
+        &mut search,
     )?;
     Ok(costs_told(alloc, &costs)?)
 }

@@ -5,11 +5,8 @@ use Rattle.overlay_query.proofs.Finding.{AreStarts-query}
 use Rattle.overlay_query.proofs.Turns.{one_more}
 use Rattle.overlay_query.proofs.costs.costs_over.Goals as goal
 
-pub begin-requires-clause-space : goal.begin-requires-clause-space
-begin-requires-clause-space g c = c.requires.query.lawful.space
-
-pub begin-requires-clause-starts : goal.begin-requires-clause-starts
-begin-requires-clause-starts g c = AreStarts-query g.met.C.Cost.laws _ _ _ _ _ c.requires.query
+pub restart-requires-clause-starts : goal.restart-requires-clause-starts
+restart-requires-clause-starts g c = AreStarts-query g.met.C.Cost.laws _ _ _ _ _ c.requires.query
 
 pub cost_to-requires-clause-target : goal.cost_to-requires-clause-target
 cost_to-requires-clause-target g c = c.requires.targets c.target-item.result (c.loop-target.target-index, c.loop-target-test.true, sym c.target-item.is)

@@ -2,7 +2,7 @@
 use Rattle.std.proofs.Common.{List, subst}
 use Rattle.std.specs.List.{Contains}
 use Rattle.search_graph.specs.declared.ends.Start.{Start}
-use Rattle.table_query.proofs.tables.fn.rows_in_threads.map.Goals as goal
+use Rattle.table_query.proofs.tables.fn.rows_in_threads.map_init+arg2.Goals as goal
 
 pub row-requires : goal.row-requires
 row-requires g c = record {
