@@ -12,7 +12,7 @@ use Rattle.list_lemmas.proofs.Fronts.{all_zip-each, all_zip-first, slice_get-zip
 use Rattle.road_base.specs.declared.coordinates.Point.{Point}
 use Rattle.road_base.specs.declared.segments.Place.{Place}
 use Rattle.geo_integer.specs.Position.{position_of}
-use Rattle.road_places.specs.Places.{IsPlaceOn}
+use Rattle.road_places.specs.Places.{ArePlacesOn, IsPlaceOn}
 use Rattle.metric_make.specs.RoadMetric.{RoadMetric, road_of}
 use Rattle.road_places.specs.declared.walks.Route.{Route}
 use Rattle.search_graph.specs.declared.costs.WeightDurLen.{WeightDurLen}
@@ -59,7 +59,7 @@ module _ (road : RoadMetric) (asked : List (Point × Filter)) (places : List Pla
   pub are-snapped : AllZip (StandsFor road) asked places
   are-snapped = all_zip-each (IsFoundFor road) (StandsFor road) (λ c p k. k.0) asked places h
 
-  pub are-placed : (k : ℕ) (place : Place) → slice_get places k ≡ Some place → IsPlaceOn road.network place
+  pub are-placed : ArePlacesOn road.network places
   are-placed k place at = let of = all_zip-first (IsFoundFor road) asked places k place h at in of.1.1
 
 -- there are as many coordinates with filters as there are coordinates
@@ -182,7 +182,7 @@ route-told number skip telling points road network base places given routes walk
 
 -- and its legs are told in steps that add up
 pub told-in-steps : (road : RoadMetric) (network : NetworkView) (places given : List Place) (routes : List Route) → network ≡ road.network → given ≡ places
-    → IsSimple network.turns → AllInRange (2 * length network.segments) network.turns → ((k : ℕ) (place : Place) → slice_get places k ≡ Some place → IsPlaceOn road.network place) → AreAlong road places routes → All IsToldInSteps (legs_told road given routes)
+    → IsSimple network.turns → AllInRange (2 * length network.segments) network.turns → ArePlacesOn road.network places → AreAlong road places routes → All IsToldInSteps (legs_told road given routes)
 told-in-steps road network places given routes n p simple range on along =
     subst (λ (x : List Place). All IsToldInSteps (legs_told road x routes)) (sym p)
     (legs_told-steps road places routes (subst (λ (x : NetworkView). IsSimple x.turns) n simple)

@@ -9,7 +9,7 @@ use Rattle.std.proofs.lemmas.List.{take_more}
 use Rattle.std.proofs.lemmas.List.Sums.{AllPass-from_list_all}
 use Rattle.road_base.specs.declared.segments.Place.{Place}
 use Rattle.edge_graph.specs.NetworkView.{NetworkView}
-use Rattle.road_places.specs.Places.{IsPlaceOn}
+use Rattle.road_places.specs.Places.{ArePlacesOn, IsPlaceOn}
 use Rattle.option_values.specs.declared.option_types.Chosen.{Chosen}
 use Rattle.option_values.specs.declared.option_types.Chosen.TheVariants.{All, Only}
 use Rattle.reply_core.specs.Asked.{chosen_from}
@@ -45,8 +45,8 @@ module _ {A : Type 0} (P : A → Type 0) (all : List A) (each : (k : ℕ) (x : A
   chosen-each (Only indexes) k x at = picked-each indexes k x at
 
 -- the chosen places are on the network where all are
-pub chosen-placed : (network : NetworkView) (which : Chosen) (places given chosen : List Place) → ((k : ℕ) (place : Place) → slice_get places k ≡ Some place → IsPlaceOn network place) → given ≡ places → chosen ≡ chosen_from which given
-    → (k : ℕ) (place : Place) → slice_get chosen k ≡ Some place → IsPlaceOn network place
+pub chosen-placed : (network : NetworkView) (which : Chosen) (places given chosen : List Place) → ArePlacesOn network places → given ≡ places → chosen ≡ chosen_from which given
+    → ArePlacesOn network chosen
 chosen-placed network which places given chosen placed same is k place at =
     chosen-each (IsPlaceOn network) places placed which k place (sym (ap (λ (xs : List Place). slice_get xs k) (is ∙ ap (chosen_from which) same)) ∙ at)
 

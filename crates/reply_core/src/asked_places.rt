@@ -1,8 +1,8 @@
 //! The places of what a request asks for.
 
-ghost use Rattle.std.specs.Prelude.{◌≡◌, ℕ, ◌^◌, ◌<◌, Some, IfOk, IfErr, IfSome, MatchOption, length, option_map};
+ghost use Rattle.std.specs.Prelude.{◌≡◌, ◌^◌, ◌<◌, Some, IfOk, IfErr, IfSome, MatchOption, length, option_map};
 ghost use Rattle.std.specs.List.{AllZip, slice_get};
-ghost use Rattle.road_places.specs.Places.{IsPlaceOn};
+ghost use Rattle.road_places.specs.Places.{ArePlacesOn, IsPlaceOn};
 ghost use Rattle.snap_index.specs.Ends.{all_ends};
 ghost use Rattle.reply_core.specs.Asked.{asked_in, filter_of, heading_of};
 ghost use Rattle.reply_core.specs.Faults.{IsPlaceFault};
@@ -27,7 +27,7 @@ pub(crate) fn places_of(
     requires radiuses { length request.now.radiuses ≡ length request.now.points }
     requires bearings { length request.now.bearings ≡ length request.now.points }
     ensures snapped { IfOk result (λ places. AllZip (StandsFor under.now.road) (asked_in request.now) places.items) }
-    ensures placed { IfOk result (λ places. (k : ℕ) (place : _) → slice_get places.items k ≡ Some place → IsPlaceOn under.now.road.network place) }
+    ensures placed { IfOk result (λ places. ArePlacesOn under.now.road.network places.items) }
     ensures err { IfErr result (IsPlaceFault under.now.road (asked_in request.now)) }
 {
     let count = request.points.as_slice().len();

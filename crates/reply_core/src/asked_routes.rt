@@ -1,8 +1,7 @@
 //! The routes of what a request asks for.
 
-ghost use Rattle.std.specs.Prelude.{◌≡◌, ℕ, ◌+◌, ◌^◌, ◌<◌, ◌≤◌, Some, IfOk, IfErr, length};
-ghost use Rattle.std.specs.List.{slice_get};
-ghost use Rattle.road_places.specs.Places.{IsPlaceOn};
+ghost use Rattle.std.specs.Prelude.{◌≡◌, ◌+◌, ◌^◌, ◌<◌, ◌≤◌, IfOk, IfErr, length};
+ghost use Rattle.road_places.specs.Places.{ArePlacesOn};
 ghost use Rattle.road_walks.specs.Least.{most_units};
 ghost use Rattle.road_walks.specs.Legs.{AreAlong, AreWithinUnits};
 ghost use Rattle.reply_core.specs.Faults.{IsLegFaultBy};
@@ -28,7 +27,7 @@ pub(crate) fn routes_of(
 ) -> Result<Vec<Route>, LegFault>
     requires some { 2 ≤ length places.now }
     requires few { length places.now < 2 ^ 32 }
-    requires placed { (k : ℕ) (place : _) → slice_get places.now k ≡ Some place → IsPlaceOn under.now.road.network place }
+    requires placed { ArePlacesOn under.now.road.network places.now }
     ensures one_each { IfOk result (λ routes. length routes.items + 1 ≡ length places.now) }
     ensures along { IfOk result (λ routes. AreAlong under.now.road places.now routes.items) }
     ensures least { IfOk result (λ routes. AreLeastBy straight under.now.road places.now routes.items) }

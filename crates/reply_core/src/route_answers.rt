@@ -1,8 +1,7 @@
 //! Answers to requests for a route.
 
-ghost use Rattle.std.specs.Prelude.{◌≡◌, ℕ, ◌^◌, ◌<◌, Some, All, IfOk, IfErr, length, map};
-ghost use Rattle.std.specs.List.{slice_get};
-ghost use Rattle.road_places.specs.Places.{IsPlaceOn};
+ghost use Rattle.std.specs.Prelude.{◌≡◌, ◌^◌, ◌<◌, All, IfOk, IfErr, length, map};
+ghost use Rattle.road_places.specs.Places.{ArePlacesOn};
 ghost use Rattle.road_walks.specs.Legs.{AreAlong};
 ghost use Rattle.snap_index.specs.Ends.{all_ends};
 ghost use Rattle.url_read.specs.Request.{IsFitting};
@@ -71,7 +70,7 @@ fn told(
 ) -> Result<Answer, AllocError>
     requires few { length under.now.road.network.segments < 2 ^ 30 }
     requires as_many { length places.items ≡ length request.now.points }
-    requires placed { (k : ℕ) (place : _) → slice_get places.items k ≡ Some place → IsPlaceOn under.now.road.network place }
+    requires placed { ArePlacesOn under.now.road.network places.items }
     requires along { AreAlong under.now.road places.items routes.items }
     requires legs { length routes.items < 2 ^ 32 }
     requires small { AreSmall routes.items }

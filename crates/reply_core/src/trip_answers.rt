@@ -1,8 +1,8 @@
 //! Answers to requests for a trip.
 
-ghost use Rattle.std.specs.Prelude.{◌≡◌, ℕ, ◌^◌, ◌<◌, Some, IfOk, IfErr, length};
-ghost use Rattle.std.specs.List.{AllZip, slice_get};
-ghost use Rattle.road_places.specs.Places.{IsPlaceOn};
+ghost use Rattle.std.specs.Prelude.{◌≡◌, ◌^◌, ◌<◌, IfOk, IfErr, length};
+ghost use Rattle.std.specs.List.{AllZip};
+ghost use Rattle.road_places.specs.Places.{ArePlacesOn};
 ghost use Rattle.road_trips.specs.Trips.{IsBounded, IsTripThrough};
 ghost use Rattle.snap_index.specs.Ends.{all_ends};
 ghost use Rattle.url_read.specs.Request.{IsFitting};
@@ -76,7 +76,7 @@ fn told(
 ) -> Result<Answer, AllocError>
     requires few { length under.now.road.network.segments < 2 ^ 30 }
     requires as_many { length places.items ≡ length request.now.points }
-    requires placed { (k : ℕ) (place : _) → slice_get places.items k ≡ Some place → IsPlaceOn under.now.road.network place }
+    requires placed { ArePlacesOn under.now.road.network places.items }
     requires recent { IsRecent number request.now }
     requires snapped { AllZip (StandsFor under.now.road) (asked_in request.now) places.items }
     requires trip { IsTripThrough under.now.road places.items (rule_of own.now) trip }

@@ -1,12 +1,12 @@
 -- What is told of a leg in steps is the leg.
-use Rattle.std.specs.Prelude.{◌≡◌, ℕ, ◌*◌, ◌-◌, suc, List, [], ◌∷◌, All, Some, drop, length, map, refl, take}
-use Rattle.std.specs.List.{AllZip, slice_get, zip}
+use Rattle.std.specs.Prelude.{◌≡◌, ◌*◌, ◌-◌, suc, List, [], ◌∷◌, All, drop, length, map, refl, take}
+use Rattle.std.specs.List.{AllZip, zip}
 use Rattle.std.proofs.lemmas.List.Elements.{All-cons, All-head, All-map, All-nil, All-tail}
 use Rattle.road_base.specs.declared.segments.Place.{Place}
 use Rattle.search_graph.specs.Faults.{AllInRange}
 use Rattle.road_turns.specs.Turn.{IsSimple}
 use Rattle.road_places.specs.Paid.{total_of}
-use Rattle.road_places.specs.Places.{IsPlaceOn}
+use Rattle.road_places.specs.Places.{ArePlacesOn, IsPlaceOn}
 use Rattle.metric_make.specs.RoadMetric.{RoadMetric}
 use Rattle.road_places.specs.declared.walks.Route.{Route}
 use Rattle.route_steps.specs.StepLaws.{steps_along-cost, steps_along-line}
@@ -30,14 +30,14 @@ module _ (road : RoadMetric) where
   abbrev pub AreEndsOn : Place × Place → Type 0
   AreEndsOn ends = IsPlaceOn road.network ends.0 × IsPlaceOn road.network ends.1
 
-  ends-on : (places : List Place) → ((k : ℕ) (place : Place) → slice_get places k ≡ Some place → IsPlaceOn road.network place) → All AreEndsOn (zip places (drop 1 places))
+  ends-on : (places : List Place) → ArePlacesOn road.network places → All AreEndsOn (zip places (drop 1 places))
   ends-on [] on = All-nil AreEndsOn
   ends-on (p ∷ []) on = All-nil AreEndsOn
   ends-on (p ∷ q ∷ more) on = All-cons AreEndsOn (p, q) (zip (q ∷ more) more) (on 0 p refl, on 1 q refl) (ends-on (q ∷ more) (λ k place at. on (suc k) place at))
 
   -- each leg of a route on roads is told in steps
   pub legs_told-steps : (places : List Place) (routes : List Route) → IsSimple road.network.turns → AllInRange (2 * length road.network.segments) road.network.turns
-      → ((k : ℕ) (place : Place) → slice_get places k ≡ Some place → IsPlaceOn road.network place) → ArePermitted road places routes → All IsToldInSteps (legs_told road places routes)
+      → ArePlacesOn road.network places → ArePermitted road places routes → All IsToldInSteps (legs_told road places routes)
   legs_told-steps places routes simple range on permitted =
       All-map IsToldInSteps (leg_told road) (ends_and_routes places routes)
       (zip-all AreEndsOn (IsPermittedLeg road) (λ (leg : (Place × Place) × Route). IsToldInSteps (leg_told road leg))

@@ -1,13 +1,12 @@
 //! The legs of routes.
 
-ghost use Rattle.std.specs.Prelude.{◌≡◌, ℕ, ◌^◌, [], Some, OnOk, codes, map};
-ghost use Rattle.std.specs.List.{slice_get};
+ghost use Rattle.std.specs.Prelude.{◌≡◌, ◌^◌, [], OnOk, codes, map};
 ghost use Rattle.json_text.specs.Drafts.{TakesKey, TakesValue, with_value};
 ghost use Rattle.json_text.specs.Wholes.{array_of, with_members};
 ghost use Rattle.search_graph.specs.RoadCosts.{road_cost_ops};
 ghost use Rattle.road_places.specs.Paid.{paid_along};
 ghost use Rattle.road_places.specs.Permitted.{IsPermitted};
-ghost use Rattle.road_places.specs.Places.{IsPlaceOn};
+ghost use Rattle.road_places.specs.Places.{ArePlacesOn, IsPlaceOn};
 ghost use Rattle.metric_make.specs.RoadMetric.{road_of};
 ghost use Rattle.route_steps.specs.Annotations.{nodes_along};
 ghost use Rattle.route_steps.specs.Steps.{steps_along};
@@ -126,7 +125,7 @@ pub(crate) fn push_legs(
     routes: &[Route],
 ) -> Result<(), AllocError>
     requires takes { TakesValue json.old }
-    requires placed { (k : ℕ) (place : Place) → slice_get places.now k ≡ Some place → IsPlaceOn network.now place }
+    requires placed { ArePlacesOn network.now places.now }
     requires permitted { ArePermitted (road_of network.now base.now) places.now routes.now }
     requires small { AreSmall routes.now }
     ensures { OnOk result (json.new ≡ with_value (array_of (map (leg_value telling.now (driving_side network.now.profile)) (legs_told (road_of network.now base.now) places.now routes.now))) json.old) }

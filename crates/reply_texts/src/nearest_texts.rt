@@ -1,9 +1,8 @@
 //! Replies with the places next to a coordinate.
 
-ghost use Rattle.std.specs.Prelude.{◌≡◌, ℕ, ◌^◌, ◌<◌, Some, IfOk, length, string_bytes};
-ghost use Rattle.std.specs.List.{slice_get};
+ghost use Rattle.std.specs.Prelude.{◌≡◌, ◌^◌, ◌<◌, IfOk, length, string_bytes};
 ghost use Rattle.json_text.specs.Values.{compact_text};
-ghost use Rattle.road_places.specs.Places.{IsPlaceOn};
+ghost use Rattle.road_places.specs.Places.{ArePlacesOn};
 ghost use Rattle.reply_texts.specs.Replies.{nearest_reply};
 
 use crate::waypoints::push_neighbours;
@@ -22,7 +21,7 @@ pub fn nearest_text(
     places: &[Place],
 ) -> Result<String, AllocError>
     requires few { length network.now.segments < 2 ^ 30 }
-    requires placed { (k : ℕ) (place : Place) → slice_get places.now k ≡ Some place → IsPlaceOn network.now place }
+    requires placed { ArePlacesOn network.now places.now }
     ensures { IfOk result (λ text. string_bytes text ≡ compact_text (nearest_reply number network.now.segments coordinate places.now)) }
 {
     let mut json = Json::new(alloc);

@@ -1,10 +1,9 @@
 //! The points of routes.
 
-ghost use Rattle.std.specs.Prelude.{◌≡◌, ℕ, Some, IfOk, OnOk, codes, map};
-ghost use Rattle.std.specs.List.{slice_get};
+ghost use Rattle.std.specs.Prelude.{◌≡◌, IfOk, OnOk, codes, map};
 ghost use Rattle.json_text.specs.Drafts.{TakesKey};
 ghost use Rattle.json_text.specs.Wholes.{optional_member, with_members};
-ghost use Rattle.road_places.specs.Places.{IsPlaceOn};
+ghost use Rattle.road_places.specs.Places.{ArePlacesOn};
 ghost use Rattle.metric_make.specs.RoadMetric.{road_of};
 ghost use Rattle.route_steps.specs.Steps.{joined};
 ghost use Rattle.step_texts.specs.Lines.{overview_line};
@@ -39,7 +38,7 @@ fn line_points(
     places: &[Place],
     routes: &[Route],
 ) -> Result<Vec<Point>, AllocError>
-    requires placed { (k : ℕ) (place : Place) → slice_get places.now k ≡ Some place → IsPlaceOn network.now place }
+    requires placed { ArePlacesOn network.now places.now }
     requires permitted { ArePermitted (road_of network.now base.now) places.now routes.now }
     ensures { IfOk result (λ points. points.items ≡ joined (map (λ leg. leg.points) (legs_told (road_of network.now base.now) places.now routes.now))) }
 {
@@ -63,7 +62,7 @@ pub(crate) fn push_route_line(
     routes: &[Route],
 ) -> Result<(), AllocError>
     requires takes { TakesKey json.old }
-    requires placed { (k : ℕ) (place : Place) → slice_get places.now k ≡ Some place → IsPlaceOn network.now place }
+    requires placed { ArePlacesOn network.now places.now }
     requires permitted { ArePermitted (road_of network.now base.now) places.now routes.now }
     ensures ok { OnOk result (json.new ≡ with_members (optional_member (codes "geometry") (overview_line telling.now.overview telling.now.geometries (joined (map (λ leg. leg.points) (legs_told (road_of network.now base.now) places.now routes.now))))) json.old) }
     ensures more { OnOk result (TakesKey json.new) }

@@ -1,11 +1,10 @@
 //! Replies with a route.
 
-ghost use Rattle.std.specs.Prelude.{◌≡◌, ℕ, ◌^◌, ◌<◌, Some, IfOk, OnOk, [], ◌∷◌, length, map, string_bytes, sum_by};
-ghost use Rattle.std.specs.List.{slice_get};
+ghost use Rattle.std.specs.Prelude.{◌≡◌, ◌^◌, ◌<◌, IfOk, OnOk, [], ◌∷◌, length, map, string_bytes, sum_by};
 ghost use Rattle.json_text.specs.Values.{compact_text};
 ghost use Rattle.json_text.specs.Drafts.{TakesValue, with_value};
 ghost use Rattle.json_text.specs.Wholes.{array_of};
-ghost use Rattle.road_places.specs.Places.{IsPlaceOn};
+ghost use Rattle.road_places.specs.Places.{ArePlacesOn};
 ghost use Rattle.metric_make.specs.RoadMetric.{road_of};
 ghost use Rattle.reply_texts.specs.Legs.{route_totals, route_value};
 ghost use Rattle.reply_texts.specs.Replies.{route_reply};
@@ -82,7 +81,7 @@ fn push_route(
 ) -> Result<(), AllocError>
     requires takes { TakesValue json.old }
     requires legs { length routes.now < 2 ^ 32 }
-    requires placed { (k : ℕ) (place : Place) → slice_get places.now k ≡ Some place → IsPlaceOn network.now place }
+    requires placed { ArePlacesOn network.now places.now }
     requires permitted { ArePermitted (road_of network.now base.now) places.now routes.now }
     requires small { AreSmall routes.now }
     ensures { OnOk result (json.new ≡ with_value (route_value telling.now network.now.profile (legs_told (road_of network.now base.now) places.now routes.now)) json.old) }
@@ -110,7 +109,7 @@ pub(crate) fn push_routes(
 ) -> Result<(), AllocError>
     requires takes { TakesValue json.old }
     requires legs { length routes.now < 2 ^ 32 }
-    requires placed { (k : ℕ) (place : Place) → slice_get places.now k ≡ Some place → IsPlaceOn network.now place }
+    requires placed { ArePlacesOn network.now places.now }
     requires permitted { ArePermitted (road_of network.now base.now) places.now routes.now }
     requires small { AreSmall routes.now }
     ensures { OnOk result (json.new ≡ with_value (array_of (route_value telling.now network.now.profile (legs_told (road_of network.now base.now) places.now routes.now) ∷ [])) json.old) }
@@ -137,7 +136,7 @@ pub fn route_text(
     requires few { length network.now.segments < 2 ^ 30 }
     requires legs { length routes.now < 2 ^ 32 }
     requires as_many { length places.now ≡ length request.now.points }
-    requires placed { (k : ℕ) (place : Place) → slice_get places.now k ≡ Some place → IsPlaceOn network.now place }
+    requires placed { ArePlacesOn network.now places.now }
     requires permitted { ArePermitted (road_of network.now base.now) places.now routes.now }
     requires small { AreSmall routes.now }
     ensures { IfOk result (λ text. string_bytes text ≡ compact_text (route_reply number request.now.skip_waypoints telling.now network.now.profile (legs_told (road_of network.now base.now) places.now routes.now) (waypoints_of network.now.segments request.now.points places.now))) }

@@ -1,11 +1,10 @@
 //! Replies with a table of costs.
 
-ghost use Rattle.std.specs.Prelude.{◌≡◌, ℕ, ◌^◌, ◌<◌, Some, IfOk, OnOk, length, string_bytes};
-ghost use Rattle.std.specs.List.{slice_get};
+ghost use Rattle.std.specs.Prelude.{◌≡◌, ◌^◌, ◌<◌, IfOk, OnOk, length, string_bytes};
 ghost use Rattle.json_text.specs.Values.{compact_text};
 ghost use Rattle.json_text.specs.Drafts.{TakesKey};
 ghost use Rattle.json_text.specs.Wholes.{with_members};
-ghost use Rattle.road_places.specs.Places.{IsPlaceOn};
+ghost use Rattle.road_places.specs.Places.{ArePlacesOn};
 ghost use Rattle.reply_texts.specs.Costs.{rows_value};
 ghost use Rattle.reply_texts.specs.Optional.{member_if};
 ghost use Rattle.reply_texts.specs.Replies.{table_reply};
@@ -56,9 +55,9 @@ pub fn table_text(
 ) -> Result<String, AllocError>
     requires few { length network.now.segments < 2 ^ 30 }
     requires sources { length sources.now.places.now ≡ length sources.now.coordinates.now }
-    requires sources_placed { (k : ℕ) (place : Place) → slice_get sources.now.places.now k ≡ Some place → IsPlaceOn network.now place }
+    requires sources_placed { ArePlacesOn network.now sources.now.places.now }
     requires destinations { length destinations.now.places.now ≡ length destinations.now.coordinates.now }
-    requires destinations_placed { (k : ℕ) (place : Place) → slice_get destinations.now.places.now k ≡ Some place → IsPlaceOn network.now place }
+    requires destinations_placed { ArePlacesOn network.now destinations.now.places.now }
     ensures { IfOk result (λ text. string_bytes text ≡ compact_text (table_reply number request.now.skip_waypoints asked rows.now (waypoints_of network.now.segments sources.now.coordinates.now sources.now.places.now) (waypoints_of network.now.segments destinations.now.coordinates.now destinations.now.places.now))) }
 {
     let skip = request.skip_waypoints;

@@ -1,9 +1,8 @@
 //! Replies with a trip.
 
-ghost use Rattle.std.specs.Prelude.{◌≡◌, ℕ, ◌^◌, ◌<◌, Some, IfOk, length, string_bytes};
-ghost use Rattle.std.specs.List.{slice_get};
+ghost use Rattle.std.specs.Prelude.{◌≡◌, ◌^◌, ◌<◌, IfOk, length, string_bytes};
 ghost use Rattle.json_text.specs.Values.{compact_text};
-ghost use Rattle.road_places.specs.Places.{IsPlaceOn};
+ghost use Rattle.road_places.specs.Places.{ArePlacesOn};
 ghost use Rattle.metric_make.specs.RoadMetric.{road_of};
 ghost use Rattle.reply_texts.specs.Replies.{trip_reply};
 ghost use Rattle.reply_texts.specs.RouteLegs.{ArePermitted, AreSmall, legs_told};
@@ -48,8 +47,8 @@ pub fn trip_text(
     requires few { length network.now.segments < 2 ^ 30 }
     requires legs { length routes.now < 2 ^ 32 }
     requires as_many { length tour.now.places.now ≡ length request.now.points }
-    requires placed { (k : ℕ) (place : Place) → slice_get tour.now.places.now k ≡ Some place → IsPlaceOn network.now place }
-    requires stops_placed { (k : ℕ) (place : Place) → slice_get tour.now.stops.now k ≡ Some place → IsPlaceOn network.now place }
+    requires placed { ArePlacesOn network.now tour.now.places.now }
+    requires stops_placed { ArePlacesOn network.now tour.now.stops.now }
     requires permitted { ArePermitted (road_of network.now base.now) tour.now.stops.now routes.now }
     requires small { AreSmall routes.now }
     ensures { IfOk result (λ text. string_bytes text ≡ compact_text (trip_reply number request.now.skip_waypoints telling.now network.now.profile (legs_told (road_of network.now base.now) tour.now.stops.now routes.now) (trip_waypoints_of network.now.segments request.now.points tour.now.places.now tour.now.order.now))) }

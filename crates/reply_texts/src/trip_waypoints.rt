@@ -1,10 +1,10 @@
 //! What replies tell of the places that a trip goes through.
 
-ghost use Rattle.std.specs.Prelude.{◌≡◌, ℕ, ◌^◌, ◌<◌, ◌==◌, Some, OnOk, codes, length};
-ghost use Rattle.std.specs.List.{position, position_or_len, slice_get};
+ghost use Rattle.std.specs.Prelude.{◌≡◌, ◌^◌, ◌<◌, ◌==◌, OnOk, codes, length};
+ghost use Rattle.std.specs.List.{position, position_or_len};
 ghost use Rattle.json_text.specs.Drafts.{TakesKey, TakesValue, with_value};
 ghost use Rattle.json_text.specs.Wholes.{array_of, with_members};
-ghost use Rattle.road_places.specs.Places.{IsPlaceOn};
+ghost use Rattle.road_places.specs.Places.{ArePlacesOn, IsPlaceOn};
 ghost use Rattle.reply_texts.specs.Replies.{waypoints_member};
 ghost use Rattle.reply_texts.specs.Waypoints.{trip_members, trip_waypoint_of, trip_waypoints_of};
 
@@ -70,7 +70,7 @@ fn push_trip_waypoints(
     requires takes { TakesValue json.old }
     requires few { length network.now.segments < 2 ^ 30 }
     requires as_many { length places.now ≡ length coordinates.now }
-    requires placed { (k : ℕ) (place : Place) → slice_get places.now k ≡ Some place → IsPlaceOn network.now place }
+    requires placed { ArePlacesOn network.now places.now }
     ensures { OnOk result (json.new ≡ with_value (array_of (trip_waypoints_of network.now.segments coordinates.now places.now order.now)) json.old) }
 {
     json.begin_list()?;
@@ -93,7 +93,7 @@ pub(crate) fn push_trip_waypoints_member(
     requires takes { TakesKey json.old }
     requires few { length network.now.segments < 2 ^ 30 }
     requires as_many { length stops.now.places.now ≡ length stops.now.coordinates.now }
-    requires placed { (k : ℕ) (place : Place) → slice_get stops.now.places.now k ≡ Some place → IsPlaceOn network.now place }
+    requires placed { ArePlacesOn network.now stops.now.places.now }
     ensures ok { OnOk result (json.new ≡ with_members (waypoints_member skip (codes "waypoints") (trip_waypoints_of network.now.segments stops.now.coordinates.now stops.now.places.now order.now)) json.old) }
     ensures more { OnOk result (TakesKey json.new) }
 {

@@ -1,12 +1,12 @@
 //! What replies tell of coordinates' places on roads.
 
-ghost use Rattle.std.specs.Prelude.{◌≡◌, ℕ, ◌^◌, ◌<◌, Some, OnOk, length, map};
+ghost use Rattle.std.specs.Prelude.{◌≡◌, ◌^◌, ◌<◌, OnOk, length, map};
 ghost use Rattle.std.specs.List.{slice_get};
 ghost use Rattle.road_segments.specs.Vertex.{vertices};
 ghost use Rattle.geo_integer.specs.Position.{position_of};
 ghost use Rattle.json_text.specs.Drafts.{TakesKey, TakesValue, with_value};
 ghost use Rattle.json_text.specs.Wholes.{array_of, with_members};
-ghost use Rattle.road_places.specs.Places.{IsPlaceOn};
+ghost use Rattle.road_places.specs.Places.{ArePlacesOn, IsPlaceOn};
 ghost use Rattle.reply_texts.specs.Replies.{waypoints_member};
 ghost use Rattle.reply_texts.specs.Waypoints.{members_on, neighbour_of, nodes_on, waypoint_of, waypoints_of};
 
@@ -73,7 +73,7 @@ fn push_waypoints(
     requires takes { TakesValue json.old }
     requires few { length network.now.segments < 2 ^ 30 }
     requires as_many { length places.now ≡ length coordinates.now }
-    requires placed { (k : ℕ) (place : Place) → slice_get places.now k ≡ Some place → IsPlaceOn network.now place }
+    requires placed { ArePlacesOn network.now places.now }
     ensures { OnOk result (json.new ≡ with_value (array_of (waypoints_of network.now.segments coordinates.now places.now)) json.old) }
 {
     json.begin_list()?;
@@ -95,7 +95,7 @@ pub(crate) fn push_waypoints_member(
     requires takes { TakesKey json.old }
     requires few { length network.now.segments < 2 ^ 30 }
     requires as_many { length stops.now.places.now ≡ length stops.now.coordinates.now }
-    requires placed { (k : ℕ) (place : Place) → slice_get stops.now.places.now k ≡ Some place → IsPlaceOn network.now place }
+    requires placed { ArePlacesOn network.now stops.now.places.now }
     ensures ok { OnOk result (json.new ≡ with_members (waypoints_member skip name.now (waypoints_of network.now.segments stops.now.coordinates.now stops.now.places.now)) json.old) }
     ensures more { OnOk result (TakesKey json.new) }
 {
@@ -151,7 +151,7 @@ pub(crate) fn push_neighbours(
 ) -> Result<(), AllocError>
     requires takes { TakesValue json.old }
     requires few { length network.now.segments < 2 ^ 30 }
-    requires placed { (k : ℕ) (place : Place) → slice_get places.now k ≡ Some place → IsPlaceOn network.now place }
+    requires placed { ArePlacesOn network.now places.now }
     ensures { OnOk result (json.new ≡ with_value (array_of (map (neighbour_of network.now.segments coordinate) places.now)) json.old) }
 {
     json.begin_list()?;

@@ -1,5 +1,5 @@
 -- How a place on a road segment lies on the segment's two directions (this project's rule).
-use Rattle.std.specs.Prelude.{◌≡◌, ℕ, ◌+◌, ◌-◌, ◌*◌, ◌/◌, ◌%◌, ◌==◌, ◌⊎◌, if◌then◌else◌, ◌<◌, ◌≤◌, length}
+use Rattle.std.specs.Prelude.{◌≡◌, ℕ, ◌+◌, ◌-◌, ◌*◌, ◌/◌, ◌%◌, ◌==◌, ◌⊎◌, if◌then◌else◌, ◌<◌, ◌≤◌, List, length, slice_get, Some}
 use Rattle.road_base.specs.declared.segments.Place.{Place}
 use Rattle.search_graph.specs.declared.costs.WeightDurLen.{WeightDurLen}
 use Rattle.edge_graph.specs.NetworkView.{NetworkView}
@@ -8,6 +8,10 @@ use Rattle.edge_graph.specs.NetworkView.{NetworkView}
 pub record IsPlaceOn (network : NetworkView) (p : Place) : Type 0 where
   pub on_segment : p.segment < length network.segments
   pub within : p.at ≤ 1024
+
+-- each of these places lies on a segment of the network
+abbrev pub ArePlacesOn : NetworkView → List Place → Type 0
+ArePlacesOn network places = (k : ℕ) (place : Place) → slice_get places k ≡ Some place → IsPlaceOn network place
 
 -- vertex v is a direction of segment s: 2s is that of its way, 2s + 1 the other one
 abbrev pub IsDirection : ℕ → ℕ → Type 0

@@ -15,7 +15,7 @@ use Rattle.edge_graph.specs.NetworkView.{copies_in, stands}
 use Rattle.edge_graph.specs.Sound.{IsSoundNetwork}
 use Rattle.metric_make.specs.MetricOf.{AreAlike}
 use Rattle.metric_make.specs.RoadMetric.{RoadMetric}
-use Rattle.road_places.specs.Places.{IsPlaceOn}
+use Rattle.road_places.specs.Places.{ArePlacesOn, IsPlaceOn}
 use Rattle.road_places.specs.declared.walks.Route.{Route}
 use Rattle.road_walks.specs.Between.{IsPermittedBetween, states_of}
 use Rattle.road_walks.specs.Legs.{AreAlong, IsAlongLeg, legs_of}
@@ -218,11 +218,7 @@ module _ (road : RoadMetric) (sound : IsSoundNetwork road.network) (alike : AreA
             (le_trans road_cost_laws chain.cost other.cost (cost_of_all others) (chain.least (under.0 ∷ other.states) other.cost other.costs) other.within);
       }
 
-  -- each of the places lies on a segment
-  abbrev pub ArePlaced : List Place → Type 0
-  ArePlaced places = (k : ℕ) (place : Place) → slice_get places k ≡ Some place → IsPlaceOn road.network place
-
-  pub least-through : (places : List Place) (tables : List LegCosts) (states : List ℕ) (routes : List Route) → 2 ≤ length places → ArePlaced places → AreTables road places tables → IsLeastChain tables states
+  pub least-through : (places : List Place) (tables : List LegCosts) (states : List ℕ) (routes : List Route) → 2 ≤ length places → ArePlacesOn road.network places → AreTables road places tables → IsLeastChain tables states
       → AreRoutesBy road places states routes → IsLeastThrough road places routes
   least-through [] tables states routes some on h chain by = absurd (omega arith)
   least-through (p ∷ []) tables states routes some on h chain by = absurd (omega arith)
@@ -257,7 +253,7 @@ module _ (road : RoadMetric) (sound : IsSoundNetwork road.network) (alike : AreA
         none = subst (λ (n : ℕ). ¬ HasThrough road (take n all)) (two-more i) none;
       }
 
-  pub broken-through : (places : List Place) (tables : List LegCosts) (i : ℕ) → 2 ≤ length places → ArePlaced places → AreTables road places tables → IsBrokenAt tables i → IsBrokenThrough road places i
+  pub broken-through : (places : List Place) (tables : List LegCosts) (i : ℕ) → 2 ≤ length places → ArePlacesOn road.network places → AreTables road places tables → IsBrokenAt tables i → IsBrokenThrough road places i
   broken-through [] tables i some on h broken = absurd (omega arith)
   broken-through (p ∷ []) tables i some on h broken = absurd (omega arith)
   broken-through (p ∷ q ∷ places) tables i some on h broken =

@@ -1,8 +1,8 @@
 //! Least routes along legs between given states of their places.
 
-ghost use Rattle.std.specs.Prelude.{◌≡◌, ℕ, ◌<◌, Some, IfOk, length};
+ghost use Rattle.std.specs.Prelude.{◌≡◌, ◌<◌, Some, IfOk, length};
 ghost use Rattle.std.specs.List.{slice_get};
-ghost use Rattle.road_places.specs.Places.{IsPlaceOn};
+ghost use Rattle.road_places.specs.Places.{ArePlacesOn, IsPlaceOn};
 ghost use Rattle.road_walks.specs.Between.{states_of};
 ghost use Rattle.road_walks.specs.Least.{most_units};
 ghost use Rattle.road_walks.specs.Legs.{AreWithinUnits};
@@ -33,7 +33,7 @@ pub(crate) fn routes_by(
     states: &[u32],
 ) -> Result<Vec<Route>, AllocError>
     requires some { 0 < length places.now }
-    requires placed { (k : ℕ) (place : _) → slice_get places.now k ≡ Some place → IsPlaceOn under.now.road.network place }
+    requires placed { ArePlacesOn under.now.road.network places.now }
     requires one_each { length states.now ≡ length places.now }
     requires reach { HasRoutesBy under.now.road places.now states.now }
     ensures routes { IfOk result (λ routes. AreRoutesBy under.now.road places.now states.now routes.items) }

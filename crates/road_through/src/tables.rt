@@ -1,8 +1,7 @@
 //! What legs cost from state to state.
 
-ghost use Rattle.std.specs.Prelude.{◌≡◌, ℕ, ◌<◌, Some, IfOk, length};
-ghost use Rattle.std.specs.List.{slice_get};
-ghost use Rattle.road_places.specs.Places.{IsPlaceOn};
+ghost use Rattle.std.specs.Prelude.{◌≡◌, ◌<◌, IfOk, length};
+ghost use Rattle.road_places.specs.Places.{ArePlacesOn, IsPlaceOn};
 ghost use Rattle.road_walks.specs.Between.{states_of};
 ghost use Rattle.road_through.specs.States.{AreTables, IsTableOf};
 
@@ -54,7 +53,7 @@ pub(crate) fn leg_tables(
     places: &[Place],
 ) -> Result<Vec<LegCosts>, AllocError>
     requires some { 0 < length places.now }
-    requires placed { (k : ℕ) (place : _) → slice_get places.now k ≡ Some place → IsPlaceOn under.now.road.network place }
+    requires placed { ArePlacesOn under.now.road.network places.now }
     ensures { IfOk result (λ tables. AreTables under.now.road places.now tables.items) }
 {
     let mut tables = Vec::with_capacity(alloc, places.len() - 1)?;

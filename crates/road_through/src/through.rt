@@ -1,8 +1,7 @@
 //! One least walk through places.
 
-ghost use Rattle.std.specs.Prelude.{◌≡◌, ℕ, ◌+◌, ◌^◌, ◌<◌, ◌≤◌, Some, IfOk, IfErr, length};
-ghost use Rattle.std.specs.List.{slice_get};
-ghost use Rattle.road_places.specs.Places.{IsPlaceOn};
+ghost use Rattle.std.specs.Prelude.{◌≡◌, ◌+◌, ◌^◌, ◌<◌, ◌≤◌, IfOk, IfErr, length};
+ghost use Rattle.road_places.specs.Places.{ArePlacesOn};
 ghost use Rattle.road_walks.specs.Least.{most_units};
 ghost use Rattle.road_walks.specs.Legs.{AreWithinUnits};
 ghost use Rattle.road_through.specs.Through.{IsLeastThrough, IsThroughFault};
@@ -31,7 +30,7 @@ pub fn least_through(
 ) -> Result<Vec<Route>, LegFault>
     requires some { 2 ≤ length places.now }
     requires few { length places.now < 2 ^ 32 }
-    requires placed { (k : ℕ) (place : _) → slice_get places.now k ≡ Some place → IsPlaceOn under.now.road.network place }
+    requires placed { ArePlacesOn under.now.road.network places.now }
     ensures one_each { IfOk result (λ routes. length routes.items + 1 ≡ length places.now) }
     ensures through { IfOk result (λ routes. IsLeastThrough under.now.road places.now routes.items) }
     ensures bound { IfOk result (λ routes. AreWithinUnits (most_units under.now.road.network) routes.items) }

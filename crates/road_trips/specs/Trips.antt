@@ -9,7 +9,7 @@ use Rattle.trip_query.specs.Trips.{IsBestTrip, stops}
 use Rattle.trip_query.specs.declared.rules.Rule.{Rule}
 use Rattle.trip_query.specs.declared.trips.Trip.{Trip}
 use Rattle.edge_graph.specs.NetworkView.{NetworkView}
-use Rattle.road_places.specs.Places.{IsPlaceOn}
+use Rattle.road_places.specs.Places.{ArePlacesOn}
 use Rattle.metric_make.specs.RoadMetric.{RoadMetric}
 use Rattle.road_walks.specs.Least.{most_units}
 use Rattle.road_walks.specs.Legs.{AreAlong, AreLeastRoutes, AreWithinUnits}
@@ -43,7 +43,7 @@ pub record IsBounded (network : NetworkView) (places : List Place) (trip : RoadT
   pub order : length trip.best.order ≡ length places
   pub one_each : length trip.routes.items + 1 ≡ length trip.stops.items
   pub few : length trip.stops.items ≤ 10
-  pub placed : (k : ℕ) (place : Place) → slice_get trip.stops.items k ≡ Some place → IsPlaceOn network place
+  pub placed : ArePlacesOn network trip.stops.items
   pub units : AreWithinUnits (most_units network) trip.routes.items
 
 -- such a trip, or none exactly where there is none

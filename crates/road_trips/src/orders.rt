@@ -1,10 +1,9 @@
 //! The best order of places, by what least walks between them cost.
 
-ghost use Rattle.std.specs.Prelude.{◌≡◌, ℕ, ◌^◌, ◌≤◌, All, Some, IfOk, IfSome, length};
-ghost use Rattle.std.specs.List.{slice_get};
+ghost use Rattle.std.specs.Prelude.{◌≡◌, ◌^◌, ◌≤◌, All, IfOk, IfSome, length};
 ghost use Rattle.search_graph.specs.RoadCosts.{road_cost_ops};
 ghost use Rattle.trip_query.specs.Trips.{IsBestTrip, lists_of};
-ghost use Rattle.road_places.specs.Places.{IsPlaceOn};
+ghost use Rattle.road_places.specs.Places.{ArePlacesOn};
 ghost use Rattle.road_walks.specs.Tables.{AreWithin};
 ghost use Rattle.road_trips.specs.Trips.{IsBestThrough};
 
@@ -51,7 +50,7 @@ pub(crate) fn best_order(
 ) -> Result<Option<Trip<WeightDurLen>>, AllocError>
     requires some { 2 ≤ length places.now }
     requires few { length places.now ≤ 9 }
-    requires placed { (k : ℕ) (place : _) → slice_get places.now k ≡ Some place → IsPlaceOn under.now.road.network place }
+    requires placed { ArePlacesOn under.now.road.network places.now }
     ensures best { IfOk result (IsBestThrough under.now.road places.now rule) }
     ensures size { IfOk result (λ answer. IfSome answer (λ trip. length trip.order ≡ length places.now)) }
 {

@@ -1,8 +1,7 @@
 //! Trips on roads.
 
 ghost use Rattle.std.specs.Prelude.{◌≡◌, ℕ, ◌+◌, ◌≤◌, Some, IfOk, IfSome, length};
-ghost use Rattle.std.specs.List.{slice_get};
-ghost use Rattle.road_places.specs.Places.{IsPlaceOn};
+ghost use Rattle.road_places.specs.Places.{ArePlacesOn};
 ghost use Rattle.road_walks.specs.Least.{most_units};
 ghost use Rattle.road_walks.specs.Legs.{AreAlong, AreLeastRoutes, AreWithinUnits, IsBrokenLeg};
 ghost use Rattle.road_trips.specs.Trips.{IsBestThrough, IsBounded, IsTripAnswer, IsTripThrough};
@@ -57,7 +56,7 @@ impl RoadTrip {
 fn routes_along(alloc: Global, under: &Under<'_>, stops: &[Place]) -> Result<Vec<Route>, AllocError>
     requires some { 2 ≤ length stops.now }
     requires few { length stops.now ≤ 10 }
-    requires placed { (k : ℕ) (place : _) → slice_get stops.now k ≡ Some place → IsPlaceOn under.now.road.network place }
+    requires placed { ArePlacesOn under.now.road.network stops.now }
     requires whole { (leg : ℕ) → ¬ IsBrokenLeg under.now.road stops.now leg }
     ensures one_each { IfOk result (λ routes. length routes.items + 1 ≡ length stops.now) }
     ensures along { IfOk result (λ routes. AreAlong under.now.road stops.now routes.items) }
@@ -81,7 +80,7 @@ fn trip_along(
 ) -> Result<RoadTrip, AllocError>
     requires some { 2 ≤ length places.now }
     requires few { length places.now ≤ 9 }
-    requires placed { (k : ℕ) (place : _) → slice_get places.now k ≡ Some place → IsPlaceOn under.now.road.network place }
+    requires placed { ArePlacesOn under.now.road.network places.now }
     requires best { IsBestThrough under.now.road places.now rule (Some best) }
     requires order { length best.order ≡ length places.now }
     ensures trip { IfOk result (IsTripThrough under.now.road places.now rule) }
@@ -113,7 +112,7 @@ pub fn best_trip(
 ) -> Result<Option<RoadTrip>, AllocError>
     requires some { 2 ≤ length places.now }
     requires few { length places.now ≤ 9 }
-    requires placed { (k : ℕ) (place : _) → slice_get places.now k ≡ Some place → IsPlaceOn under.now.road.network place }
+    requires placed { ArePlacesOn under.now.road.network places.now }
     ensures trip { IfOk result (IsTripAnswer under.now.road places.now rule) }
     ensures bounded { IfOk result (λ answer. IfSome answer (IsBounded under.now.road.network places.now)) }
 {

@@ -1,8 +1,7 @@
 //! Least routes along the legs of a list of places.
 
-ghost use Rattle.std.specs.Prelude.{◌≡◌, ℕ, ◌+◌, ◌^◌, ◌<◌, Some, IfOk, IfErr, length};
-ghost use Rattle.std.specs.List.{slice_get};
-ghost use Rattle.road_places.specs.Places.{IsPlaceOn};
+ghost use Rattle.std.specs.Prelude.{◌≡◌, ◌+◌, ◌^◌, ◌<◌, IfOk, IfErr, length};
+ghost use Rattle.road_places.specs.Places.{ArePlacesOn};
 ghost use Rattle.road_walks.specs.Least.{most_units};
 ghost use Rattle.road_walks.specs.Legs.{AreAlong, AreLeastRoutes, AreWithinUnits, IsLegFault};
 
@@ -24,7 +23,7 @@ pub fn least_routes(
 ) -> Result<Vec<Route>, LegFault>
     requires some { 0 < length places.now }
     requires few { length places.now < 2 ^ 32 }
-    requires placed { (k : ℕ) (place : _) → slice_get places.now k ≡ Some place → IsPlaceOn under.now.road.network place }
+    requires placed { ArePlacesOn under.now.road.network places.now }
     ensures one_each { IfOk result (λ routes. length routes.items + 1 ≡ length places.now) }
     ensures along { IfOk result (λ routes. AreAlong under.now.road places.now routes.items) }
     ensures least { IfOk result (λ routes. AreLeastRoutes under.now.road places.now routes.items) }

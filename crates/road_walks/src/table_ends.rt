@@ -1,8 +1,8 @@
 //! Where the walks of a table start and end.
 
-ghost use Rattle.std.specs.Prelude.{◌≡◌, ℕ, Some, IfOk};
-ghost use Rattle.std.specs.List.{AllZip, slice_get};
-ghost use Rattle.road_places.specs.Places.{IsPlaceOn};
+ghost use Rattle.std.specs.Prelude.{◌≡◌, IfOk};
+ghost use Rattle.std.specs.List.{AllZip};
+ghost use Rattle.road_places.specs.Places.{ArePlacesOn};
 ghost use Rattle.road_walks.specs.TableParts.{AreStartsFrom, AreTargetsTo};
 
 use crate::by_turns::{starts_from, targets_to};
@@ -18,7 +18,7 @@ pub(crate) fn starts_of(
     under: &Under<'_>,
     sources: &[Place],
 ) -> Result<Vec<Starts<WeightDurLen>>, AllocError>
-    requires { (k : ℕ) (place : _) → slice_get sources.now k ≡ Some place → IsPlaceOn under.now.road.network place }
+    requires { ArePlacesOn under.now.road.network sources.now }
     ensures { IfOk result (λ lists. AllZip (AreStartsFrom under.now.frame.graph.vertices under.now.road) sources.now lists.items) }
 {
     let mut lists = Vec::with_capacity(alloc, sources.len())?;
@@ -35,7 +35,7 @@ pub(crate) fn targets_of(
     under: &Under<'_>,
     destinations: &[Place],
 ) -> Result<Vec<Targets<WeightDurLen>>, AllocError>
-    requires { (k : ℕ) (place : _) → slice_get destinations.now k ≡ Some place → IsPlaceOn under.now.road.network place }
+    requires { ArePlacesOn under.now.road.network destinations.now }
     ensures { IfOk result (λ lists. AllZip (AreTargetsTo under.now.frame.graph.vertices under.now.road) destinations.now lists.items) }
 {
     let mut lists = Vec::with_capacity(alloc, destinations.len())?;

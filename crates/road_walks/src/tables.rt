@@ -1,11 +1,11 @@
 //! What least walks cost from each of a list of places to each of another.
 
-ghost use Rattle.std.specs.Prelude.{◌≡◌, ℕ, ◌<◌, Some, IfOk, option_map};
-ghost use Rattle.std.specs.List.{AllZip, Contains, slice_get};
+ghost use Rattle.std.specs.Prelude.{◌≡◌, ◌<◌, IfOk, option_map};
+ghost use Rattle.std.specs.List.{AllZip, Contains};
 ghost use Rattle.search_graph.specs.RoadCosts.{road_cost_ops};
 ghost use Rattle.table_query.specs.Tables.{IsTable};
 ghost use Rattle.edge_graph.specs.NetworkView.{graph_of};
-ghost use Rattle.road_places.specs.Places.{IsPlaceOn};
+ghost use Rattle.road_places.specs.Places.{ArePlacesOn, IsPlaceOn};
 ghost use Rattle.road_walks.specs.Least.{most_units};
 ghost use Rattle.road_walks.specs.TableParts.{IsCellByTurns, IsCellWithin, IsRowByTurns, IsRowWithin};
 ghost use Rattle.road_walks.specs.Tables.{AreRowsOf, AreWithin};
@@ -51,8 +51,8 @@ fn rows_by_turns(
     sources: &[Place],
     destinations: &[Place],
 ) -> Result<Vec<Row<WeightDurLen>>, AllocError>
-    requires sources { (k : ℕ) (place : _) → slice_get sources.now k ≡ Some place → IsPlaceOn under.now.road.network place }
-    requires destinations { (k : ℕ) (place : _) → slice_get destinations.now k ≡ Some place → IsPlaceOn under.now.road.network place }
+    requires sources { ArePlacesOn under.now.road.network sources.now }
+    requires destinations { ArePlacesOn under.now.road.network destinations.now }
     ensures { IfOk result (λ rows. AllZip (IsRowByTurns under.now.road destinations.now) sources.now rows.items) }
 {
     let starts = starts_of(alloc, under, sources)?;
@@ -98,7 +98,7 @@ fn row_of(
     by_turns: &[Option<WeightDurLen>],
 ) -> Result<Row<WeightDurLen>, AllocError>
     requires from { IsPlaceOn under.now.road.network from }
-    requires destinations { (k : ℕ) (place : _) → slice_get destinations.now k ≡ Some place → IsPlaceOn under.now.road.network place }
+    requires destinations { ArePlacesOn under.now.road.network destinations.now }
     requires by_turns { IsRowByTurns under.now.road destinations.now from by_turns.now }
     ensures { IfOk result (IsRowWithin under.now.road destinations.now from) }
 {
@@ -121,8 +121,8 @@ pub fn cost_rows(
     sources: &[Place],
     destinations: &[Place],
 ) -> Result<Rows, AllocError>
-    requires sources { (k : ℕ) (place : _) → slice_get sources.now k ≡ Some place → IsPlaceOn under.now.road.network place }
-    requires destinations { (k : ℕ) (place : _) → slice_get destinations.now k ≡ Some place → IsPlaceOn under.now.road.network place }
+    requires sources { ArePlacesOn under.now.road.network sources.now }
+    requires destinations { ArePlacesOn under.now.road.network destinations.now }
     ensures least { IfOk result (AreRowsOf under.now.road sources.now destinations.now) }
     ensures bound { IfOk result (AreWithin (most_units under.now.road.network)) }
 {

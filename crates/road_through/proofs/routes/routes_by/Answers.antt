@@ -8,7 +8,7 @@ use Rattle.std.proofs.lemmas.Option.{slice_get-get_or, slice_get_within}
 use Rattle.list_lemmas.proofs.Gets.{Contains_get}
 use Rattle.road_base.specs.declared.segments.Place.{Place}
 use Rattle.edge_graph.specs.NetworkView.{NetworkView}
-use Rattle.road_places.specs.Places.{IsPlaceOn}
+use Rattle.road_places.specs.Places.{ArePlacesOn, IsPlaceOn}
 use Rattle.road_places.specs.declared.walks.Route.{Route}
 use Rattle.search_graph.specs.RoadCosts.{road_cost_ops}
 use Rattle.road_walks.specs.Between.{states_of}
@@ -18,7 +18,7 @@ use Rattle.road_through.proofs.LegLemmas.{beside-more, by-at, by-count, found-by
 use Rattle.road_through.proofs.routes.routes_by.Goals as goal
 
 -- the places lie on segments
-module _ (network : NetworkView) (places : List Place) (placed : (k : ℕ) (place : Place) → slice_get places k ≡ Some place → IsPlaceOn network place) where
+module _ (network : NetworkView) (places : List Place) (placed : ArePlacesOn network places) where
   placed-at : (k : ℕ) → k < length places → IsPlaceOn network (get_or places k (record { segment = 0; at = 0 }))
   placed-at k lt = let nowhere : Place = record { segment = 0; at = 0 } in placed k (get_or places k nowhere) (slice_get-get_or places k nowhere lt)
 
