@@ -1,4 +1,4 @@
--- What comes of a control request, and which list of publications stands then (this project's rule).
+-- What comes of two traffic files and of a control request, and what is published then (this project's rule).
 use Rattle.std.specs.Prelude.{◌≡◌, ◌⊎◌, ℕ, ◌+◌, ◌<◌, List, [], ◌∷◌, ◌++◌, take, drop, Ok, Err}
 use Rattle.edge_graph.specs.NetworkView.{NetworkView}
 use Rattle.metric_make.specs.MetricOf.{MetricView, metric_of}
@@ -37,43 +37,59 @@ pub record IsBaseOf (network : NetworkView) (speeds_file turns_file : List ℕ) 
   pub rows : RowsRead speeds_file turns_file
   pub made : base ≡ metric_of network rows.speeds rows.turns
 
+-- what is published of a network, told as a list of publications or as the last of them: how it stands, the last
+-- number, and how it stands once the metric of some costs was published under a number
+pub record Standing (S : Type 0) : Type 0 where
+  pub network : NetworkView
+  pub now : S
+  pub last : ℕ
+  pub with_metric : ℕ → MetricView → S
+
+-- the metric of these costs was published under the next number
+pub record Publishes {S : Type 0} (before : Standing S) (base : MetricView) (number unmatched : ℕ) (after : S) : Type 0 where
+  pub below : before.last < 4294967295
+  pub next : number ≡ before.last + 1
+  pub missed : unmatched ≡ base.unmatched
+  pub stands : after ≡ before.with_metric number base
+
+-- the files are faultless, and the metric of their rows is published
+pub record IsPublished {S : Type 0} (before : Standing S) (speeds_file turns_file : List ℕ) (number unmatched : ℕ) (after : S) : Type 0 where
+  pub base : MetricView
+  pub made : IsBaseOf before.network speeds_file turns_file base
+  pub published : Publishes before base number unmatched after
+
+-- the files are faultless, and no number is left
+pub record IsSpent {S : Type 0} (before : Standing S) (speeds_file turns_file : List ℕ) (number : ℕ) : Type 0 where
+  pub rows : RowsRead speeds_file turns_file
+  pub last : before.last ≡ 4294967295
+  pub number_is : number ≡ 4294967295
+
+-- what comes of these two files: their metric is published, a row is refused, or no number is left
+abbrev pub FilesGive : {S : Type 0} → Standing S → List ℕ → List ℕ → Controlled → S → Type 0
+FilesGive before speeds_file turns_file (controlled.Published number unmatched) after = IsPublished before speeds_file turns_file number unmatched after
+FilesGive before speeds_file turns_file (controlled.Refused fault) after = IsFirstFault speeds_file turns_file fault × (after ≡ before.now)
+FilesGive before speeds_file turns_file (controlled.Spent number) after = IsSpent before speeds_file turns_file number × (after ≡ before.now)
+FilesGive before speeds_file turns_file controlled.BadRequest after = ⊥
+FilesGive before speeds_file turns_file controlled.Stopping after = ⊥
+
 -- a list of publications
 abbrev pub Board : Type 0
 Board = List (Entry Customized)
 
--- the list is one longer: by the metric of these costs, under the next number
-pub record Publishes (roads : RoadsView) (before : Board) (base : MetricView) (number unmatched : ℕ) (after : Board) : Type 0 where
-  pub below : last_number before < 4294967295
-  pub next : number ≡ last_number before + 1
-  pub missed : unmatched ≡ base.unmatched
-  pub longer : after ≡ before ++ entry number (customized_on roads base) ∷ []
-
--- the files are faultless, and the metric of their rows is published
-pub record IsPublished (roads : RoadsView) (before : Board) (speeds_file turns_file : List ℕ) (number unmatched : ℕ) (after : Board) : Type 0 where
-  pub base : MetricView
-  pub made : IsBaseOf roads.network speeds_file turns_file base
-  pub published : Publishes roads before base number unmatched after
-
--- the files are faultless, and no number is left
-pub record IsSpent (before : Board) (speeds_file turns_file : List ℕ) (number : ℕ) : Type 0 where
-  pub rows : RowsRead speeds_file turns_file
-  pub last : last_number before ≡ 4294967295
-  pub number_is : number ≡ 4294967295
-
--- what comes of these two files
-abbrev pub FilesGive : RoadsView → Board → List ℕ → List ℕ → Controlled → Board → Type 0
-FilesGive roads before speeds_file turns_file (controlled.Published number unmatched) after =
-    IsPublished roads before speeds_file turns_file number unmatched after
-FilesGive roads before speeds_file turns_file (controlled.Refused fault) after = IsFirstFault speeds_file turns_file fault × (after ≡ before)
-FilesGive roads before speeds_file turns_file (controlled.Spent number) after = IsSpent before speeds_file turns_file number × (after ≡ before)
-FilesGive roads before speeds_file turns_file controlled.BadRequest after = ⊥
-FilesGive roads before speeds_file turns_file controlled.Stopping after = ⊥
+-- the list for these roads, which is one longer by each metric that is published
+abbrev pub on_board : RoadsView → Board → Standing Board
+on_board roads before = record {
+  network = roads.network;
+  now = before;
+  last = last_number before;
+  with_metric = λ number base. before ++ entry number (customized_on roads base) ∷ [];
+}
 
 -- what comes of a request and its body, and which list stands after this one then
 abbrev pub IsControlled : RoadsView → Board → ControlHead → List ℕ → Controlled → Board → Type 0
 IsControlled roads before asked.Bad body answer after = (answer ≡ controlled.BadRequest) × (after ≡ before)
 IsControlled roads before asked.Stop body answer after = (answer ≡ controlled.Stopping) × (after ≡ before)
-IsControlled roads before (asked.Metric speeds length) body answer after = FilesGive roads before (take speeds body) (drop speeds body) answer after
+IsControlled roads before (asked.Metric speeds length) body answer after = FilesGive (on_board roads before) (take speeds body) (drop speeds body) answer after
 
 -- the metric is on these roads
 abbrev pub IsOn : RoadsView → Customized → Type 0

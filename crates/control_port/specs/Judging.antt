@@ -5,7 +5,7 @@ use Rattle.metric_make.specs.MetricOf.{MetricView}
 use Rattle.metric_publish.specs.History.{last_number}
 use Rattle.traffic_files.specs.declared.rows.TrafficFault.{TrafficFault}
 use Rattle.traffic_files.specs.declared.rows.TrafficFault.TheVariants.{Row, Memory}
-use Rattle.control_port.specs.Controlling.{Board, IsFirstFault, Publishes}
+use Rattle.control_port.specs.Controlling.{Board, IsFirstFault, Publishes, on_board}
 use Rattle.control_port.specs.declared.controlled.Controlled.{Controlled}
 use Rattle.control_port.specs.declared.controlled.Controlled.TheVariants as controlled
 
@@ -16,6 +16,6 @@ IsFaultIn speeds_file turns_file Memory = ⊤
 
 -- what comes of a metric of these costs
 abbrev pub BaseGives : RoadsView → Board → MetricView → Controlled → Board → Type 0
-BaseGives roads before base (controlled.Published number unmatched) after = Publishes roads before base number unmatched after
+BaseGives roads before base (controlled.Published number unmatched) after = Publishes (on_board roads before) base number unmatched after
 BaseGives roads before base (controlled.Spent number) after = (last_number before ≡ 4294967295) × (number ≡ 4294967295) × (after ≡ before)
 BaseGives roads before base answer after = ⊥

@@ -98,7 +98,7 @@ module _ (roads : RoadsView) where
       answer = ap (λ (missed : ℕ). controlled.Published number missed) h.published.missed;
     };
     next = h.published.next;
-    longer = h.published.longer;
+    longer = h.published.stands;
   })
   one_more before (asked.Metric speeds length) body (controlled.Refused fault) after h = inl (record { refused = refl; same = h.1 })
   one_more before (asked.Metric speeds length) body (controlled.Spent number) after h = inl (record { refused = refl; same = h.1 })

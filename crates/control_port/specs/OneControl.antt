@@ -14,7 +14,7 @@ use Rattle.traffic_files.specs.declared.rows.RowFault.{RowFault}
 use Rattle.traffic_files.specs.declared.rows.SpeedRow.{SpeedRow}
 use Rattle.traffic_files.specs.declared.rows.TurnRow.{TurnRow}
 use Rattle.traffic_files.specs.declared.rows.TrafficFile.TheVariants.{Speeds, Turns}
-use Rattle.control_port.specs.Controlling.{Board, FilesGive, IsControlled, IsFirstFault, IsPublished, RowsRead}
+use Rattle.control_port.specs.Controlling.{Board, FilesGive, IsControlled, IsFirstFault, IsPublished, RowsRead, on_board}
 use Rattle.control_port.specs.declared.asking.ControlHead.{ControlHead}
 use Rattle.control_port.specs.declared.asking.ControlHead.TheVariants as asked
 use Rattle.control_port.specs.declared.controlled.Controlled.{Controlled}
@@ -60,17 +60,17 @@ module _ (speeds_file turns_file : List ℕ) where
   not_both before below last = lt_irrefl 4294967295 (subst (λ (n : ℕ). n < 4294967295) last below)
 
   module _ (roads : RoadsView) (before : Board) where
-    published_once : (number unmatched other missed : ℕ) (x y : Board) → IsPublished roads before speeds_file turns_file number unmatched x → IsPublished roads before speeds_file turns_file other missed y → (controlled.Published number unmatched ≡ controlled.Published other missed) × (x ≡ y)
+    published_once : (number unmatched other missed : ℕ) (x y : Board) → IsPublished (on_board roads before) speeds_file turns_file number unmatched x → IsPublished (on_board roads before) speeds_file turns_file other missed y → (controlled.Published number unmatched ≡ controlled.Published other missed) × (x ≡ y)
     published_once number unmatched other missed x y one two =
         let base : one.base ≡ two.base = one.made.made ∙ same_metric roads one.made.rows two.made.rows ∙ sym two.made.made in
         let numbers : number ≡ other = one.published.next ∙ sym two.published.next in (
           ap₂ controlled.Published numbers (one.published.missed ∙ ap (λ (b : MetricView). b.unmatched) base ∙ sym two.published.missed),
-          one.published.longer
+          one.published.stands
               ∙ ap₂ (λ (n : ℕ) (b : MetricView). before ++ entry n (customized_on roads b) ∷ []) numbers base
-              ∙ sym two.published.longer,
+              ∙ sym two.published.stands,
         )
 
-    files_once : (a b : Controlled) (x y : Board) → FilesGive roads before speeds_file turns_file a x → FilesGive roads before speeds_file turns_file b y → (a ≡ b) × (x ≡ y)
+    files_once : (a b : Controlled) (x y : Board) → FilesGive (on_board roads before) speeds_file turns_file a x → FilesGive (on_board roads before) speeds_file turns_file b y → (a ≡ b) × (x ≡ y)
     files_once (controlled.Published number unmatched) (controlled.Published other missed) x y one two = published_once number unmatched other missed x y one two
     files_once (controlled.Published number unmatched) (controlled.Refused fault) x y one two = absurd (rows_no_fault fault one.made.rows two.0)
     files_once (controlled.Published number unmatched) (controlled.Spent last) x y one two = absurd (not_both before one.published.below two.0.last)

@@ -2,7 +2,7 @@
 
 ghost use Rattle.std.specs.Prelude.{◌≡◌, IfErr, IfOk, OnErr};
 ghost use Rattle.control_port.specs.Asking.{IsBodyOf};
-ghost use Rattle.control_port.specs.Controlling.{FilesGive, IsBaseOf, IsControlled, IsOn};
+ghost use Rattle.control_port.specs.Controlling.{FilesGive, IsBaseOf, IsControlled, IsOn, on_board};
 ghost use Rattle.control_port.specs.Judging.{BaseGives, IsFaultIn};
 ghost use Rattle.customized.specs.Exact.{Customized, customized_on};
 ghost use Rattle.metric_make.specs.MetricOf.{IsMetricOn};
@@ -49,8 +49,9 @@ pub fn control<R: Threads + Sync, P: Publishing<Metric, R>>(
     }
 }
 
-// Publishes the metric of two traffic files.
-fn publish_files<R: Threads + Sync, P: Publishing<Metric, R>>(
+/// Publishes the metric of two traffic files on a desk, or tells why not, as [`control`] does it of a body in which they
+/// stand one behind the other.
+pub fn publish_files<R: Threads + Sync, P: Publishing<Metric, R>>(
     rt: &R,
     alloc: Global,
     desk: &mut P,
@@ -59,7 +60,7 @@ fn publish_files<R: Threads + Sync, P: Publishing<Metric, R>>(
     turns: &[u8],
 ) -> Result<Controlled, AllocError>
     requires kin { (x : Customized) → IsOn roads.now x → P.kin desk.old x }
-    ensures controlled { IfOk result (λ answer. FilesGive roads.now (P.list desk.old) speeds.now turns.now answer (P.list desk.new)) }
+    ensures controlled { IfOk result (λ answer. FilesGive (on_board roads.now (P.list desk.old)) speeds.now turns.now answer (P.list desk.new)) }
     ensures busy { OnErr result (P.list desk.new ≡ P.list desk.old) }
     ensures kin_stays { (x : Customized) → P.kin desk.old x → P.kin desk.new x }
 {

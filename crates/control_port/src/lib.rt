@@ -1,9 +1,9 @@
 //! The control port: what its requests ask for, what comes of them, and what their replies say.
 //!
 //! [`ControlHead::of`] says what a head asks for, [`control`] does it over any board of metrics that share their
-//! roads, and [`ReplyRoom`] writes the reply without memory, so that none runs out once a metric is published.
-//! `specs/` is to be read in this order: `Asking` (what a head asks for), `Controlling` (what comes of a request, and
-//! which list of publications stands then), `Telling` (what the reply says), `ManyControls` (what any number of requests
+//! roads, [`publish_files`] does it of two files alone, and [`ReplyRoom`] writes the reply without memory, so that none runs out once a metric is published.
+//! `specs/` is to be read in this order: `Asking` (what a head asks for), `Controlling` (what comes of two traffic
+//! files and of a request, and what is published then), `Telling` (what the reply says), `ManyControls` (what any number of requests
 //! add to the list).
 #![tactic(auto)]
 
@@ -16,6 +16,6 @@ mod replies;
 
 pub use asking::{Announced, ControlHead, MOST_BYTES};
 pub use controlled::{Controlled, file_text, kind_text};
-pub use controls::{base_of_files, control};
+pub use controls::{base_of_files, control, publish_files};
 pub use laws::{publications_are_from_scratch, requests_have_one_answer};
 pub use replies::{BodyRoom, ReplyRoom};

@@ -1,11 +1,10 @@
 -- What is published: a metric of a road network, under a number; and what comes of traffic files.
-use Rattle.std.specs.Prelude.{◌≡◌, ℕ, ◌+◌, ◌<◌, List, [], ◌∷◌, ◌++◌}
-use Rattle.control_port.specs.Controlling.{IsBaseOf, IsFirstFault, RowsRead}
+use Rattle.std.specs.Prelude.{◌≡◌, ℕ, List, [], ◌∷◌, ◌++◌}
+use Rattle.control_port.specs.Controlling.{FilesGive, Standing}
 use Rattle.control_port.specs.declared.controlled.Controlled.{Controlled}
-use Rattle.control_port.specs.declared.controlled.Controlled.TheVariants as controlled
 use Rattle.customized.specs.Exact.{Customized}
 use Rattle.edge_graph.specs.NetworkView.{NetworkView}
-use Rattle.metric_make.specs.MetricOf.{MetricView, base_of}
+use Rattle.metric_make.specs.MetricOf.{base_of}
 use Rattle.metric_publish.specs.History.{entry}
 use Rattle.metric_publish.specs.declared.entry.Entry.{Entry}
 use Rattle.reply_core.specs.Answers.{IsLineAnswer}
@@ -34,19 +33,15 @@ IsReply p line text = (answer : Answer) × IsLineAnswer p.value p.number line an
 abbrev pub IsReplyLine : Publication → List ℕ → List ℕ → Type 0
 IsReplyLine p line text = (reply : List ℕ) × IsReply p line reply × (text ≡ reply ++ newline)
 
--- the metric of both files' rows, whatever was published before, under the next number
-pub record IsNext (last : Publication) (speeds turns : List ℕ) (number unmatched : ℕ) (next : Publication) : Type 0 where
-  pub base : MetricView
-  pub made : IsBaseOf last.value.network speeds turns base
-  pub below : last.number < 4294967295
-  pub number_is : number ≡ last.number + 1
-  pub missed : unmatched ≡ base.unmatched
-  pub published : next ≡ entry number (road_of last.value.network base)
+-- what is published, told as the last publication
+abbrev pub alone : Publication → Standing Publication
+alone last = record {
+  network = last.value.network;
+  now = last;
+  last = last.number;
+  with_metric = λ number base. entry number (road_of last.value.network base);
+}
 
--- what comes of the bytes of two traffic files: their metric is published, a row is refused, or no number is left
+-- what comes of the bytes of two traffic files
 abbrev pub Comes : Publication → List ℕ → List ℕ → Controlled → Publication → Type 0
-Comes last speeds turns (controlled.Published number unmatched) next = IsNext last speeds turns number unmatched next
-Comes last speeds turns (controlled.Refused fault) next = IsFirstFault speeds turns fault × (next ≡ last)
-Comes last speeds turns (controlled.Spent number) next = RowsRead speeds turns × (last.number ≡ 4294967295) × (number ≡ 4294967295) × (next ≡ last)
-Comes last speeds turns controlled.BadRequest next = ⊥
-Comes last speeds turns controlled.Stopping next = ⊥
+Comes last speeds turns answer next = FilesGive (alone last) speeds turns answer next

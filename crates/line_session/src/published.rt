@@ -5,7 +5,7 @@ ghost use Rattle.edge_graph.specs.NetworkView.{NetworkView};
 ghost use Rattle.line_session.specs.Leading.{IsTrafficReply};
 ghost use Rattle.line_session.specs.Publication.{IsReplyLine, opening};
 
-use control_port::{BodyRoom, ControlHead, control};
+use control_port::{BodyRoom, publish_files};
 use customized::{Metric, Roads, SERVER_LIMITS};
 use edge_graph::Network;
 use metric_make::base;
@@ -84,21 +84,14 @@ impl Published {
         &mut self,
         rt: &R,
         alloc: Global,
-        speeds: Vec<u8>,
+        speeds: &[u8],
         turns: &[u8],
     ) -> Result<Text, AllocError>
-        ensures reply { IfOk result (λ text. IsTrafficReply self.old speeds.items turns.now text self.new) }
+        ensures reply { IfOk result (λ text. IsTrafficReply self.old speeds.now turns.now text self.new) }
         ensures stays { OnErr result (self.new ≡ self.old) }
     {
         let room = BodyRoom::new(alloc)?;
-        let mut body = speeds;
-        let speeds_length = body.len();
-        body.extend_from_slice(turns)?;
-        let request = ControlHead::Metric {
-            speeds: speeds_length,
-            length: body.len(),
-        };
-        let answer = control(rt, alloc, &mut self.board, &self.roads, request, &body)?;
+        let answer = publish_files(rt, alloc, &mut self.board, &self.roads, speeds, turns)?;
         let mut text = room.body(&answer);
         text.push('\n').unwrap();
         Ok(Text::of(text))

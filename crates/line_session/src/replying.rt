@@ -77,7 +77,7 @@ fn reply_to_traffic<R: Threads + Sync, F: Files>(
 {
     match read_both(alloc, files, speeds, turns) {
         Ok((speeds_bytes, turns_bytes)) => {
-            match published.publish(rt, alloc, speeds_bytes, turns_bytes.as_slice()) {
+            match published.publish(rt, alloc, speeds_bytes.as_slice(), turns_bytes.as_slice()) {
                 Ok(text) => Ok(text),
                 Err(_) => Err(Unanswered::Memory),
             }
