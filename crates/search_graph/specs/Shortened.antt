@@ -1,6 +1,7 @@
 -- `WeightDurLen` in a word: a duration below 2^31 in front of a length below 2^31, and before both a bit that says whether the
--- weight is the length. Where it is the duration, the word is a rank.
-use Rattle.std.specs.Prelude.{◌≡◌, ℕ, ◌+◌, ◌*◌, ◌/◌, ◌%◌, ◌^◌, ◌<◌, ◌&&◌, ◌==◌, ◌⊎◌, Bool, true, Option, None, Some, nat_lt, refl, if◌then◌else◌}
+-- weight is the length. And as a rank, where the weight is the duration: the same two numbers with a bit between them, which the
+-- sum of two lengths may take.
+use Rattle.std.specs.Prelude.{◌≡◌, ℕ, ◌+◌, ◌*◌, ◌/◌, ◌%◌, ◌^◌, ◌<◌, ◌&&◌, ◌==◌, ◌⊎◌, Bool, Option, None, Some, nat_lt, refl, if◌then◌else◌}
 use Rattle.std.proofs.Common.{◌≤◌, inl, inr, ◌∙◌, arith, sym, ap}
 use Rattle.std.proofs.lemmas.Bool.Decides.{nat_tests}
 use Rattle.std.specs.Ordering.{ordering_then, nat_cmp}
@@ -30,7 +31,14 @@ road_cost_widened word = record {
 
 -- the number of a cost whose weight is its duration
 abbrev pub road_cost_ranked : WeightDurLen → Option ℕ
-road_cost_ranked a = if (a.weight == a.duration) && is_short_cost a then Some (a.duration * 2 ^ 31 + a.length) else None
+road_cost_ranked a = if (a.weight == a.duration) && is_short_cost a then Some (a.duration * 2 ^ 32 + a.length) else None
+
+abbrev pub road_cost_unranked : ℕ → WeightDurLen
+road_cost_unranked rank = record {
+  weight = rank / 2 ^ 32;
+  duration = rank / 2 ^ 32;
+  length = rank % 2 ^ 32;
+}
 
 -- two numbers below 2^31 make a word below 2^62, and come back from it
 word-below : (d l : ℕ) → d < 2 ^ 31 → l < 2 ^ 31 → d * 2 ^ 31 + l < 2 ^ 62
@@ -61,7 +69,7 @@ record IsWordOf (w d l word : ℕ) : Type 0 where
 word-parts : (w d l word : ℕ) → (if nat_lt d (2 ^ 31) && nat_lt l (2 ^ 31) then (if w == d then Some (d * 2 ^ 31 + l) else (if w == l then Some (2 ^ 62 + (d * 2 ^ 31 + l)) else None)) else None) ≡ Some word → IsWordOf w d l word
 word-parts w d l word e = grind (arith, nat_tests, IsWordOf)
 
-rank-parts : (w d l r : ℕ) → (if (w == d) && (nat_lt d (2 ^ 31) && nat_lt l (2 ^ 31)) then Some (d * 2 ^ 31 + l) else None) ≡ Some r → (w ≡ d) × (d < 2 ^ 31) × (l < 2 ^ 31) × (d * 2 ^ 31 + l ≡ r)
+rank-parts : (w d l r : ℕ) → (if (w == d) && (nat_lt d (2 ^ 31) && nat_lt l (2 ^ 31)) then Some (d * 2 ^ 32 + l) else None) ≡ Some r → (w ≡ d) × (d < 2 ^ 31) × (l < 2 ^ 31) × (d * 2 ^ 32 + l ≡ r)
 rank-parts w d l r e = grind (arith, nat_tests)
 
 -- the part that a word's bit chooses
@@ -99,24 +107,63 @@ road_cost_lossless = record {
   back = λ a word e. widened-from a word (word-parts a.weight a.duration a.length word e);
 }
 
--- words are in the order of their two parts
-words-ordered : (d l e m : ℕ) → l < 2 ^ 31 → m < 2 ^ 31 → ordering_then (nat_cmp d e) (nat_cmp l m) ≡ nat_cmp (d * 2 ^ 31 + l) (e * 2 ^ 31 + m)
-words-ordered d l e m h k = grind (arith, nat_tests)
+-- two numbers, the second below 2^32, come back from a rank
+rank-below : (d l : ℕ) → d < 2 ^ 31 → l < 2 ^ 31 → d * 2 ^ 32 + l < 2 ^ 63
+rank-below d l h k = omega arith
+
+rank-front : (d l : ℕ) → l < 2 ^ 31 → (d * 2 ^ 32 + l) / 2 ^ 32 ≡ d
+rank-front d l k = omega arith
+
+rank-back : (d l : ℕ) → l < 2 ^ 31 → (d * 2 ^ 32 + l) % 2 ^ 32 ≡ l
+rank-back d l k = omega arith
+
+rank-plus : (d l e m : ℕ) → (d + e) * 2 ^ 32 + (l + m) ≡ (d * 2 ^ 32 + l) + (e * 2 ^ 32 + m)
+rank-plus d l e m = omega arith
+
+twice-below : (l m : ℕ) → l < 2 ^ 31 → m < 2 ^ 31 → l + m < 2 ^ 32
+twice-below l m h k = omega arith
+
+one-below : (l : ℕ) → l < 2 ^ 31 → l < 2 ^ 32
+one-below l h = omega arith
+
+-- ranks are in the order of their two parts
+parts-ordered : (d l e m : ℕ) → l < 2 ^ 32 → m < 2 ^ 32 → ordering_then (nat_cmp d e) (nat_cmp l m) ≡ nat_cmp (d * 2 ^ 32 + l) (e * 2 ^ 32 + m)
+parts-ordered d l e m h k = grind (arith, nat_tests)
 
 twice-then : (p q : Ordering) → ordering_then p (ordering_then p q) ≡ ordering_then p q
 twice-then Less q = refl
 twice-then Equal q = refl
 twice-then Greater q = refl
 
-ranks-ordered : (a b : WeightDurLen) (r s : ℕ)
-    → (a.weight ≡ a.duration) × (a.duration < 2 ^ 31) × (a.length < 2 ^ 31) × (a.duration * 2 ^ 31 + a.length ≡ r)
-    → (b.weight ≡ b.duration) × (b.duration < 2 ^ 31) × (b.length < 2 ^ 31) × (b.duration * 2 ^ 31 + b.length ≡ s)
-    → ordering_then (nat_cmp a.weight b.weight) (ordering_then (nat_cmp a.duration b.duration) (nat_cmp a.length b.length)) ≡ nat_cmp r s
-ranks-ordered a b r s p q =
-    rw (p.0, q.0, twice-then (nat_cmp a.duration b.duration) (nat_cmp a.length b.length), ← p.3, ← q.3) (words-ordered a.duration a.length b.duration b.length p.2 q.2)
+-- what makes a rank
+abbrev IsRankOf : WeightDurLen → ℕ → Type 0
+IsRankOf a r = (a.weight ≡ a.duration) × (a.duration < 2 ^ 31) × (a.length < 2 ^ 31) × (a.duration * 2 ^ 32 + a.length ≡ r)
 
-pub road_cost_ranks : AreRanks road_cost_ops.cmp road_cost_ranked road_cost_widened
+rank-of : (a : WeightDurLen) (r : ℕ) → road_cost_ranked a ≡ Some r → IsRankOf a r
+rank-of a r e = rank-parts a.weight a.duration a.length r e
+
+unranked-from : (a : WeightDurLen) (r : ℕ) → IsRankOf a r → road_cost_unranked r ≡ a
+unranked-from a r p =
+    let front = rank-front a.duration a.length p.2 in
+    ap road_cost_unranked (sym p.3) ∙ parts-same (front ∙ sym p.0) front (rank-back a.duration a.length p.2)
+
+ranks-ordered : (a b : WeightDurLen) (r s : ℕ) → IsRankOf a r → IsRankOf b s → road_cost_ops.cmp a b ≡ nat_cmp r s
+ranks-ordered a b r s p q =
+    rw (p.0, q.0, twice-then (nat_cmp a.duration b.duration) (nat_cmp a.length b.length), ← p.3, ← q.3)
+    (parts-ordered a.duration a.length b.duration b.length (one-below a.length p.2) (one-below b.length q.2))
+
+ranks-summed : (a b c : WeightDurLen) (r s t : ℕ) → IsRankOf a r → IsRankOf b s → IsRankOf c t → road_cost_ops.cmp (road_cost_ops.plus a b) c ≡ nat_cmp (r + s) t
+ranks-summed a b c r s t p q o =
+    rw (p.0, q.0, o.0, twice-then (nat_cmp (a.duration + b.duration) c.duration) (nat_cmp (a.length + b.length) c.length), ← p.3, ← q.3, ← o.3, ← rank-plus a.duration a.length b.duration b.length)
+    (parts-ordered (a.duration + b.duration) (a.length + b.length) c.duration c.length (twice-below a.length b.length p.2 q.2) (one-below c.length o.2))
+
+rank-short : (a : WeightDurLen) (r : ℕ) → IsRankOf a r → r < 2 ^ 63
+rank-short a r p = let below = rank-below a.duration a.length p.1 p.2 in let is = p.3 in omega (arith, below, is)
+
+pub road_cost_ranks : AreRanks road_cost_ops road_cost_ranked road_cost_unranked
 road_cost_ranks = record {
-  back = λ a r e. let p = rank-parts a.weight a.duration a.length r e in ap road_cost_widened (sym p.3) ∙ widened-near a p.1 p.2 p.0;
-  ordered = λ a b r s e f. ranks-ordered a b r s (rank-parts a.weight a.duration a.length r e) (rank-parts b.weight b.duration b.length s f);
+  short = λ a r e. rank-short a r (rank-of a r e);
+  back = λ a r e. unranked-from a r (rank-of a r e);
+  ordered = λ a b r s e f. ranks-ordered a b r s (rank-of a r e) (rank-of b s f);
+  sums = λ a b c r s t e f g. ranks-summed a b c r s t (rank-of a r e) (rank-of b s f) (rank-of c t g);
 }

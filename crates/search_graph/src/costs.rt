@@ -4,7 +4,7 @@ ghost use Rattle.std.specs.Prelude.{◌≡◌, ℕ, ◌+◌, ◌*◌, ◌^◌, O
 ghost use Rattle.search_graph.specs.Costs.{CostOps, CostLaws};
 ghost use Rattle.search_graph.specs.Ranks.{AreRanks};
 ghost use Rattle.search_graph.specs.RoadCosts.{road_cost_ops, road_cost_laws};
-ghost use Rattle.search_graph.specs.Shortened.{road_cost_narrowed, road_cost_widened, is_short_cost, road_cost_lossless, road_cost_ranked, road_cost_ranks};
+ghost use Rattle.search_graph.specs.Shortened.{road_cost_narrowed, road_cost_widened, is_short_cost, road_cost_lossless, road_cost_ranked, road_cost_unranked, road_cost_ranks};
 
 use cost_lists::Narrow;
 
@@ -38,7 +38,8 @@ pub trait Cost: Narrow + Ord {
 
     ghost unranked: { ℕ → Self };
 
-    /// A number that stands for this cost in the order of the costs, if the cost has one.
+    /// A number below 2^63 that stands for this cost in the order of the costs, if the cost has one. The sum of two such
+    /// numbers is to a third as the sum of their costs is to the third's.
     fn rank(self) -> Option<u64>
         ensures { result ≡ ranked self };
 
@@ -52,7 +53,7 @@ pub trait Cost: Narrow + Ord {
 
     ghost same_order: { ops.cmp ≡ Self.cmp };
 
-    ghost ranks: { AreRanks ops.cmp ranked unranked };
+    ghost ranks: { AreRanks ops ranked unranked };
 }
 
 /// A weight, which says what is cheap, beside the duration in deciseconds and the length in decimetres that it is paid for.
@@ -88,7 +89,7 @@ impl Cost for WeightDurLen {
 
     ghost ranked = { road_cost_ranked };
 
-    ghost unranked = { road_cost_widened };
+    ghost unranked = { road_cost_unranked };
 
     ghost ranks = { road_cost_ranks };
 
@@ -113,7 +114,7 @@ impl Cost for WeightDurLen {
     #[inline(always)]
     fn rank(self) -> Option<u64> {
         if self.weight == self.duration && is_short(self) {
-            Some(word_of(self))
+            Some(self.duration * RANK + self.length)
         } else {
             None
         }
@@ -121,9 +122,17 @@ impl Cost for WeightDurLen {
 
     #[inline(always)]
     fn of_rank(rank: u64) -> WeightDurLen {
-        WeightDurLen::widen(rank)
+        let duration = rank / RANK;
+        WeightDurLen {
+            weight: duration,
+            duration,
+            length: rank % RANK,
+        }
     }
 }
+
+// What one decisecond more adds to a rank: twice as much as a length may be, so that the lengths of two ranks add up below it.
+const RANK: u64 = 4294967296;
 
 // Of a word's parts, the lengths, and so many durations: 2^31 decimetres, five times round the Earth, and 2^31 deciseconds, some
 // seven years.

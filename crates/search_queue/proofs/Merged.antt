@@ -44,7 +44,7 @@ module _ {E : Type 0} where
   pub Adds-right : (e : E) (xs ys new : List E) → IsPermutation (e ∷ ys) new → Adds (xs ++ ys) (xs ++ new) e
   Adds-right e xs ys new h = Adds-permutation e (xs ++ ys) (xs ++ new) (moved e xs ys new h)
 
-module _ {C : Type 0} {ops : CostOps C} (laws : CostLaws ops) {ranked : C → Option ℕ} {unranked : ℕ → C} (ranks : AreRanks ops.cmp ranked unranked) where
+module _ {C : Type 0} {ops : CostOps C} (laws : CostLaws ops) {ranked : C → Option ℕ} {unranked : ℕ → C} (ranks : AreRanks ops ranked unranked) where
   -- the rank of a cost is the rank of what it gives back
   pub IsRank-ranked : (a : C) (r : ℕ) → ranked a ≡ Some r → IsRank ranked unranked r
   IsRank-ranked a r h = subst (λ x. ranked x ≡ Some r) (sym (ranks.back a r h)) h

@@ -60,6 +60,7 @@ impl<C: Cost> Queue<C> {
     }
 
     /// Adds an entry.
+    #[inline(always)]
     pub fn push(&mut self, key: C, vertex: u32) -> Result<(), AllocError>
         ensures { OnOk result (Adds self.old self.new (key, vertex)) }
     {
@@ -77,6 +78,7 @@ impl<C: Cost> Queue<C> {
     }
 
     /// Takes an entry of the least key.
+    #[inline(always)]
     pub fn pop(&mut self) -> Option<(C, u32)>
         ensures some { IfSome result (λ e. TakesLeast C.ops self.old self.new e) }
         ensures none { IfNone result (self.old ≡ []) }

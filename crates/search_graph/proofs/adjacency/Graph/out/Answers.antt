@@ -1,5 +1,5 @@
 -- `first` names the row in which the arcs of the vertex stand, in the list or, where that is left out, side by side.
-use Rattle.std.proofs.Common.{rules, arith, ◌≡◌, ℕ, ◌+◌, ◌-◌, ◌<◌, ◌≤◌, List, length, get_or, ap}
+use Rattle.std.proofs.Common.{rules, arith, ◌≡◌, ℕ, ◌+◌, ◌<◌, List, length, get_or, ap}
 use Rattle.search_graph.specs.Digraph.{Digraph}
 use Rattle.search_graph.specs.Indexed.{IsAdjacency, IsRow}
 use Rattle.search_graph.proofs.IndexRows.{none_from_test, full_from_test, first_get, row_rises, row_within, listed_leaves, listed_ascends, range_leaves, range_ascends}

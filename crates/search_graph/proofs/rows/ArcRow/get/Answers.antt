@@ -1,6 +1,5 @@
 -- Of a range by the sum, of a list by its element.
-use Rattle.std.proofs.Common.{◌≡◌, ℕ, ◌+◌, ◌^◌, ◌≤◌, arith, length, sym, ap, subst}
-use Rattle.std.specs.List.{slice_get}
+use Rattle.std.proofs.Common.{◌+◌, ◌^◌, ◌≤◌, arith, sym}
 use Rattle.std.proofs.lemmas.Option.{slice_get-get_or}
 use Rattle.search_graph.proofs.IndexRows.{none_from_test, full_from_test, range_length, range_place, listed_view}
 use Rattle.search_graph.proofs.rows.ArcRow.get.Goals as goal
