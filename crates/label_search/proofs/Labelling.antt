@@ -11,11 +11,11 @@ use Rattle.search_graph.specs.OrderLaws.{le_refl, le_trans, plus_le}
 use Rattle.search_graph.specs.ChainLaws.{Chain-valid, Chain-push, Chain-grows}
 use Rattle.step_search.specs.Spaces.{Space, HasHop, StepBy, Path, IsSpace}
 use Rattle.step_search.specs.Paths.{IsPathTo, IsLeastPathCost}
-use Rattle.label_search.specs.Labelled.{Held, IsExpanded, IsFront, IsReached, LabelWithin, Nothing, Offers}
+use Rattle.label_search.specs.Labelled.{Held, IsEnd, IsExpanded, IsFront, IsReached, LabelWithin, Nothing, Offers}
 use Rattle.label_search.specs.Least.{AreLeast, HasArcsAlone}
-use Rattle.search_queue.specs.Queued.{Adds, TakesLeast}
+use Rattle.search_queue.specs.Queued.{TakesLeast}
 
-nothing : {E : Type 0} (x : E) → Contains [] x → ⊥
+pub nothing : {E : Type 0} (x : E) → Contains [] x → ⊥
 nothing x (k, lt, is) = omega arith
 
 get_one : {X : Type 0} (x y : X) (k : ℕ) → slice_get (x ∷ []) k ≡ Some y → y ≡ x
@@ -46,6 +46,17 @@ module _ {C : Type 0} (S : Space C) where
       let lt : j < length {A = ℕ} [] = slice_get_within [] j v (subst (λ (xs : List ℕ). slice_get xs j ≡ Some v) (alone u) h) in
       omega (arith, lt)
 
+  -- where no arc leads out of a vertex no hop does
+  pub end_from_none : HasArcsAlone S → (u : ℕ) → ((i v : ℕ) (s : C) → ¬ S.Arc u i v s) → IsEnd S u
+  end_from_none alone u none v s hop = elim hop [
+    | inl a ↦ none a.0 v s a.1
+    | inr r ↦ no_place alone u r.0 v r.1
+  ]
+
+  -- such a vertex has been gone on from
+  end_expanded : (ops : CostOps C) (labels : List (Option C)) (u : ℕ) (c : C) → IsEnd S u → IsExpanded ops S labels u c
+  end_expanded ops labels u c none v s hop = absurd (none v s hop)
+
 module _ {C : Type 0} (ops : CostOps C) (S : Space C) (start : ℕ) where
   -- a hop more
   pub reached_on : (u v : ℕ) (c s : C) → IsReached ops S start u c → HasHop S u v s → IsReached ops S start v (ops.plus c s)
@@ -63,17 +74,20 @@ module _ {C : Type 0} (ops : CostOps C) (S : Space C) (start : ℕ) where
 
     -- it begins where it offers nothing
     pub Front-begun : (new : List (Option C)) (before after : List (C × ℕ)) → length labels ≡ S.vertices → ((v : ℕ) (d : C) → ¬ (slice_get labels v ≡ Some (Some d))) → S.May start →
-        Offers ops labels new before after start ops.zero → IsFront ops S start new after Nothing
+        Offers ops S labels new before after start ops.zero → IsFront ops S start new after Nothing
     Front-begun new before after size none may o = record {
       size = o.size ∙ size;
       begun = λ m. o.found;
       reached = λ v d e. elim (o.came v d e) [ inl old ↦ absurd (none v d old) | inr p ↦ (may, [], (p.0, p.1)) ];
-      goes_on = λ v d e. elim (o.came v d e) [ inl old ↦ absurd (none v d old) | inr p ↦ inl p.2 ];
+      goes_on = λ v d e. elim (o.came v d e) [
+        | inl old ↦ absurd (none v d old)
+        | inr p ↦ elim p.2 [ inl q ↦ inl q | inr end ↦ inr (inr (end_expanded S ops new v d end)) ]
+      ];
     }
 
     -- it offers what a path costs
     pub Front-offered : (HeldBack : ℕ → C → Type 0) (new : List (Option C)) (before after : List (C × ℕ)) (v : ℕ) (c : C) →
-        IsFront ops S start labels before HeldBack → Offers ops labels new before after v c → IsReached ops S start v c → IsFront ops S start new after HeldBack
+        IsFront ops S start labels before HeldBack → Offers ops S labels new before after v c → IsReached ops S start v c → IsFront ops S start new after HeldBack
     Front-offered HeldBack new before after v c front o here = record {
       size = o.size ∙ front.size;
       begun = λ m. o.falls start ops.zero (front.begun m);
@@ -86,7 +100,7 @@ module _ {C : Type 0} (ops : CostOps C) (S : Space C) (start : ℕ) where
           | inl q ↦ inl (o.queued (d, u) q)
           | inr r ↦ elim r [ inl h ↦ inr (inl h) | inr x ↦ inr (inr (λ w s hop. o.falls w (ops.plus d s) (x w s hop))) ]
         ]
-        | inr p ↦ inl p.2
+        | inr p ↦ elim p.2 [ inl q ↦ inl q | inr end ↦ inr (inr (end_expanded S ops new u d end)) ]
       ];
     }
 
@@ -135,10 +149,11 @@ module _ {C : Type 0} (ops : CostOps C) (S : Space C) (start : ℕ) where
       ];
     }
 
--- a label that is no dearer than the one before
-pub Offers-put : {C : Type 0} {ops : CostOps C} (laws : CostLaws ops) (old : List (Option C)) (before after : List (C × ℕ)) (v : ℕ) (c : C) → v < length old →
-    ((d : C) → slice_get old v ≡ Some (Some d) → NoDearer ops c d) → Adds before after (c, v) → Offers ops old (set old v (Some c)) before after v c
-Offers-put {C} {ops} laws old before after v c lt less adds =
+-- a label that is no dearer than the one before, and in the queue if something leads on
+pub Offers-put : {C : Type 0} {ops : CostOps C} (laws : CostLaws ops) (S : Space C) (old : List (Option C)) (before after : List (C × ℕ)) (v : ℕ) (c : C) → v < length old →
+    ((d : C) → slice_get old v ≡ Some (Some d) → NoDearer ops c d) → Contains after (c, v) ⊎ IsEnd S v → ((x : C × ℕ) → Contains before x → Contains after x) →
+    Offers ops S old (set old v (Some c)) before after v c
+Offers-put {C} {ops} laws S old before after v c lt less leads stays =
     let new : List (Option C) = set old v (Some c) in
     let size : length new ≡ length old = length-set old v (Some c) in
     let long : v < length new = omega (arith, lt, size) in
@@ -160,14 +175,21 @@ Offers-put {C} {ops} laws old before after v c lt less adds =
         | inl p ↦
             let cost : d ≡ c = same_Some d c p.1 in
             let entry : ◌≡◌ {A = C × ℕ} (d, u) (c, v) = ap (λ (x : C). (x, u)) cost ∙ ap (λ (n : ℕ). (c, n)) p.0 in
-            inr (p.0, cost, (adds (d, u)).1 (inl entry))
+            inr (
+              p.0,
+              cost,
+              elim leads [
+                | inl q ↦ inl (subst (Contains after) (sym entry) q)
+                | inr end ↦ inr (subst (IsEnd S) (sym p.0) end)
+              ],
+            )
         | inr p ↦ inl p.1
       ];
-      queued = λ x h. (adds x).1 (inr h);
+      queued = stays;
     }
 
 module _ {C : Type 0} {ops : CostOps C} (laws : CostLaws ops) (S : Space C) (space : IsSpace ops S) (start : ℕ) where
-  hop_valid : (u v : ℕ) (s : C) → HasHop S u v s → ops.valid s
+  pub hop_valid : (u v : ℕ) (s : C) → HasHop S u v s → ops.valid s
   hop_valid u v s h = laws.units_valid s (2 ^ 29) (space.hop_units u v s h)
 
   -- a sum with a hop fits

@@ -1,1 +1,2 @@
 mod Labelling
+mod Ranking

@@ -35,10 +35,14 @@ pub record IsFront {C : Type 0} (ops : CostOps C) (S : Space C) (start : ℕ) (l
   pub reached : (v : ℕ) (d : C) → slice_get labels v ≡ Some (Some d) → IsReached ops S start v d
   pub goes_on : (v : ℕ) (d : C) → slice_get labels v ≡ Some (Some d) → Contains queue (d, v) ⊎ (HeldBack v d ⊎ IsExpanded ops S labels v d)
 
--- v was offered the label c: it has one within it, and a label that came is this one, and in the queue
-pub record Offers {C : Type 0} (ops : CostOps C) (old new : List (Option C)) (before after : List (C × ℕ)) (v : ℕ) (c : C) : Type 0 where
+-- no hop leads out of u
+abbrev pub IsEnd : {C : Type 0} → Space C → ℕ → Type 0
+IsEnd {C} S u = (v : ℕ) (s : C) → ¬ HasHop S u v s
+
+-- v was offered the label c: it has one within it, and a label that came is this one, and in the queue, unless nothing leads on
+pub record Offers {C : Type 0} (ops : CostOps C) (S : Space C) (old new : List (Option C)) (before after : List (C × ℕ)) (v : ℕ) (c : C) : Type 0 where
   pub size : length new ≡ length old
   pub falls : LabelsFall ops old new
   pub found : LabelWithin ops new v c
-  pub came : (u : ℕ) (d : C) → slice_get new u ≡ Some (Some d) → (slice_get old u ≡ Some (Some d)) ⊎ ((u ≡ v) × (d ≡ c) × Contains after (d, u))
+  pub came : (u : ℕ) (d : C) → slice_get new u ≡ Some (Some d) → (slice_get old u ≡ Some (Some d)) ⊎ ((u ≡ v) × (d ≡ c) × (Contains after (d, u) ⊎ IsEnd S u))
   pub queued : (x : C × ℕ) → Contains before x → Contains after x

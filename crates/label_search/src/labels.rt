@@ -1,32 +1,47 @@
 //! A search from one vertex to all to which it comes, with the labels of the vertices side by side.
 
-ghost use Rattle.std.specs.Prelude.{◌≡◌, ℕ, ◌<◌, ◌^◌, [], length, Some, None, OnOk};
+ghost use Rattle.std.specs.Prelude.{◌≡◌, ℕ, ◌+◌, ◌<◌, ◌≤◌, ◌^◌, [], length, Some, None, IfSome, OnOk};
 ghost use Rattle.std.specs.Bool.{OnTrue, OnFalse};
 ghost use Rattle.std.specs.List.{Contains, slice_get};
 ghost use Rattle.search_graph.specs.Costs.{NoDearer};
 ghost use Rattle.step_search.specs.Spaces.{IsSpace};
 ghost use Rattle.label_search.specs.Labelled.{Held, IsFront, IsReached, LabelsFall, LabelWithin, Nothing, Offers};
 ghost use Rattle.label_search.specs.Least.{AreLeast, HasArcsAlone};
+ghost use Rattle.label_search.specs.Ranked.{AreArcRanks, AreLabelRanks, IsOverRank, unranked_label};
 
+use crate::arc_ranks::ArcRank;
 use search_graph::Cost;
 use search_queue::Queue;
 use std::alloc::{AllocError, Global};
 use step_search::Steps;
 
-// An entry that was taken from the queue: a vertex, and what was its label when it came there.
+// In place of the rank of a label that has none, and of no label.
+const UNRANKED: u64 = u64::MAX;
+
+// An entry that was taken from the queue: a vertex, and what was its label when it came there, with that cost's rank.
 #[derive(Clone, Copy, Drop)]
 struct Entry<C> {
     vertex: u32,
     cost: C,
+    rank: Option<u64>,
+}
+
+// What a search goes over: the steps, and by the numbers of their arcs the ranks of these.
+#[derive(Drop)]
+struct Ground<'a, T> {
+    steps: &'a T,
+    arcs: &'a [ArcRank],
 }
 
 /// What the cheapest ways so far cost, by vertex, and from where the search has still to go on.
 ///
-/// A label only falls. An entry of the queue whose vertex's label has fallen since is passed over. It costs the size of
-/// an `Option<C>` a vertex, and that of a `C` and eight bytes more an entry of the queue.
+/// A label only falls. An entry of the queue whose vertex's label has fallen since is passed over. It costs eight bytes and
+/// the size of an `Option<C>` a vertex, and 16 bytes an entry of the queue whose cost has a rank.
 pub struct Labels<C: Cost> {
     /// By vertex: its label, if a way to it was found.
     pub costs: Vec<Option<C>>,
+    // by vertex: the rank of its label
+    ranks: Vec<u64>,
     queue: Queue<C>,
 }
 
@@ -34,6 +49,7 @@ impl<C: Cost> Drop for Labels<C> {
     fn drop(self) {
         let Labels {
             costs: _costs,
+            ranks: _ranks,
             queue: _queue,
         } = self;
     }
@@ -44,23 +60,27 @@ impl<C: Cost> Labels<C> {
     pub fn new(alloc: Global) -> Labels<C> {
         Labels {
             costs: Vec::new(alloc),
+            ranks: Vec::new(alloc),
             queue: Queue::new(alloc),
         }
     }
 
     /// Searches the whole space, of `count` vertices, from `start`: each other vertex has then as its label what a cheapest
-    /// path to it costs, and none where there is no path. What stood in it before is taken away.
+    /// path to it costs, and none where there is no path. What stood in it before is taken away. `arcs` has the rank of each
+    /// arc by the arc's number.
     ///
     /// It answers the error where memory runs out, and may be called after it.
     pub fn search<T: Steps<C>>(
         &mut self,
         steps: &T,
+        arcs: &[ArcRank],
         start: u32,
         count: u32,
     ) -> Result<(), AllocError>
         requires ready { T.ready steps.now }
         requires space { IsSpace C.ops (T.space steps.now) }
-        requires arcs { HasArcsAlone (T.space steps.now) }
+        requires alone { HasArcsAlone (T.space steps.now) }
+        requires arcs { AreArcRanks C.ops C.ranked (T.space steps.now) arcs.now }
         requires count { count ≡ (T.space steps.now).vertices }
         requires start { start < count }
         ensures { OnOk result (AreLeast C.ops (T.space steps.now) start self.new.costs.items) }
@@ -68,34 +88,42 @@ impl<C: Cost> Labels<C> {
         self.queue.clear();
         self.costs.clear();
         self.costs.resize(count as usize, None)?;
-        self.begin(steps, start)?;
-        self.go_on(steps, start)?;
+        self.ranks.clear();
+        self.ranks.resize(count as usize, UNRANKED)?;
+        let ground = Ground { steps, arcs };
+        self.begin(&ground, start)?;
+        self.go_on(&ground, start)?;
         Ok(())
     }
 
     // Begins at a vertex, where a path may begin there.
-    fn begin<T: Steps<C>>(&mut self, steps: &T, start: u32) -> Result<(), AllocError>
-        requires ready { T.ready steps.now }
-        requires size { length self.old.costs.items ≡ (T.space steps.now).vertices }
+    fn begin<T: Steps<C>>(&mut self, ground: &Ground<T>, start: u32) -> Result<(), AllocError>
+        requires ready { T.ready ground.now.steps.now }
+        requires alone { HasArcsAlone (T.space ground.now.steps.now) }
+        requires size { length self.old.costs.items ≡ (T.space ground.now.steps.now).vertices }
         requires none { (v : ℕ) (d : C) → ¬ (slice_get self.old.costs.items v ≡ Some (Some d)) }
-        requires start { start < (T.space steps.now).vertices }
-        ensures { OnOk result (IsFront C.ops (T.space steps.now) start self.new.costs.items self.new.queue Nothing) }
+        requires ranks { AreLabelRanks C.ranked self.old.costs.items self.old.ranks.items }
+        requires start { start < (T.space ground.now.steps.now).vertices }
+        ensures front { OnOk result (IsFront C.ops (T.space ground.now.steps.now) start self.new.costs.items self.new.queue Nothing) }
+        ensures ranks { OnOk result (AreLabelRanks C.ranked self.new.costs.items self.new.ranks.items) }
     {
-        if !steps.may_begin(start) {
+        if !ground.steps.may_begin(start) {
             return Ok(());
         }
-        self.offer(start, C::ZERO)?;
+        self.offer(ground, start, C::ZERO)?;
         Ok(())
     }
 
     // Goes on from one entry of the queue after another, the cheapest first, until none is left. A turn takes an entry that took
     // memory, so there are never as many turns as numbers.
-    fn go_on<T: Steps<C>>(&mut self, steps: &T, start: u32) -> Result<(), AllocError>
-        requires ready { T.ready steps.now }
-        requires space { IsSpace C.ops (T.space steps.now) }
-        requires arcs { HasArcsAlone (T.space steps.now) }
-        requires front { IsFront C.ops (T.space steps.now) start self.old.costs.items self.old.queue Nothing }
-        ensures { OnOk result (AreLeast C.ops (T.space steps.now) start self.new.costs.items) }
+    fn go_on<T: Steps<C>>(&mut self, ground: &Ground<T>, start: u32) -> Result<(), AllocError>
+        requires ready { T.ready ground.now.steps.now }
+        requires space { IsSpace C.ops (T.space ground.now.steps.now) }
+        requires alone { HasArcsAlone (T.space ground.now.steps.now) }
+        requires arcs { AreArcRanks C.ops C.ranked (T.space ground.now.steps.now) ground.now.arcs.now }
+        requires front { IsFront C.ops (T.space ground.now.steps.now) start self.old.costs.items self.old.queue Nothing }
+        requires ranks { AreLabelRanks C.ranked self.old.costs.items self.old.ranks.items }
+        ensures { OnOk result (AreLeast C.ops (T.space ground.now.steps.now) start self.new.costs.items) }
     {
         for _ in 0..u64::MAX {
             match self.queue.pop() {
@@ -104,8 +132,9 @@ impl<C: Cost> Labels<C> {
                     let entry = Entry {
                         vertex: least.1,
                         cost: least.0,
+                        rank: least.0.rank(),
                     };
-                    self.take(steps, start, entry)?
+                    self.take(ground, start, entry)?
                 }
             }
         }
@@ -115,21 +144,25 @@ impl<C: Cost> Labels<C> {
     // Goes on from the vertex of an entry, unless its label has fallen since.
     fn take<T: Steps<C>>(
         &mut self,
-        steps: &T,
+        ground: &Ground<T>,
         start: u32,
         entry: Entry<C>,
     ) -> Result<(), AllocError>
-        requires ready { T.ready steps.now }
-        requires space { IsSpace C.ops (T.space steps.now) }
-        requires arcs { HasArcsAlone (T.space steps.now) }
-        requires front { IsFront C.ops (T.space steps.now) start self.old.costs.items self.old.queue (Held entry.vertex entry.cost) }
+        requires ready { T.ready ground.now.steps.now }
+        requires space { IsSpace C.ops (T.space ground.now.steps.now) }
+        requires alone { HasArcsAlone (T.space ground.now.steps.now) }
+        requires arcs { AreArcRanks C.ops C.ranked (T.space ground.now.steps.now) ground.now.arcs.now }
+        requires front { IsFront C.ops (T.space ground.now.steps.now) start self.old.costs.items self.old.queue (Held entry.vertex entry.cost) }
+        requires ranks { AreLabelRanks C.ranked self.old.costs.items self.old.ranks.items }
         requires least { (k : C) (w : ℕ) → Contains self.old.queue (k, w) → NoDearer C.ops entry.cost k }
-        ensures { OnOk result (IsFront C.ops (T.space steps.now) start self.new.costs.items self.new.queue Nothing) }
+        requires rank { entry.rank ≡ C.ranked entry.cost }
+        ensures front { OnOk result (IsFront C.ops (T.space ground.now.steps.now) start self.new.costs.items self.new.queue Nothing) }
+        ensures ranks { OnOk result (AreLabelRanks C.ranked self.new.costs.items self.new.ranks.items) }
     {
         if !self.stands(entry) {
             return Ok(());
         }
-        self.expand(steps, start, entry)?;
+        self.expand(ground, start, entry)?;
         Ok(())
     }
 
@@ -147,79 +180,131 @@ impl<C: Cost> Labels<C> {
     // Offers a label along each arc out of the vertex of an entry, which is its label.
     fn expand<T: Steps<C>>(
         &mut self,
-        steps: &T,
+        ground: &Ground<T>,
         start: u32,
         entry: Entry<C>,
     ) -> Result<(), AllocError>
-        requires ready { T.ready steps.now }
-        requires space { IsSpace C.ops (T.space steps.now) }
-        requires arcs { HasArcsAlone (T.space steps.now) }
-        requires front { IsFront C.ops (T.space steps.now) start self.old.costs.items self.old.queue (Held entry.vertex entry.cost) }
+        requires ready { T.ready ground.now.steps.now }
+        requires space { IsSpace C.ops (T.space ground.now.steps.now) }
+        requires alone { HasArcsAlone (T.space ground.now.steps.now) }
+        requires arcs { AreArcRanks C.ops C.ranked (T.space ground.now.steps.now) ground.now.arcs.now }
+        requires front { IsFront C.ops (T.space ground.now.steps.now) start self.old.costs.items self.old.queue (Held entry.vertex entry.cost) }
+        requires ranks { AreLabelRanks C.ranked self.old.costs.items self.old.ranks.items }
         requires here { slice_get self.old.costs.items entry.vertex ≡ Some (Some entry.cost) }
         requires units { C.ops.units entry.cost (2 ^ 28) }
-        ensures { OnOk result (IsFront C.ops (T.space steps.now) start self.new.costs.items self.new.queue Nothing) }
+        requires rank { entry.rank ≡ C.ranked entry.cost }
+        ensures front { OnOk result (IsFront C.ops (T.space ground.now.steps.now) start self.new.costs.items self.new.queue Nothing) }
+        ensures ranks { OnOk result (AreLabelRanks C.ranked self.new.costs.items self.new.ranks.items) }
     {
         let _count = self.costs.len();
-        let arcs = steps.arcs(entry.vertex);
+        let arcs = ground.steps.arcs(entry.vertex);
         for place in 0..arcs.len() {
-            self.relax(steps, start, entry, arcs.get(place))?;
+            self.relax(ground, start, entry, arcs.get(place))?;
         }
         Ok(())
     }
 
-    // Offers a label along an arc out of the vertex of an entry, where that way is open.
+    // Offers a label along an arc out of the vertex of an entry, where that way is open. Most offers improve nothing, and their
+    // ranks tell so without their costs.
     #[inline(always)]
     fn relax<T: Steps<C>>(
         &mut self,
-        steps: &T,
+        ground: &Ground<T>,
         start: u32,
         entry: Entry<C>,
         arc: u32,
     ) -> Result<(), AllocError>
-        requires ready { T.ready steps.now }
-        requires space { IsSpace C.ops (T.space steps.now) }
-        requires vertex { entry.vertex < (T.space steps.now).vertices }
-        requires named { (T.space steps.now).Name entry.vertex arc }
-        requires reached { IsReached C.ops (T.space steps.now) start entry.vertex entry.cost }
+        requires ready { T.ready ground.now.steps.now }
+        requires space { IsSpace C.ops (T.space ground.now.steps.now) }
+        requires alone { HasArcsAlone (T.space ground.now.steps.now) }
+        requires arcs { AreArcRanks C.ops C.ranked (T.space ground.now.steps.now) ground.now.arcs.now }
+        requires vertex { entry.vertex < (T.space ground.now.steps.now).vertices }
+        requires named { (T.space ground.now.steps.now).Name entry.vertex arc }
+        requires reached { IsReached C.ops (T.space ground.now.steps.now) start entry.vertex entry.cost }
         requires units { C.ops.units entry.cost (2 ^ 28) }
-        requires front { IsFront C.ops (T.space steps.now) start self.old.costs.items self.old.queue (Held entry.vertex entry.cost) }
-        ensures front { OnOk result (IsFront C.ops (T.space steps.now) start self.new.costs.items self.new.queue (Held entry.vertex entry.cost)) }
+        requires rank { entry.rank ≡ C.ranked entry.cost }
+        requires front { IsFront C.ops (T.space ground.now.steps.now) start self.old.costs.items self.old.queue (Held entry.vertex entry.cost) }
+        requires ranks { AreLabelRanks C.ranked self.old.costs.items self.old.ranks.items }
+        ensures front { OnOk result (IsFront C.ops (T.space ground.now.steps.now) start self.new.costs.items self.new.queue (Held entry.vertex entry.cost)) }
+        ensures ranks { OnOk result (AreLabelRanks C.ranked self.new.costs.items self.new.ranks.items) }
         ensures falls { OnOk result (LabelsFall C.ops self.old.costs.items self.new.costs.items) }
-        ensures found { OnOk result ((w : ℕ) (s : C) → (T.space steps.now).Arc entry.vertex arc w s → LabelWithin C.ops self.new.costs.items w (C.ops.plus entry.cost s)) }
+        ensures found { OnOk result ((w : ℕ) (s : C) → (T.space ground.now.steps.now).Arc entry.vertex arc w s → LabelWithin C.ops self.new.costs.items w (C.ops.plus entry.cost s)) }
     {
         let _ = start;
-        match steps.by_arc(entry.vertex, arc) {
+        if self.is_over(entry.rank, ground.arcs[arc as usize]) {
+            return Ok(());
+        }
+        match ground.steps.by_arc(entry.vertex, arc) {
             None => Ok(()),
             Some(hop) => {
-                self.offer(hop.head, entry.cost.plus(hop.cost))?;
+                self.offer(ground, hop.head, entry.cost.plus(hop.cost))?;
                 Ok(())
             }
         }
     }
 
+    // Whether a rank and that of an arc are together no less than the rank of the label to which the arc leads.
+    #[inline(always)]
+    fn is_over(&self, rank: Option<u64>, arc: ArcRank) -> bool
+        requires head { arc.head < length self.now.ranks.items }
+        requires rank { IfSome rank (λ r. r < 2 ^ 63) }
+        requires arc { arc.rank < 2 ^ 63 }
+        ensures { OnTrue result (IsOverRank self.now.ranks.items rank arc) }
+    {
+        match rank {
+            None => false,
+            Some(rank) => self.ranks[arc.head as usize] <= rank + arc.rank,
+        }
+    }
+
     // Gives a vertex this label if it is less than the one that it has, or it has none.
     #[inline(always)]
-    fn offer(&mut self, v: u32, cost: C) -> Result<(), AllocError>
-        requires { v < length self.old.costs.items }
-        ensures { OnOk result (Offers C.ops self.old.costs.items self.new.costs.items self.old.queue self.new.queue v cost) }
+    fn offer<T: Steps<C>>(&mut self, ground: &Ground<T>, v: u32, cost: C) -> Result<(), AllocError>
+        requires ready { T.ready ground.now.steps.now }
+        requires alone { HasArcsAlone (T.space ground.now.steps.now) }
+        requires size { length self.old.costs.items ≡ (T.space ground.now.steps.now).vertices }
+        requires vertex { v < (T.space ground.now.steps.now).vertices }
+        requires ranks { AreLabelRanks C.ranked self.old.costs.items self.old.ranks.items }
+        ensures offers { OnOk result (Offers C.ops (T.space ground.now.steps.now) self.old.costs.items self.new.costs.items self.old.queue self.new.queue v cost) }
+        ensures ranks { OnOk result (AreLabelRanks C.ranked self.new.costs.items self.new.ranks.items) }
     {
         if !improves(self.costs[v as usize], cost) {
             return Ok(());
         }
-        self.lower(v, cost)?;
+        self.lower(ground, v, cost)?;
         Ok(())
     }
 
-    // Gives a vertex this label, which is less than the one that it has, if it has one. Few offers come to this, and it stands
-    // apart so that all others stay short.
-    fn lower(&mut self, v: u32, cost: C) -> Result<(), AllocError>
-        requires vertex { v < length self.old.costs.items }
+    // Gives a vertex this label, which is less than the one that it has, if it has one. Where an arc leads out of it, the search
+    // goes on from it later. Few offers come to this, and it stands apart so that all others stay short.
+    fn lower<T: Steps<C>>(&mut self, ground: &Ground<T>, v: u32, cost: C) -> Result<(), AllocError>
+        requires ready { T.ready ground.now.steps.now }
+        requires alone { HasArcsAlone (T.space ground.now.steps.now) }
+        requires size { length self.old.costs.items ≡ (T.space ground.now.steps.now).vertices }
+        requires vertex { v < (T.space ground.now.steps.now).vertices }
+        requires ranks { AreLabelRanks C.ranked self.old.costs.items self.old.ranks.items }
         requires less { (d : C) → slice_get self.old.costs.items v ≡ Some (Some d) → NoDearer C.ops cost d }
-        ensures { OnOk result (Offers C.ops self.old.costs.items self.new.costs.items self.old.queue self.new.queue v cost) }
+        ensures offers { OnOk result (Offers C.ops (T.space ground.now.steps.now) self.old.costs.items self.new.costs.items self.old.queue self.new.queue v cost) }
+        ensures ranks { OnOk result (AreLabelRanks C.ranked self.new.costs.items self.new.ranks.items) }
     {
         self.costs[v as usize] = Some(cost);
+        self.ranks[v as usize] = rank_of(cost);
+        if ground.steps.arcs(v).is_empty() {
+            return Ok(());
+        }
         self.queue.push(cost, v)?;
         Ok(())
+    }
+}
+
+// The rank of a label.
+#[inline(always)]
+fn rank_of<C: Cost>(cost: C) -> u64
+    ensures { result < unranked_label → C.ranked cost ≡ Some result }
+{
+    match cost.rank() {
+        None => UNRANKED,
+        Some(rank) => rank,
     }
 }
 

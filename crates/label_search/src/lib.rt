@@ -2,9 +2,12 @@
 //!
 //! It serves small spaces, as the inside of a cell, that are searched whole from one vertex after another: there it is faster
 //! than the search of `step_search`, which follows what it touches and keeps the paths. It keeps costs alone, takes the
-//! cheapest entry of its queue first, and passes over one whose vertex's label has fallen since.
+//! cheapest entry of its queue first, and passes over one whose vertex's label has fallen since. Most arcs offer nothing
+//! better: that is seen by the ranks of labels and arcs, each one number, without a look at costs.
 #![tactic(auto)]
 
+mod arc_ranks;
 mod labels;
 
+pub use arc_ranks::ArcRank;
 pub use labels::Labels;
