@@ -5,6 +5,7 @@ pub mod Leapt
 pub mod Locals
 pub mod Numbered
 pub mod Ranges
+pub mod Ranked
 pub mod Renumbered
 pub mod Searched
 pub mod Taking

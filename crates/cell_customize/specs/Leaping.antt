@@ -5,6 +5,8 @@ use Rattle.std.specs.List.{slice_get}
 use Rattle.search_graph.specs.Costs.{CostOps, NoDearer}
 use Rattle.step_search.specs.Spaces.{Space, Path, IsLeastCost}
 use Rattle.step_search.specs.declared.hops.Hop.{Hop}
+use Rattle.label_search.specs.Ranked.{AddsAtLeast}
+use Rattle.label_search.specs.declared.arc_ranks.ArcRank.{ArcRank}
 use Rattle.cell_customize.specs.declared.leaps.Bundle.{Bundle}
 
 -- an arc from u to v, and a place of u's row that leads to v
@@ -57,6 +59,17 @@ pub record IsBundle {C : Type 0} (ops : CostOps C) (S : Space C) (Goal : ℕ →
 pub record AreBundles {C : Type 0} (ops : CostOps C) (S : Space C) (Goal : ℕ → Type 0) (bundles : List Bundle) (hops : List (Hop C)) (done : ℕ) : Type 0 where
   pub size : length bundles ≡ done
   pub each : (u : ℕ) (bundle : Bundle) → slice_get bundles u ≡ Some bundle → IsBundle ops S Goal u hops bundle
+
+-- where a hop leads, and what its cost adds to a rank at least
+pub record IsRankOf {C : Type 0} (ops : CostOps C) (ranked : C → Option ℕ) (hop : Hop C) (arc : ArcRank) : Type 0 where
+  pub head : arc.head ≡ hop.head
+  pub short : arc.rank < 2 ^ 63
+  pub adds : AddsAtLeast ops ranked arc.rank hop.cost
+
+-- those of all hops, by their places
+pub record AreRanksOf {C : Type 0} (ops : CostOps C) (ranked : C → Option ℕ) (hops : List (Hop C)) (ranks : List ArcRank) : Type 0 where
+  pub size : length ranks ≡ length hops
+  pub each : (i : ℕ) (hop : Hop C) (arc : ArcRank) → slice_get hops i ≡ Some hop → slice_get ranks i ≡ Some arc → IsRankOf ops ranked hop arc
 
 -- the number is marked as a goal
 abbrev pub IsGoal : List Bool → ℕ → Type 0

@@ -4,10 +4,11 @@ ghost use Rattle.std.specs.Prelude.{◌≡◌, ℕ, ◌+◌, ◌<◌, ◌≤◌,
 ghost use Rattle.std.specs.Bool.{OnTrue, OnFalse};
 ghost use Rattle.std.specs.List.{Contains, slice_get};
 ghost use Rattle.step_search.specs.Spaces.{IsSpace};
-ghost use Rattle.cell_customize.specs.Leaping.{ArcHop, RowHop, Beyond, Placed, IfPlaced, Gathers, AreBundles, IsGoal};
+ghost use Rattle.cell_customize.specs.Leaping.{ArcHop, RowHop, Beyond, Placed, IfPlaced, Gathers, AreBundles, AreRanksOf, IsGoal};
 
 use crate::numbering::Numbering;
 use cost_lists::CostRow;
+use label_search::ArcRank;
 use search_graph::Cost;
 use std::alloc::{AllocError, Global};
 use step_search::{Hop, Steps};
@@ -297,15 +298,28 @@ fn mark_all(goals: &mut [bool], numbers: &Numbering, vertices: &[u32])
     }
 }
 
+// Puts the rank of each hop at its place, and takes what stood there before away.
+fn rank_all<C: Cost>(hops: &[Hop<C>], ranks: &mut Vec<ArcRank>) -> Result<(), AllocError>
+    ensures { OnOk result (AreRanksOf C.ops C.ranked hops.now ranks.new.items) }
+{
+    ranks.clear();
+    for place in 0..hops.len() {
+        ranks.push(ArcRank::of(hops[place]))?;
+    }
+    Ok(())
+}
+
 /// Out of each vertex of a space its leaps: along its arcs, by a place of its row and an arc behind it, and by a place of
 /// its row that leads to a goal. Of those to one head only the cheapest is kept.
 ///
-/// A search over them comes to no vertex to which only rows lead, but the goals. It costs 8 bytes a vertex and the size of a
-/// `Hop` a leap.
+/// A search over them comes to no vertex to which only rows lead, but the goals. It costs 8 bytes a vertex, and the size of a
+/// `Hop` and 16 bytes a leap.
 pub struct Leaps<C: Cost> {
     pub bundles: Vec<Bundle>,
     pub gathering: Gathering<C>,
     pub goals: Vec<bool>,
+    /// By the place of a hop: what a search sees of it before it looks at its cost.
+    pub ranks: Vec<ArcRank>,
 }
 
 impl<C: Cost> Drop for Leaps<C> {
@@ -314,6 +328,7 @@ impl<C: Cost> Drop for Leaps<C> {
             bundles: _bundles,
             gathering: _gathering,
             goals: _goals,
+            ranks: _ranks,
         } = self;
     }
 }
@@ -325,6 +340,7 @@ impl<C: Cost> Leaps<C> {
             bundles: Vec::new(alloc),
             gathering: Gathering::new(alloc),
             goals: Vec::new(alloc),
+            ranks: Vec::new(alloc),
         }
     }
 
@@ -343,6 +359,7 @@ impl<C: Cost> Leaps<C> {
         requires count { (T.space steps.now).vertices ≡ length numbers.now }
         ensures bundles { OnOk result (AreBundles C.ops (T.space steps.now) (IsGoal self.new.goals.items) self.new.bundles.items self.new.gathering.hops.items (length numbers.now)) }
         ensures goals { OnOk result ((v b : ℕ) → Contains targets.now v → slice_get numbers.now b ≡ Some v → IsGoal self.new.goals.items b) }
+        ensures ranks { OnOk result (AreRanksOf C.ops C.ranked self.new.gathering.hops.items self.new.ranks.items) }
     {
         let count = numbers.len() as u32;
         self.goals.clear();
@@ -350,7 +367,8 @@ impl<C: Cost> Leaps<C> {
         mark_all(&mut self.goals, numbers, targets);
         self.bundles.clear();
         self.gathering.clear(count)?;
-        self.take_all(steps, count)
+        self.take_all(steps, count)?;
+        rank_all(self.gathering.hops.as_slice(), &mut self.ranks)
     }
 
     // Takes the leaps out of all vertices.

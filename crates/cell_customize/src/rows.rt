@@ -7,6 +7,7 @@ ghost use Rattle.cell_frame.specs.Cliqued.{IsRow, AreExact};
 ghost use Rattle.cell_frame.specs.Inside.{IsInsideValue};
 ghost use Rattle.search_graph.specs.Weighted.{AreSmall};
 ghost use Rattle.cell_customize.specs.Inner.{IsInner};
+ghost use Rattle.cell_customize.specs.Leaping.{AreRanksOf};
 ghost use Rattle.cell_customize.specs.Levels.{IsClique};
 ghost use Rattle.label_search.specs.Least.{AreLeast};
 ghost use Rattle.cell_customize.specs.Filled.{IsFilled, IsLeapt, leapt_space};
@@ -70,13 +71,19 @@ fn row<C: Cost>(
     requires inner { IsInner C.ops leaping.now.steps.now.steps.now.frame.now leaping.now.steps.now.steps.now.weights.now leaping.now.steps.now.steps.now.cliques.now leaping.now.steps.now.steps.now.parts.now.cell }
     requires filled { IsFilled C.ops leaping.now.steps.now.steps.now.frame.now leaping.now.steps.now.steps.now.weights.now leaping.now.steps.now.steps.now.parts.now.cell leaping.now.steps.now.local.now }
     requires leapt { IsLeapt C.ops leaping.now.steps.now.steps.now.frame.now leaping.now.steps.now.steps.now.weights.now leaping.now.steps.now.steps.now.parts.now.cell leaping.now.steps.now.local.now leaping.now.leaps.now }
+    requires ranks { AreRanksOf C.ops C.ranked leaping.now.leaps.now.gathering.hops.items leaping.now.leaps.now.ranks.items }
     requires entry { Contains (at_cell leaping.now.steps.now.steps.now.frame.now.entries leaping.now.steps.now.steps.now.parts.now.cell) entry }
     requires exits { exits.now ≡ at_cell leaping.now.steps.now.steps.now.frame.now.exits leaping.now.steps.now.steps.now.parts.now.cell }
     ensures { OnOk result ((row : _) × (values.new ≡ values.old ++ row) × IsRow C.ops leaping.now.steps.now.steps.now.frame.now leaping.now.steps.now.steps.now.weights.now leaping.now.steps.now.steps.now.parts.now.cell entry row) }
 {
     let numbers = &leaping.steps.local.numbers;
     let start = numbers.number(entry).unwrap();
-    labels.search(leaping, start, numbers.len() as u32)?;
+    labels.search(
+        leaping,
+        leaping.leaps.ranks.as_slice(),
+        start,
+        numbers.len() as u32,
+    )?;
     for exit in exits {
         values.push(inside(leaping, labels, entry, start, *exit))?;
     }
@@ -94,6 +101,7 @@ fn rows<C: Cost>(
     requires inner { IsInner C.ops leaping.now.steps.now.steps.now.frame.now leaping.now.steps.now.steps.now.weights.now leaping.now.steps.now.steps.now.cliques.now leaping.now.steps.now.steps.now.parts.now.cell }
     requires filled { IsFilled C.ops leaping.now.steps.now.steps.now.frame.now leaping.now.steps.now.steps.now.weights.now leaping.now.steps.now.steps.now.parts.now.cell leaping.now.steps.now.local.now }
     requires leapt { IsLeapt C.ops leaping.now.steps.now.steps.now.frame.now leaping.now.steps.now.steps.now.weights.now leaping.now.steps.now.steps.now.parts.now.cell leaping.now.steps.now.local.now leaping.now.leaps.now }
+    requires ranks { AreRanksOf C.ops C.ranked leaping.now.leaps.now.gathering.hops.items leaping.now.leaps.now.ranks.items }
     requires entries { entries.now ≡ at_cell leaping.now.steps.now.steps.now.frame.now.entries leaping.now.steps.now.steps.now.parts.now.cell }
     requires exits { exits.now ≡ at_cell leaping.now.steps.now.steps.now.frame.now.exits leaping.now.steps.now.steps.now.parts.now.cell }
     ensures { OnOk result ((clique : _) × (values.new ≡ values.old ++ clique) × IsClique C.ops leaping.now.steps.now.steps.now.frame.now leaping.now.steps.now.steps.now.weights.now leaping.now.steps.now.steps.now.parts.now.cell clique) }

@@ -1,11 +1,16 @@
 -- Each turn values one exit more.
-use Rattle.std.proofs.Common.{rules, ◌≡◌, ◌∷◌, ◌++◌, [], Some, get_or, length, length-append, refl, sym, arith, ap, ◌∙◌}
+use Rattle.std.proofs.Common.{rules, ◌≡◌, List, ◌∷◌, ◌++◌, [], Some, get_or, length, length-append, refl, sym, arith, ap, subst, ◌∙◌}
 use Rattle.std.specs.List.{slice_get}
 use Rattle.std.proofs.lemmas.Option.{slice_get-get_or, slice_get_within}
 use Rattle.std.proofs.lemmas.List.{append_assoc, append-nil}
 use Rattle.cell_frame.specs.Borders.{Holds}
 use Rattle.cell_frame.specs.Inside.{IsInsideValue}
 use Rattle.cell_customize.proofs.Numbered.{named_some}
+use Rattle.cell_customize.specs.Filled.{small_space}
+use Rattle.label_search.specs.Ranked.{AreArcRanks}
+use Rattle.label_search.specs.declared.arc_ranks.ArcRank.{ArcRank}
+use Rattle.cell_customize.specs.Leaping.{IsGoal, leap_space}
+use Rattle.cell_customize.proofs.Ranked.{AreArcRanks-leaps}
 use Rattle.cell_customize.proofs.Searched.{IsSpace-leapt}
 use Rattle.cell_customize.specs.Piling.{get_nothing, one_more, row_from}
 use Rattle.cell_customize.proofs.rows.row.Goals as goal
@@ -17,6 +22,17 @@ pub search-requires-clause-space : goal.search-requires-clause-space
 search-requires-clause-space g c =
     let o = c.args.leaping.now.steps.now.steps.now in
     IsSpace-leapt g.met.C.Cost.laws o.frame.now o.weights.now o.cliques.now o.parts.now.cell c.requires.inner c.args.leaping.now.steps.now.local.now c.requires.filled c.args.leaping.now.leaps.now c.requires.leapt
+
+pub search-requires-clause-arcs : goal.search-requires-clause-arcs
+search-requires-clause-arcs g c =
+    let o = c.args.leaping.now.steps.now.steps.now in
+    let local = c.args.leaping.now.steps.now.local.now in
+    let leaps = c.args.leaping.now.leaps.now in
+    let ops = g.C.Cost.ops in
+    let small = small_space ops o.frame.now o.weights.now o.parts.now.cell local in
+    let space = IsSpace-leapt g.met.C.Cost.laws o.frame.now o.weights.now o.cliques.now o.parts.now.cell c.requires.inner local c.requires.filled leaps c.requires.leapt in
+    subst (λ (arcs : List ArcRank). AreArcRanks ops g.C.Cost.ranked (leap_space small leaps.bundles.items leaps.gathering.hops.items) arcs) (sym c.as_slice.ensures.value)
+    (AreArcRanks-leaps {C = g.row.C.Denot} ops g.C.Cost.ranked small (IsGoal leaps.goals.items) leaps.bundles.items leaps.gathering.hops.items (length local.numbers) leaps.ranks.items c.requires.leapt.bundles space c.requires.ranks)
 
 pub search-requires-clause-start : goal.search-requires-clause-start
 search-requires-clause-start g c =
