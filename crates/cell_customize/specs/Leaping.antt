@@ -1,6 +1,6 @@
 -- For the functions of this crate alone: a place of a row and an arc behind it as one hop, so that a search comes to no exit but
 -- those that it looks for.
-use Rattle.std.specs.Prelude.{◌≡◌, ℕ, ◌<◌, ◌≤◌, ◌^◌, ◌⊎◌, List, [], length, Option, Some, true, Bool}
+use Rattle.std.specs.Prelude.{◌≡◌, ℕ, ◌+◌, ◌<◌, ◌≤◌, ◌^◌, ◌⊎◌, List, [], length, Option, Some, true, Bool}
 use Rattle.std.specs.List.{slice_get}
 use Rattle.search_graph.specs.Costs.{CostOps, NoDearer}
 use Rattle.step_search.specs.Spaces.{Space, Path, IsLeastCost}
@@ -63,7 +63,7 @@ pub record AreBundles {C : Type 0} (ops : CostOps C) (S : Space C) (Goal : ℕ �
 -- where a hop leads, and what its cost adds to a rank at least
 pub record IsRankOf {C : Type 0} (ops : CostOps C) (ranked : C → Option ℕ) (hop : Hop C) (arc : ArcRank) : Type 0 where
   pub head : arc.head ≡ hop.head
-  pub short : arc.rank < 2 ^ 63
+  pub short : arc.rank + 1 < 2 ^ 63
   pub adds : AddsAtLeast ops ranked arc.rank hop.cost
 
 -- those of all hops, by their places

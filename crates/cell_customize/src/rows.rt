@@ -47,7 +47,7 @@ fn inside<C: Cost>(
     requires entry { Contains (at_cell leaping.now.steps.now.steps.now.frame.now.entries leaping.now.steps.now.steps.now.parts.now.cell) entry }
     requires exit { Contains (at_cell leaping.now.steps.now.steps.now.frame.now.exits leaping.now.steps.now.steps.now.parts.now.cell) exit }
     requires start { slice_get leaping.now.steps.now.local.now.numbers start ≡ Some entry }
-    requires least { AreLeast C.ops (leapt_space C.ops leaping.now.steps.now.steps.now.frame.now leaping.now.steps.now.steps.now.weights.now leaping.now.steps.now.steps.now.parts.now.cell leaping.now.steps.now.local.now leaping.now.leaps.now) start labels.now.costs.items }
+    requires least { AreLeast C.ops (leapt_space C.ops leaping.now.steps.now.steps.now.frame.now leaping.now.steps.now.steps.now.weights.now leaping.now.steps.now.steps.now.parts.now.cell leaping.now.steps.now.local.now leaping.now.leaps.now) start labels.now.list }
     ensures { IsInsideValue C.ops leaping.now.steps.now.steps.now.frame.now.graph leaping.now.steps.now.steps.now.weights.now (Holds leaping.now.steps.now.steps.now.frame.now.cells leaping.now.steps.now.steps.now.parts.now.cell) entry exit result }
 {
     if entry == exit {
@@ -55,7 +55,7 @@ fn inside<C: Cost>(
     }
     match leaping.steps.local.numbers.number(exit) {
         None => None,
-        Some(until) => labels.costs[until as usize],
+        Some(until) => labels.list.get(until),
     }
 }
 

@@ -7,16 +7,14 @@ ghost use Rattle.search_graph.specs.Costs.{NoDearer};
 ghost use Rattle.step_search.specs.Spaces.{IsSpace};
 ghost use Rattle.label_search.specs.Labelled.{Held, IsFront, IsReached, LabelsFall, LabelWithin, Nothing, Offers};
 ghost use Rattle.label_search.specs.Least.{AreLeast, HasArcsAlone};
-ghost use Rattle.label_search.specs.Ranked.{AreArcRanks, AreLabelRanks, IsOverRank, unranked_label};
+ghost use Rattle.label_search.specs.Ranked.{AreArcRanks, IsOverRank};
 
 use crate::arc_ranks::ArcRank;
+use crate::label_list::LabelList;
 use search_graph::Cost;
 use search_queue::Queue;
 use std::alloc::{AllocError, Global};
 use step_search::Steps;
-
-// In place of the rank of a label that has none, and of no label.
-const UNRANKED: u64 = u64::MAX;
 
 // An entry that was taken from the queue: a vertex, and what was its label when it came there, with that cost's rank.
 #[derive(Clone, Copy, Drop)]
@@ -36,20 +34,17 @@ struct Ground<'a, T> {
 /// What the cheapest ways so far cost, by vertex, and from where the search has still to go on.
 ///
 /// A label only falls. An entry of the queue whose vertex's label has fallen since is passed over. It costs eight bytes and
-/// the size of an `Option<C>` a vertex, and 16 bytes an entry of the queue whose cost has a rank.
+/// the size of a `C` a vertex, and 16 bytes an entry of the queue whose cost has a rank.
 pub struct Labels<C: Cost> {
     /// By vertex: its label, if a way to it was found.
-    pub costs: Vec<Option<C>>,
-    // by vertex: the rank of its label
-    ranks: Vec<u64>,
+    pub list: LabelList<C>,
     queue: Queue<C>,
 }
 
 impl<C: Cost> Drop for Labels<C> {
     fn drop(self) {
         let Labels {
-            costs: _costs,
-            ranks: _ranks,
+            list: _list,
             queue: _queue,
         } = self;
     }
@@ -59,8 +54,7 @@ impl<C: Cost> Labels<C> {
     /// No labels.
     pub fn new(alloc: Global) -> Labels<C> {
         Labels {
-            costs: Vec::new(alloc),
-            ranks: Vec::new(alloc),
+            list: LabelList::new(alloc),
             queue: Queue::new(alloc),
         }
     }
@@ -83,13 +77,10 @@ impl<C: Cost> Labels<C> {
         requires arcs { AreArcRanks C.ops C.ranked (T.space steps.now) arcs.now }
         requires count { count ≡ (T.space steps.now).vertices }
         requires start { start < count }
-        ensures { OnOk result (AreLeast C.ops (T.space steps.now) start self.new.costs.items) }
+        ensures { OnOk result (AreLeast C.ops (T.space steps.now) start self.new.list) }
     {
         self.queue.clear();
-        self.costs.clear();
-        self.costs.resize(count as usize, None)?;
-        self.ranks.clear();
-        self.ranks.resize(count as usize, UNRANKED)?;
+        self.list.restart(count)?;
         let ground = Ground { steps, arcs };
         self.begin(&ground, start)?;
         self.go_on(&ground, start)?;
@@ -100,12 +91,10 @@ impl<C: Cost> Labels<C> {
     fn begin<T: Steps<C>>(&mut self, ground: &Ground<T>, start: u32) -> Result<(), AllocError>
         requires ready { T.ready ground.now.steps.now }
         requires alone { HasArcsAlone (T.space ground.now.steps.now) }
-        requires size { length self.old.costs.items ≡ (T.space ground.now.steps.now).vertices }
-        requires none { (v : ℕ) (d : C) → ¬ (slice_get self.old.costs.items v ≡ Some (Some d)) }
-        requires ranks { AreLabelRanks C.ranked self.old.costs.items self.old.ranks.items }
+        requires size { length self.old.list ≡ (T.space ground.now.steps.now).vertices }
+        requires none { (v : ℕ) (d : C) → ¬ (slice_get self.old.list v ≡ Some (Some d)) }
         requires start { start < (T.space ground.now.steps.now).vertices }
-        ensures front { OnOk result (IsFront C.ops (T.space ground.now.steps.now) start self.new.costs.items self.new.queue Nothing) }
-        ensures ranks { OnOk result (AreLabelRanks C.ranked self.new.costs.items self.new.ranks.items) }
+        ensures { OnOk result (IsFront C.ops (T.space ground.now.steps.now) start self.new.list self.new.queue Nothing) }
     {
         if !ground.steps.may_begin(start) {
             return Ok(());
@@ -121,9 +110,8 @@ impl<C: Cost> Labels<C> {
         requires space { IsSpace C.ops (T.space ground.now.steps.now) }
         requires alone { HasArcsAlone (T.space ground.now.steps.now) }
         requires arcs { AreArcRanks C.ops C.ranked (T.space ground.now.steps.now) ground.now.arcs.now }
-        requires front { IsFront C.ops (T.space ground.now.steps.now) start self.old.costs.items self.old.queue Nothing }
-        requires ranks { AreLabelRanks C.ranked self.old.costs.items self.old.ranks.items }
-        ensures { OnOk result (AreLeast C.ops (T.space ground.now.steps.now) start self.new.costs.items) }
+        requires front { IsFront C.ops (T.space ground.now.steps.now) start self.old.list self.old.queue Nothing }
+        ensures { OnOk result (AreLeast C.ops (T.space ground.now.steps.now) start self.new.list) }
     {
         for _ in 0..u64::MAX {
             match self.queue.pop() {
@@ -152,12 +140,10 @@ impl<C: Cost> Labels<C> {
         requires space { IsSpace C.ops (T.space ground.now.steps.now) }
         requires alone { HasArcsAlone (T.space ground.now.steps.now) }
         requires arcs { AreArcRanks C.ops C.ranked (T.space ground.now.steps.now) ground.now.arcs.now }
-        requires front { IsFront C.ops (T.space ground.now.steps.now) start self.old.costs.items self.old.queue (Held entry.vertex entry.cost) }
-        requires ranks { AreLabelRanks C.ranked self.old.costs.items self.old.ranks.items }
+        requires front { IsFront C.ops (T.space ground.now.steps.now) start self.old.list self.old.queue (Held entry.vertex entry.cost) }
         requires least { (k : C) (w : ℕ) → Contains self.old.queue (k, w) → NoDearer C.ops entry.cost k }
         requires rank { entry.rank ≡ C.ranked entry.cost }
-        ensures front { OnOk result (IsFront C.ops (T.space ground.now.steps.now) start self.new.costs.items self.new.queue Nothing) }
-        ensures ranks { OnOk result (AreLabelRanks C.ranked self.new.costs.items self.new.ranks.items) }
+        ensures { OnOk result (IsFront C.ops (T.space ground.now.steps.now) start self.new.list self.new.queue Nothing) }
     {
         if !self.stands(entry) {
             return Ok(());
@@ -168,13 +154,13 @@ impl<C: Cost> Labels<C> {
 
     // Whether the vertex of an entry still has its label.
     fn stands(&self, entry: Entry<C>) -> bool
-        ensures yes { OnTrue result (slice_get self.now.costs.items entry.vertex ≡ Some (Some entry.cost)) }
-        ensures no { OnFalse result (¬ (slice_get self.now.costs.items entry.vertex ≡ Some (Some entry.cost))) }
+        ensures yes { OnTrue result (slice_get self.now.list entry.vertex ≡ Some (Some entry.cost)) }
+        ensures no { OnFalse result (¬ (slice_get self.now.list entry.vertex ≡ Some (Some entry.cost))) }
     {
-        match self.costs.get(entry.vertex as usize) {
-            None => false,
-            Some(label) => is_label(*label, entry.cost),
+        if entry.vertex as usize >= self.list.len() {
+            return false;
         }
+        is_label(self.list.get(entry.vertex), entry.cost)
     }
 
     // Offers a label along each arc out of the vertex of an entry, which is its label.
@@ -188,15 +174,13 @@ impl<C: Cost> Labels<C> {
         requires space { IsSpace C.ops (T.space ground.now.steps.now) }
         requires alone { HasArcsAlone (T.space ground.now.steps.now) }
         requires arcs { AreArcRanks C.ops C.ranked (T.space ground.now.steps.now) ground.now.arcs.now }
-        requires front { IsFront C.ops (T.space ground.now.steps.now) start self.old.costs.items self.old.queue (Held entry.vertex entry.cost) }
-        requires ranks { AreLabelRanks C.ranked self.old.costs.items self.old.ranks.items }
-        requires here { slice_get self.old.costs.items entry.vertex ≡ Some (Some entry.cost) }
+        requires front { IsFront C.ops (T.space ground.now.steps.now) start self.old.list self.old.queue (Held entry.vertex entry.cost) }
+        requires here { slice_get self.old.list entry.vertex ≡ Some (Some entry.cost) }
         requires units { C.ops.units entry.cost (2 ^ 28) }
         requires rank { entry.rank ≡ C.ranked entry.cost }
-        ensures front { OnOk result (IsFront C.ops (T.space ground.now.steps.now) start self.new.costs.items self.new.queue Nothing) }
-        ensures ranks { OnOk result (AreLabelRanks C.ranked self.new.costs.items self.new.ranks.items) }
+        ensures { OnOk result (IsFront C.ops (T.space ground.now.steps.now) start self.new.list self.new.queue Nothing) }
     {
-        let _count = self.costs.len();
+        let _count = self.list.len();
         let arcs = ground.steps.arcs(entry.vertex);
         for place in 0..arcs.len() {
             self.relax(ground, start, entry, arcs.get(place))?;
@@ -223,12 +207,10 @@ impl<C: Cost> Labels<C> {
         requires reached { IsReached C.ops (T.space ground.now.steps.now) start entry.vertex entry.cost }
         requires units { C.ops.units entry.cost (2 ^ 28) }
         requires rank { entry.rank ≡ C.ranked entry.cost }
-        requires front { IsFront C.ops (T.space ground.now.steps.now) start self.old.costs.items self.old.queue (Held entry.vertex entry.cost) }
-        requires ranks { AreLabelRanks C.ranked self.old.costs.items self.old.ranks.items }
-        ensures front { OnOk result (IsFront C.ops (T.space ground.now.steps.now) start self.new.costs.items self.new.queue (Held entry.vertex entry.cost)) }
-        ensures ranks { OnOk result (AreLabelRanks C.ranked self.new.costs.items self.new.ranks.items) }
-        ensures falls { OnOk result (LabelsFall C.ops self.old.costs.items self.new.costs.items) }
-        ensures found { OnOk result ((w : ℕ) (s : C) → (T.space ground.now.steps.now).Arc entry.vertex arc w s → LabelWithin C.ops self.new.costs.items w (C.ops.plus entry.cost s)) }
+        requires front { IsFront C.ops (T.space ground.now.steps.now) start self.old.list self.old.queue (Held entry.vertex entry.cost) }
+        ensures front { OnOk result (IsFront C.ops (T.space ground.now.steps.now) start self.new.list self.new.queue (Held entry.vertex entry.cost)) }
+        ensures falls { OnOk result (LabelsFall C.ops self.old.list self.new.list) }
+        ensures found { OnOk result ((w : ℕ) (s : C) → (T.space ground.now.steps.now).Arc entry.vertex arc w s → LabelWithin C.ops self.new.list w (C.ops.plus entry.cost s)) }
     {
         let _ = start;
         if self.is_over(entry.rank, ground.arcs[arc as usize]) {
@@ -246,14 +228,14 @@ impl<C: Cost> Labels<C> {
     // Whether a rank and that of an arc are together no less than the rank of the label to which the arc leads.
     #[inline(always)]
     fn is_over(&self, rank: Option<u64>, arc: ArcRank) -> bool
-        requires head { arc.head < length self.now.ranks.items }
+        requires head { arc.head < length self.now.list }
         requires rank { IfSome rank (λ r. r < 2 ^ 63) }
-        requires arc { arc.rank < 2 ^ 63 }
-        ensures { OnTrue result (IsOverRank self.now.ranks.items rank arc) }
+        requires arc { arc.rank + 1 < 2 ^ 63 }
+        ensures { OnTrue result (IsOverRank C.ranked self.now.list rank arc) }
     {
         match rank {
             None => false,
-            Some(rank) => self.ranks[arc.head as usize] <= rank + arc.rank,
+            Some(rank) => self.list.is_within(arc.head, rank + arc.rank),
         }
     }
 
@@ -262,13 +244,11 @@ impl<C: Cost> Labels<C> {
     fn offer<T: Steps<C>>(&mut self, ground: &Ground<T>, v: u32, cost: C) -> Result<(), AllocError>
         requires ready { T.ready ground.now.steps.now }
         requires alone { HasArcsAlone (T.space ground.now.steps.now) }
-        requires size { length self.old.costs.items ≡ (T.space ground.now.steps.now).vertices }
+        requires size { length self.old.list ≡ (T.space ground.now.steps.now).vertices }
         requires vertex { v < (T.space ground.now.steps.now).vertices }
-        requires ranks { AreLabelRanks C.ranked self.old.costs.items self.old.ranks.items }
-        ensures offers { OnOk result (Offers C.ops (T.space ground.now.steps.now) self.old.costs.items self.new.costs.items self.old.queue self.new.queue v cost) }
-        ensures ranks { OnOk result (AreLabelRanks C.ranked self.new.costs.items self.new.ranks.items) }
+        ensures { OnOk result (Offers C.ops (T.space ground.now.steps.now) self.old.list self.new.list self.old.queue self.new.queue v cost) }
     {
-        if !improves(self.costs[v as usize], cost) {
+        if !improves(self.list.get(v), cost) {
             return Ok(());
         }
         self.lower(ground, v, cost)?;
@@ -280,31 +260,17 @@ impl<C: Cost> Labels<C> {
     fn lower<T: Steps<C>>(&mut self, ground: &Ground<T>, v: u32, cost: C) -> Result<(), AllocError>
         requires ready { T.ready ground.now.steps.now }
         requires alone { HasArcsAlone (T.space ground.now.steps.now) }
-        requires size { length self.old.costs.items ≡ (T.space ground.now.steps.now).vertices }
+        requires size { length self.old.list ≡ (T.space ground.now.steps.now).vertices }
         requires vertex { v < (T.space ground.now.steps.now).vertices }
-        requires ranks { AreLabelRanks C.ranked self.old.costs.items self.old.ranks.items }
-        requires less { (d : C) → slice_get self.old.costs.items v ≡ Some (Some d) → NoDearer C.ops cost d }
-        ensures offers { OnOk result (Offers C.ops (T.space ground.now.steps.now) self.old.costs.items self.new.costs.items self.old.queue self.new.queue v cost) }
-        ensures ranks { OnOk result (AreLabelRanks C.ranked self.new.costs.items self.new.ranks.items) }
+        requires less { (d : C) → slice_get self.old.list v ≡ Some (Some d) → NoDearer C.ops cost d }
+        ensures { OnOk result (Offers C.ops (T.space ground.now.steps.now) self.old.list self.new.list self.old.queue self.new.queue v cost) }
     {
-        self.costs[v as usize] = Some(cost);
-        self.ranks[v as usize] = rank_of(cost);
+        self.list.put(v, cost);
         if ground.steps.arcs(v).is_empty() {
             return Ok(());
         }
         self.queue.push(cost, v)?;
         Ok(())
-    }
-}
-
-// The rank of a label.
-#[inline(always)]
-fn rank_of<C: Cost>(cost: C) -> u64
-    ensures { result < unranked_label → C.ranked cost ≡ Some result }
-{
-    match cost.rank() {
-        None => UNRANKED,
-        Some(rank) => rank,
     }
 }
 

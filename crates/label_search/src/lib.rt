@@ -7,7 +7,9 @@
 #![tactic(auto)]
 
 mod arc_ranks;
+mod label_list;
 mod labels;
 
 pub use arc_ranks::ArcRank;
+pub use label_list::LabelList;
 pub use labels::Labels;

@@ -1,8 +1,7 @@
 -- The exit's label is the least cost inside the cell.
-use Rattle.std.proofs.Common.{◌≡◌, ◌≢◌, ◌<◌, ℕ, Some, length, sym, ◌∙◌, ap, subst, arith}
+use Rattle.std.proofs.Common.{◌≡◌, ◌≢◌, ℕ, Some, length, sym, ◌∙◌, ap, subst, arith}
 use Rattle.std.specs.List.{slice_get}
 use Rattle.std.proofs.lemmas.Option.{same_Some, slice_get_within}
-use Rattle.list_lemmas.proofs.Gets.{get_is}
 use Rattle.cell_frame.specs.Borders.{Holds}
 use Rattle.cell_frame.specs.Inside.{IsInsideValue}
 use Rattle.cell_customize.proofs.Searched.{found_inside, found_leapt, none_inside}
@@ -18,16 +17,18 @@ returns-in-None g c =
     let o = c.args.leaping.now.steps.now.steps.now in
     none_inside g.met.C.Cost.laws o.frame.now o.weights.now o.cliques.now o.parts.now.cell c.requires.inner c.args.leaping.now.steps.now.local.now c.requires.filled c.args.entry c.requires.entry c.args.exit c.requires.exit c.if-entry-exit.false c.args.start c.requires.start c.in-None.ensures.none
 
+pub get-requires : goal.get-requires
+get-requires g c =
+    let size : length c.args.labels.now.list ≡ length c.args.leaping.now.steps.now.local.now.numbers = c.requires.least.size in
+    let below = slice_get_within c.args.leaping.now.steps.now.local.now.numbers c.in-Some.until c.args.exit c.in-Some.ensures.some in
+    omega (arith, size, below)
+
 pub returns-in-Some : goal.returns-in-Some
 returns-in-Some g c =
     let o = c.args.leaping.now.steps.now.steps.now in
     let numbers = c.args.leaping.now.steps.now.local.now.numbers in
-    let labels = c.args.labels.now.costs.items in
     let named : slice_get numbers c.in-Some.until ≡ Some c.args.exit = c.in-Some.ensures.some in
-    let size : length labels ≡ length numbers = c.requires.least.size in
-    let below : c.in-Some.until < length numbers = slice_get_within numbers c.in-Some.until c.args.exit named in
-    let few : c.in-Some.until < length labels = omega (arith, size, below) in
     let apart : c.args.start ≢ c.in-Some.until = λ same. c.if-entry-exit.false (same_Some c.args.entry c.args.exit (sym c.requires.start ∙ ap (slice_get numbers) same ∙ named)) in
-    let cost = c.requires.least.each c.in-Some.until _ apart (get_is labels c.in-Some.until _ few (sym c.index.ensures)) in
+    let cost = c.requires.least.each c.in-Some.until _ apart c.get.ensures in
     found_inside g.met.C.Cost.laws o.frame.now o.weights.now o.cliques.now o.parts.now.cell c.requires.inner c.args.leaping.now.steps.now.local.now c.requires.filled c.args.entry c.requires.entry c.args.exit c.requires.exit c.if-entry-exit.false c.args.start c.in-Some.until c.requires.start named _
     (found_leapt g.met.C.Cost.laws o.frame.now o.weights.now o.cliques.now o.parts.now.cell c.requires.inner c.args.leaping.now.steps.now.local.now c.requires.filled c.args.leaping.now.leaps.now c.requires.leapt c.args.entry c.args.exit c.requires.exit c.if-entry-exit.false c.args.start c.in-Some.until c.requires.start named _ cost)

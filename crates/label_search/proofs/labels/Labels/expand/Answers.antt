@@ -6,17 +6,16 @@ use Rattle.label_search.proofs.Labelling.{Front-expanded, in_range, no_place}
 use Rattle.label_search.proofs.labels.Labels.expand.Goals as goal
 
 pub arcs-arcs-requires-clause-vertex : goal.arcs-arcs-requires-clause-vertex
-arcs-arcs-requires-clause-vertex g c = in_range (g.T.Steps.space c.args.ground.now.steps.now) c.args.self.now.costs.items c.requires.front.size c.args.entry.vertex c.args.entry.cost c.requires.here
+arcs-arcs-requires-clause-vertex g c = in_range (g.T.Steps.space c.args.ground.now.steps.now) c.args.self.now.list c.requires.front.size c.args.entry.vertex c.args.entry.cost c.requires.here
 
 pub loop-place-init : goal.loop-place-init
 loop-place-init g c = record {
   front = c.requires.front;
-  ranks = c.requires.ranks;
   found = λ k lt. absurd (omega (arith, lt));
 }
 
 pub relax-requires-clause-vertex : goal.relax-requires-clause-vertex
-relax-requires-clause-vertex g c = in_range (g.T.Steps.space c.args.ground.now.steps.now) c.args.self.now.costs.items c.requires.front.size c.args.entry.vertex c.args.entry.cost c.requires.here
+relax-requires-clause-vertex g c = in_range (g.T.Steps.space c.args.ground.now.steps.now) c.args.self.now.list c.requires.front.size c.args.entry.vertex c.args.entry.cost c.requires.here
 
 pub relax-requires-clause-reached : goal.relax-requires-clause-reached
 relax-requires-clause-reached g c = c.requires.front.reached c.args.entry.vertex c.args.entry.cost c.requires.here
@@ -27,7 +26,6 @@ relax-requires-clause-front g c = c.loop-place.invariant.front
 pub loop-place-preserved : goal.loop-place-preserved
 loop-place-preserved g c = record {
   front = c.in_ok-relax.ensures.front;
-  ranks = c.in_ok-relax.ensures.ranks;
   found = below_more _ _
       (λ k lt i w s e h. c.in_ok-relax.ensures.falls w (g.C.Cost.ops.plus c.args.entry.cost s) (c.loop-place.invariant.found k lt i w s e h))
       (λ i w s e h.
@@ -35,15 +33,9 @@ loop-place-preserved g c = record {
       c.in_ok-relax.ensures.found w s (subst (λ (x : ℕ). (g.T.Steps.space c.args.ground.now.steps.now).Arc c.args.entry.vertex x w s) same h));
 }
 
-pub relax-requires-clause-ranks : goal.relax-requires-clause-ranks
-relax-requires-clause-ranks g c = c.loop-place.invariant.ranks
-
-pub returns-clause-ranks : goal.returns-clause-ranks
-returns-clause-ranks g c = c.loop-place.invariant.ranks
-
-pub returns-clause-front : goal.returns-clause-front
-returns-clause-front g c =
-    Front-expanded g.C.Cost.ops (g.T.Steps.space c.args.ground.now.steps.now) c.args.start c.loop-place.self.costs.items c.loop-place.self.queue c.args.entry.vertex c.args.entry.cost c.loop-place.invariant.front
+pub returns : goal.returns
+returns g c =
+    Front-expanded g.C.Cost.ops (g.T.Steps.space c.args.ground.now.steps.now) c.args.start c.loop-place.self.list c.loop-place.self.queue c.args.entry.vertex c.args.entry.cost c.loop-place.invariant.front
     (λ w s hop. elim hop [
       | inl a ↦
           let k = get_Contains c.arcs-arcs.result a.0 (c.arcs-arcs.ensures.all a.0 w s a.1) in

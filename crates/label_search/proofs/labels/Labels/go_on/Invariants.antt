@@ -1,10 +1,8 @@
 -- Nothing is held back between two turns.
 use Rattle.label_search.specs.Labelled.{IsFront, Nothing}
-use Rattle.label_search.specs.Ranked.{AreLabelRanks}
 use Rattle.label_search.proofs.labels.Labels.go_on.Given as goal
 
 abbrev pub invariant-loop : goal.invariant-loop
 invariant-loop g l = record {
-  front : IsFront g.C.Cost.ops (g.T.Steps.space l.ground.steps.now) l.start l.self.costs.items l.self.queue Nothing;
-  ranks : AreLabelRanks g.C.Cost.ranked l.self.costs.items l.self.ranks.items;
+  front : IsFront g.C.Cost.ops (g.T.Steps.space l.ground.steps.now) l.start l.self.list l.self.queue Nothing;
 }
