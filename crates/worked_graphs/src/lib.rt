@@ -7,6 +7,8 @@ mod costs;
 #[cfg(test)]
 mod graphs;
 #[cfg(test)]
+mod heads;
+#[cfg(test)]
 mod plain;
 #[cfg(test)]
 mod rings;

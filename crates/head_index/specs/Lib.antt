@@ -1,0 +1,3 @@
+pub mod ByHead
+pub mod Placed
+pub mod Rows
