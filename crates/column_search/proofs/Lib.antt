@@ -1,0 +1,11 @@
+pub mod Bounded
+pub mod Chains
+pub mod Counting
+pub mod Finding
+pub mod Inside
+pub mod Leaping
+pub mod Levels
+pub mod Naming
+pub mod Parting
+pub mod Turning
+pub mod Turns

@@ -1,0 +1,3 @@
+pub mod Backward
+pub mod Columns
+pub mod Toward
