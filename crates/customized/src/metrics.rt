@@ -177,6 +177,7 @@ impl Metric {
         Under {
             network: self.roads.network(),
             frame: self.roads.frame(),
+            heads: self.roads.heads(),
             base: self.base(set),
             cliques: self.cliques(set),
         }

@@ -4,11 +4,13 @@ ghost use Rattle.std.specs.Prelude.{◌≡◌, ◌≤◌, All, IfOk};
 ghost use Rattle.std.specs.List.Sorted.{IsStrictlyIncreasing};
 ghost use Rattle.edge_graph.specs.NetworkView.{graph_of};
 ghost use Rattle.customized.specs.Framing.{IsFrameOf};
+ghost use Rattle.head_index.specs.ByHead.{AreByHead};
 
 use crate::midpoints::midpoints;
 use cell_frame::Frame;
 use cell_partition::{PartitionError, cells};
 use edge_graph::Network;
+use head_index::HeadIndex;
 use std::alloc::{AllocError, Global};
 use std::marker::Model;
 use std::sync::Arc;
@@ -17,10 +19,11 @@ use std::sync::Arc;
 /// network.
 pub const SERVER_LIMITS: [u32; 5] = [256, 4096, 65536, 1048576, 16777216];
 
-/// A road network with the frame of its graph. Contracts see both.
+/// A road network with the frame of its graph, and the arcs of that by their heads. Contracts see the network and the frame.
 pub struct Roads {
     network: Arc<Network>,
     frame: Arc<Frame>,
+    heads: Arc<HeadIndex>,
 }
 
 impl Drop for Roads {
@@ -28,6 +31,7 @@ impl Drop for Roads {
         let Roads {
             network: _network,
             frame: _frame,
+            heads: _heads,
         } = self;
     }
 }
@@ -40,10 +44,11 @@ impl Model for Roads {
     ghost use Rattle.std.specs.Prelude.{◌≡◌};
     ghost use Rattle.std.specs.Arc.{arc_value};
     ghost use Rattle.edge_graph.specs.NetworkView.{graph_of};
+    ghost use Rattle.head_index.specs.ByHead.{AreByHead};
 
     ghost view = { λ r. record { network = arc_value r.network; frame = arc_value r.frame } };
 
-    ghost invariant = { λ r. (arc_value r.frame).graph ≡ graph_of (arc_value r.network) };
+    ghost invariant = { λ r. ((arc_value r.frame).graph ≡ graph_of (arc_value r.network)) × AreByHead (graph_of (arc_value r.network)) (arc_value r.heads) };
 }
 
 impl Roads {
@@ -57,9 +62,11 @@ impl Roads {
         ensures frame { IfOk result (λ roads. IsFrameOf network limits.now roads.frame) }
     {
         let frame = frame_of(alloc, &network, limits)?;
+        let heads = HeadIndex::of(alloc, network.graph())?;
         Ok(Roads {
             network: Arc::new(alloc, network)?,
             frame: Arc::new(alloc, frame)?,
+            heads: Arc::new(alloc, heads)?,
         })
     }
 
@@ -78,6 +85,13 @@ impl Roads {
         &self.frame
     }
 
+    /// The arcs of the graph by their heads.
+    pub fn heads(&self) -> &HeadIndex
+        ensures { AreByHead (graph_of self.now.network) result.now }
+    {
+        &self.heads
+    }
+
     /// Roads that share the memory of these. It answers the error where no more can share it.
     pub fn copy(&self) -> Result<Roads, AllocError>
         ensures { IfOk result (λ roads. roads ≡ self.now) }
@@ -85,6 +99,7 @@ impl Roads {
         Ok(Roads {
             network: Arc::try_clone(&self.network)?,
             frame: Arc::try_clone(&self.frame)?,
+            heads: Arc::try_clone(&self.heads)?,
         })
     }
 }

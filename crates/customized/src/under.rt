@@ -3,35 +3,40 @@
 ghost use Rattle.std.specs.Prelude.{◌≡◌, length};
 ghost use Rattle.cell_frame.specs.Cliqued.{AreExact};
 ghost use Rattle.edge_graph.specs.NetworkView.{graph_of};
+ghost use Rattle.head_index.specs.ByHead.{AreByHead};
 ghost use Rattle.metric_make.specs.MetricOf.{AreAlike};
 ghost use Rattle.search_graph.specs.RoadCosts.{road_cost_ops};
 ghost use Rattle.search_graph.specs.Weighted.{AreSmall};
 
 use cell_frame::{Cliques, Frame};
 use edge_graph::Network;
+use head_index::HeadIndex;
 use metric_make::BaseMetric;
 use search_graph::WeightDurLen;
 use std::marker::Model;
 
-/// A network with its costs, the frame of its graph, and cliques that are exact for just these costs: all that
-/// an answer under a metric needs of it. Contracts see the costs and the frame.
+/// A network with its costs, the frame of its graph, the arcs of that by their heads, and cliques that are exact for just
+/// these costs: all that an answer under a metric needs of it. Contracts see the costs and the frame.
 #[derive(Drop)]
 pub struct Under<'a> {
     pub(crate) network: &'a Network,
     pub(crate) frame: &'a Frame,
+    pub(crate) heads: &'a HeadIndex,
     pub(crate) base: &'a BaseMetric,
     pub(crate) cliques: &'a Cliques<WeightDurLen>,
 }
 
 impl<'a> Model for Under<'a> {
     ghost use Rattle.customized.specs.Exact.{Customized, IsExact};
+    ghost use Rattle.edge_graph.specs.NetworkView.{graph_of};
+    ghost use Rattle.head_index.specs.ByHead.{AreByHead};
     ghost use Rattle.metric_make.specs.RoadMetric.{road_of};
 
     ghost Value = { Customized };
 
     ghost view = { λ u. record { road = road_of u.network.now u.base.now; frame = u.frame.now } };
 
-    ghost invariant = { λ u. IsExact (record { road = road_of u.network.now u.base.now; frame = u.frame.now }) u.cliques.now };
+    ghost invariant = { λ u. IsExact (record { road = road_of u.network.now u.base.now; frame = u.frame.now }) u.cliques.now × AreByHead (graph_of u.network.now) u.heads.now };
 }
 
 impl<'a> Under<'a> {
@@ -48,6 +53,13 @@ impl<'a> Under<'a> {
         ensures graph { self.now.frame.graph ≡ graph_of self.now.road.network }
     {
         self.frame
+    }
+
+    /// The arcs of the graph by their heads.
+    pub fn heads(&self) -> &HeadIndex
+        ensures { AreByHead (graph_of self.now.road.network) result.now }
+    {
+        self.heads
     }
 
     /// What the vertices and turns of the network cost.

@@ -13,6 +13,7 @@ ghost use Rattle.road_walks.specs.Tables.{AreRowsOf, AreWithin};
 use crate::along_one::along_one;
 use crate::rows::Rows;
 use crate::table_ends::{starts_of, targets_of};
+use column_search::Overlay;
 use customized::Under;
 use plain_search::SearchFault;
 use road_base::Place;
@@ -36,8 +37,13 @@ pub(crate) fn over_graph(
 {
     let frame = under.frame();
     let base = under.base();
-    let cliques = under.cliques();
-    match table(rt, alloc, frame, base.weights(), cliques, sources, targets) {
+    let overlay = Overlay {
+        frame,
+        weights: base.weights(),
+        cliques: under.cliques(),
+        heads: under.heads(),
+    };
+    match table(rt, alloc, &overlay, sources, targets) {
         Ok(rows) => Ok(rows),
         Err(SearchFault::Memory) => Err(AllocError),
     }

@@ -1,3 +1,4 @@
 pub mod CellLemmas
 pub mod Gathered
 pub mod JoinedLists
+mod Pointed

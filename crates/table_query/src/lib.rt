@@ -5,14 +5,17 @@
 //! in theirs: the least that a walk from one of the starts to one of the targets costs, and `None` exactly where
 //! there is no such walk. What walks are and cost is told by `search_graph`: they have two or more vertices.
 //!
-//! Each row is one search of `overlay_query`, which goes on through the targets of all columns, and no walk is made. The
-//! rows are made side by side in threads. `specs/Tables` says what a table is, `specs/LeastCosts` what the least of costs
+//! Of a table of few rows each is one search of `overlay_query`, which goes on through the targets of all columns. Of one of
+//! many rows each target has first what it costs from the entries of its cells (`column_search`), and each row is then a
+//! search that opens the cells of its starts alone (`column_query`). No walk is made, and rows and targets are gone through
+//! side by side in threads. `specs/Tables` says what a table is, `specs/LeastCosts` what the least of costs
 //! is; `specs/LesserLaws` has what follows for the lesser of two.
 #![tactic(auto)]
 
 mod choosing;
 mod columns;
 mod lists;
+mod points;
 mod tables;
 
 pub use choosing::lesser;

@@ -1,8 +1,10 @@
 //! Tables.
 
-ghost use Rattle.std.specs.Prelude.{◌≡◌, ◌<◌, List, length, IfOk, flat_map};
-ghost use Rattle.std.specs.List.{Contains};
+ghost use Rattle.std.specs.Prelude.{◌≡◌, ℕ, ◌<◌, List, length, IfOk, Some, flat_map};
+ghost use Rattle.std.specs.List.{Contains, slice_get};
 ghost use Rattle.cell_frame.specs.Cliqued.{AreExact};
+ghost use Rattle.head_index.specs.ByHead.{AreByHead};
+ghost use Rattle.overlay_query.specs.Answers.{IsLeastCost};
 ghost use Rattle.search_graph.specs.declared.ends.Start.{Start};
 ghost use Rattle.search_graph.specs.declared.ends.Target.{Target};
 ghost use Rattle.search_graph.specs.Weighted.{AreSmall};
@@ -11,24 +13,58 @@ ghost use Rattle.table_query.specs.Tables.{IsRow, IsTable};
 
 use crate::columns::{all_targets, least_of};
 use crate::lists::{Row, Starts, Targets};
-use cell_frame::{Cliques, Frame};
+use crate::points::points_for;
+use column_query::{Forward, TargetPoint, costs_by_columns};
+use column_search::Overlay;
 use overlay_query::least_costs;
 use plain_search::SearchFault;
 use rayon::prelude::*;
-use search_graph::{Cost, Start, Target, Weights};
+use search_graph::{Cost, Start, Target};
 use std::alloc::Global;
 use std::thread::Threads;
 use step_search::Search;
 
 // What each row of a table is made by: the costs and cliques that its searches go by, and the columns. `all` are the
-// targets of all columns.
+// targets of all columns, `points` the same with what they cost from the entries of their cells, where that was made.
 #[derive(Drop)]
-struct Columns<'a, C: Cost> {
-    frame: &'a Frame,
-    weights: &'a Weights<C>,
-    cliques: &'a Cliques<C>,
+struct Columns<'a, 'b, C: Cost> {
+    overlay: &'a Overlay<'b, C>,
     targets: &'a [Targets<C>],
     all: &'a [Target<C>],
+    points: &'a [TargetPoint<C>],
+}
+
+// What cheapest walks from the starts to all targets cost. The search may be any: it is begun anew, in the memory that it
+// has.
+fn costs<C: Cost>(
+    alloc: Global,
+    columns: &Columns<C>,
+    starts: &[Start<C>],
+    search: &mut Search<C>,
+) -> Result<Vec<Option<C>>, SearchFault>
+    requires ready { AreReady C.ops columns.now.overlay.now.frame.now columns.now.overlay.now.weights.now columns.now.overlay.now.cliques.now columns.now.targets.now columns.now.all.now columns.now.points.now }
+    requires starts { (s : Start C) → Contains starts.now s → (s.vertex < columns.now.overlay.now.frame.now.graph.vertices) × C.ops.units s.cost 1 }
+    ensures one_each { IfOk result (λ costs. length costs.items ≡ length columns.now.all.now) }
+    ensures least { IfOk result (λ costs. (k : ℕ) (t : Target C) (cost : _) → slice_get columns.now.all.now k ≡ Some t → slice_get costs.items k ≡ Some cost → IsLeastCost C.ops columns.now.overlay.now.frame.now columns.now.overlay.now.weights.now starts.now t cost) }
+{
+    let overlay = columns.overlay;
+    if columns.points.is_empty() {
+        return least_costs(
+            alloc,
+            overlay.frame,
+            overlay.weights,
+            overlay.cliques,
+            starts,
+            columns.all,
+            search,
+        );
+    }
+    let forward = Forward {
+        frame: overlay.frame,
+        weights: overlay.weights,
+        cliques: overlay.cliques,
+    };
+    costs_by_columns(alloc, &forward, starts, columns.points, search)
 }
 
 // The row from these starts. The search may be any: it is begun anew, in the memory that it has.
@@ -38,19 +74,11 @@ fn row<C: Cost>(
     starts: &[Start<C>],
     search: &mut Search<C>,
 ) -> Result<Row<C>, SearchFault>
-    requires ready { AreReady C.ops columns.now.frame.now columns.now.weights.now columns.now.cliques.now columns.now.targets.now columns.now.all.now }
-    requires starts { (s : Start C) → Contains starts.now s → (s.vertex < columns.now.frame.now.graph.vertices) × C.ops.units s.cost 1 }
-    ensures { IfOk result (IsRow C.ops columns.now.frame.now.graph columns.now.weights.now columns.now.targets.now starts.now) }
+    requires ready { AreReady C.ops columns.now.overlay.now.frame.now columns.now.overlay.now.weights.now columns.now.overlay.now.cliques.now columns.now.targets.now columns.now.all.now columns.now.points.now }
+    requires starts { (s : Start C) → Contains starts.now s → (s.vertex < columns.now.overlay.now.frame.now.graph.vertices) × C.ops.units s.cost 1 }
+    ensures { IfOk result (IsRow C.ops columns.now.overlay.now.frame.now.graph columns.now.overlay.now.weights.now columns.now.targets.now starts.now) }
 {
-    let costs = least_costs(
-        alloc,
-        columns.frame,
-        columns.weights,
-        columns.cliques,
-        starts,
-        columns.all,
-        search,
-    )?;
+    let costs = costs(alloc, columns, starts, search)?;
     let targets = columns.targets;
     let mut values = Vec::with_capacity(alloc, targets.len())?;
     let mut from = 0;
@@ -70,9 +98,9 @@ fn rows_in_threads<C: Cost + Send + Sync>(
     columns: &Columns<C>,
     sources: &[Starts<C>],
 ) -> Result<Vec<Row<C>>, SearchFault>
-    requires ready { AreReady C.ops columns.now.frame.now columns.now.weights.now columns.now.cliques.now columns.now.targets.now columns.now.all.now }
-    requires sources { (list : List (Start C)) (s : Start C) → Contains sources.now list → Contains list s → (s.vertex < columns.now.frame.now.graph.vertices) × C.ops.units s.cost 1 }
-    ensures { IfOk result (λ rows. IsTable C.ops columns.now.frame.now.graph columns.now.weights.now sources.now columns.now.targets.now rows.items) }
+    requires ready { AreReady C.ops columns.now.overlay.now.frame.now columns.now.overlay.now.weights.now columns.now.overlay.now.cliques.now columns.now.targets.now columns.now.all.now columns.now.points.now }
+    requires sources { (list : List (Start C)) (s : Start C) → Contains sources.now list → Contains list s → (s.vertex < columns.now.overlay.now.frame.now.graph.vertices) × C.ops.units s.cost 1 }
+    ensures { IfOk result (λ rows. IsTable C.ops columns.now.overlay.now.frame.now.graph columns.now.overlay.now.weights.now sources.now columns.now.targets.now rows.items) }
 {
     let done: Result<Vec<Row<C>>, SearchFault> = sources
         .par_iter()
@@ -80,8 +108,8 @@ fn rows_in_threads<C: Cost + Send + Sync>(
         .map_init(
             || Search::new(alloc),
             |search: &mut Search<C>, starts: &Starts<C>| -> Result<Row<C>, SearchFault>
-                requires { AreReady C.ops columns.now.frame.now columns.now.weights.now columns.now.cliques.now columns.now.targets.now columns.now.all.now × ((s : Start C) → Contains starts.now s → (s.vertex < columns.now.frame.now.graph.vertices) × C.ops.units s.cost 1) }
-                ensures { IfOk result (IsRow C.ops columns.entry.now.frame.now.graph columns.entry.now.weights.now columns.entry.now.targets.now starts.now) }
+                requires { AreReady C.ops columns.now.overlay.now.frame.now columns.now.overlay.now.weights.now columns.now.overlay.now.cliques.now columns.now.targets.now columns.now.all.now columns.now.points.now × ((s : Start C) → Contains starts.now s → (s.vertex < columns.now.overlay.now.frame.now.graph.vertices) × C.ops.units s.cost 1) }
+                ensures { IfOk result (IsRow C.ops columns.entry.now.overlay.now.frame.now.graph columns.entry.now.overlay.now.weights.now columns.entry.now.targets.now starts.now) }
             { row(alloc, columns, starts.as_slice(), search) },
         )
         .collect(rt, alloc)?;
@@ -96,25 +124,24 @@ fn rows_in_threads<C: Cost + Send + Sync>(
 pub fn table<C: Cost + Send + Sync>(
     rt: &(impl Threads + Sync),
     alloc: Global,
-    frame: &Frame,
-    weights: &Weights<C>,
-    cliques: &Cliques<C>,
+    overlay: &Overlay<C>,
     sources: &[Starts<C>],
     targets: &[Targets<C>],
 ) -> Result<Vec<Row<C>>, SearchFault>
-    requires weights { AreSmall C.ops frame.now.graph weights.now }
-    requires cliques { AreExact C.ops frame.now weights.now cliques.now (length frame.now.cells.levels) }
-    requires sources { (list : List (Start C)) (s : Start C) → Contains sources.now list → Contains list s → (s.vertex < frame.now.graph.vertices) × C.ops.units s.cost 1 }
-    requires targets { (list : List (Target C)) (t : Target C) → Contains targets.now list → Contains list t → (t.vertex < frame.now.graph.vertices) × C.ops.units t.cost 1 }
-    ensures { IfOk result (λ rows. IsTable C.ops frame.now.graph weights.now sources.now targets.now rows.items) }
+    requires weights { AreSmall C.ops overlay.now.frame.now.graph overlay.now.weights.now }
+    requires cliques { AreExact C.ops overlay.now.frame.now overlay.now.weights.now overlay.now.cliques.now (length overlay.now.frame.now.cells.levels) }
+    requires heads { AreByHead overlay.now.frame.now.graph overlay.now.heads.now }
+    requires sources { (list : List (Start C)) (s : Start C) → Contains sources.now list → Contains list s → (s.vertex < overlay.now.frame.now.graph.vertices) × C.ops.units s.cost 1 }
+    requires targets { (list : List (Target C)) (t : Target C) → Contains targets.now list → Contains list t → (t.vertex < overlay.now.frame.now.graph.vertices) × C.ops.units t.cost 1 }
+    ensures { IfOk result (λ rows. IsTable C.ops overlay.now.frame.now.graph overlay.now.weights.now sources.now targets.now rows.items) }
 {
     let all = all_targets(alloc, targets)?;
+    let points = points_for(rt, alloc, overlay, &all, sources.len())?;
     let columns = Columns {
-        frame,
-        weights,
-        cliques,
+        overlay,
         targets,
         all: &all,
+        points: &points,
     };
     let rows = rows_in_threads(rt, alloc, &columns, sources)?;
     Ok(rows)

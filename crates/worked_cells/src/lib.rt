@@ -7,6 +7,8 @@ mod changes;
 #[cfg(test)]
 mod cliques;
 #[cfg(test)]
+mod columns;
+#[cfg(test)]
 mod partitions;
 #[cfg(test)]
 mod queries;

@@ -6,9 +6,10 @@ ghost use Rattle.search_graph.specs.Weighted.{AreSmall, IsWeighting};
 ghost use Rattle.cell_frame.specs.Cliqued.{AreExact};
 
 use cost_texts::{cost_told, costs_told};
+use head_index::HeadIndex;
 use plain_search::{Found, SearchFault, least_from};
 use search_graph::WeightDurLen;
-use small_graphs::{Overlay, SMALL, cut, starts, targets};
+use small_graphs::{Overlay, RING_OF_EIGHT, RING_OF_TEN, SMALL, cut, starts, targets};
 use std::alloc::{AllocError, Global};
 use std::test::Fail;
 use std::thread::Threads;
@@ -68,15 +69,14 @@ fn table_told(
     let vertices = overlay.frame.graph().vertices();
     let sources = sources(alloc, vertices, from)?;
     let columns = columns(alloc, vertices, to)?;
-    let rows = table(
-        rt,
-        alloc,
-        &overlay.frame,
-        &overlay.weights,
-        &overlay.cliques,
-        &sources,
-        &columns,
-    )?;
+    let heads = HeadIndex::of(alloc, overlay.frame.graph())?;
+    let given = column_search::Overlay {
+        frame: &overlay.frame,
+        weights: &overlay.weights,
+        cliques: &overlay.cliques,
+        heads: &heads,
+    };
+    let rows = table(rt, alloc, &given, &sources, &columns)?;
     Ok(rows_told(alloc, &rows)?)
 }
 
@@ -138,6 +138,33 @@ fn each_cell_is_what_plain_search_finds(rt: HostRuntime) -> Result<(), Fail> {
     let told = table_told(&rt, rt.alloc(), &small, from, to)?;
     let (from, to) = ("0:8/1 2:8/1 4:8/1", "0:1/3 2:1/3 4:1/3");
     let plain = plain_told(rt.alloc(), &small, from, to)?;
+    assert_eq!(rt; told.as_str(), plain.as_str());
+    Ok(())
+}
+
+// A table of eight rows or more is made by columns: what each target costs from the entries of its cells, once.
+#[test]
+fn each_cell_of_many_rows_is_what_plain_search_finds(rt: HostRuntime) -> Result<(), Fail> {
+    let ring = cut(rt.alloc(), &RING_OF_EIGHT, &[2, 4])?;
+    let from = "0:8/1;1:8/1;2:8/1;3:8/1;4:8/1;5:8/1;6:8/1;7:8/1";
+    let to = "0:1/3;1:1/3;2:1/3;3:1/3;4:1/3;5:1/3;6:1/3;7:1/3";
+    let told = table_told(&rt, rt.alloc(), &ring, from, to)?;
+    let from = "0:8/1 1:8/1 2:8/1 3:8/1 4:8/1 5:8/1 6:8/1 7:8/1";
+    let to = "0:1/3 1:1/3 2:1/3 3:1/3 4:1/3 5:1/3 6:1/3 7:1/3";
+    let plain = plain_told(rt.alloc(), &ring, from, to)?;
+    assert_eq!(rt; told.as_str(), plain.as_str());
+    Ok(())
+}
+
+#[test]
+fn many_rows_over_three_levels_are_what_plain_search_finds(rt: HostRuntime) -> Result<(), Fail> {
+    let ring = cut(rt.alloc(), &RING_OF_TEN, &[1, 3, 6])?;
+    let from = "0:2/1;1:2/1;2:2/1;3:2/1;4:2/1;5:2/1;6:2/1;7:2/1;8:2/1;9:2/1";
+    let to = "0:1/9;1:1/9;2:1/9;3:1/9;4:1/9;5:1/9;6:1/9;7:1/9;8:1/9;9:1/9";
+    let told = table_told(&rt, rt.alloc(), &ring, from, to)?;
+    let from = "0:2/1 1:2/1 2:2/1 3:2/1 4:2/1 5:2/1 6:2/1 7:2/1 8:2/1 9:2/1";
+    let to = "0:1/9 1:1/9 2:1/9 3:1/9 4:1/9 5:1/9 6:1/9 7:1/9 8:1/9 9:1/9";
+    let plain = plain_told(rt.alloc(), &ring, from, to)?;
     assert_eq!(rt; told.as_str(), plain.as_str());
     Ok(())
 }

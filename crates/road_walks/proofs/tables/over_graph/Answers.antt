@@ -5,6 +5,7 @@ use Rattle.search_graph.specs.RoadCosts.{road_cost_ops}
 use Rattle.search_graph.specs.Weighted.{AreSmall}
 use Rattle.cell_frame.specs.Borders.{Framed}
 use Rattle.cell_frame.specs.Cliqued.{AreExact}
+use Rattle.head_index.specs.ByHead.{AreByHead}
 use Rattle.edge_graph.specs.NetworkView.{graph_of}
 use Rattle.table_query.specs.Tables.{IsTable}
 use Rattle.road_walks.proofs.tables.over_graph.Goals as goal
@@ -20,10 +21,16 @@ table-requires-clause-weights g c κs within =
 -- the cliques are exact for just these costs
 pub table-requires-clause-cliques : goal.table-requires-clause-cliques
 table-requires-clause-cliques g c κs within =
-    let cliques = c.cliques-cliques.result.now in
+    let cliques = c.cliques.result.now in
     let weights = c.weights.ensures.value ∙ c.base-base.ensures.value in
     subst (λ (f : Framed). AreExact road_cost_ops f c.weights.result.now cliques (length f.cells.levels)) (sym c.frame-frame.ensures.value)
-    (subst (λ (w : Weighting WeightDurLen). AreExact road_cost_ops c.args.under.now.frame w cliques (length c.args.under.now.frame.cells.levels)) (sym weights) c.cliques-cliques.ensures)
+    (subst (λ (w : Weighting WeightDurLen). AreExact road_cost_ops c.args.under.now.frame w cliques (length c.args.under.now.frame.cells.levels)) (sym weights) c.cliques.ensures)
+
+-- the arcs are those of the frame's graph
+pub table-requires-clause-heads : goal.table-requires-clause-heads
+table-requires-clause-heads g c κs within =
+    let graph = ap (λ (f : Framed). f.graph) c.frame-frame.ensures.value ∙ c.frame-frame.ensures.graph in
+    subst (λ (g : Digraph). AreByHead g c.heads.result.now) (sym graph) c.heads.ensures
 
 -- starts and targets are the frame's vertices
 pub table-requires-clause-sources : goal.table-requires-clause-sources

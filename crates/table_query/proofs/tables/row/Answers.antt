@@ -43,8 +43,8 @@ slice_bounds-least_of-end g c =
 pub loop-list-preserved : goal.loop-list-preserved
 loop-list-preserved g c =
     let ops = g.C.Cost.ops in
-    let graph = c.args.columns.now.frame.now.graph in
-    let weights = c.args.columns.now.weights.now in
+    let graph = c.args.columns.now.overlay.now.frame.now.graph in
+    let weights = c.args.columns.now.overlay.now.weights.now in
     let starts = c.args.starts.now in
     let targets = c.args.columns.now.targets.now in
     let k = c.loop-list.list-index in
@@ -56,10 +56,10 @@ loop-list-preserved g c =
       cells =
           subst (λ row. IsRow ops graph weights (take (k + 1) targets) starts row) (sym c.in_ok-push.ensures.items)
           (all_zip-more (IsCell ops graph weights starts) targets c.loop-list.values.items k list c.least_of.result c.loop-list.invariant.cells at
-          (let R = IsLeastCost ops c.args.columns.now.frame.now weights starts in
+          (let R = IsLeastCost ops c.args.columns.now.overlay.now.frame.now weights starts in
           let costs = c.in_ok-costs.costs.items in
           let zip = all_zip-from_each R c.args.columns.now.all.now costs c.in_ok-costs.ensures.one_each c.in_ok-costs.ensures.least in
           let part = all_zip-part R targets costs k list (subst (λ (l : List (Target _)). AllZip R l costs) c.requires.ready.joined zip) at in
           let same = part-same costs c.deref.result.now c.loop-list.from (length (joined (take k targets))) (length list) (length c.as_slice.result.now) c.deref.ensures.value c.loop-list.invariant.from (ap length c.as_slice.ensures) in
-          cell-least g.met.C.Cost.laws c.args.columns.now.frame.now weights starts list _ c.least_of.result (subst (λ (l : List (Option _)). AllZip R list l) (sym same) part) c.least_of.ensures));
+          cell-least g.met.C.Cost.laws c.args.columns.now.overlay.now.frame.now weights starts list _ c.least_of.result (subst (λ (l : List (Option _)). AllZip R list l) (sym same) part) c.least_of.ensures));
     }

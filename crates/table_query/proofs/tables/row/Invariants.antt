@@ -7,5 +7,5 @@ use Rattle.table_query.proofs.tables.row.Given as goal
 abbrev pub invariant-loop-list : goal.invariant-loop-list
 invariant-loop-list g l = record {
   from : l.from ≡ length (joined (take l.list-index l.columns.targets.now));
-  cells : IsRow g.C.Cost.ops l.columns.frame.now.graph l.columns.weights.now (take l.list-index l.columns.targets.now) l.starts l.values.items;
+  cells : IsRow g.C.Cost.ops l.columns.overlay.now.frame.now.graph l.columns.overlay.now.weights.now (take l.list-index l.columns.targets.now) l.starts l.values.items;
 }

@@ -25,10 +25,10 @@ returns g c =
     let chain = given.1 in
     let shown = ap (λ it. it.slice.now) (ap (λ it. it.base) c.map_init.ensures.base ∙ c.with_min_len.ensures.base) ∙ c.par_iter.ensures in
     let f = c.map_init.result.f in
-    let frame : f.1.now.frame.now ≡ c.args.columns.now.frame.now = ap (λ f. f.1.now.frame.now) c.map_init.ensures.f in
-    let weights : f.1.now.weights.now ≡ c.args.columns.now.weights.now = ap (λ f. f.1.now.weights.now) c.map_init.ensures.f in
+    let frame : f.1.now.overlay.now.frame.now ≡ c.args.columns.now.overlay.now.frame.now = ap (λ f. f.1.now.overlay.now.frame.now) c.map_init.ensures.f in
+    let weights : f.1.now.overlay.now.weights.now ≡ c.args.columns.now.overlay.now.weights.now = ap (λ f. f.1.now.overlay.now.weights.now) c.map_init.ensures.f in
     let targets : f.1.now.targets.now ≡ c.args.columns.now.targets.now = ap (λ f. f.1.now.targets.now) c.map_init.ensures.f in
-    let each = AllZip-weaken _ (λ starts made. IfOk made (IsRow ops f.1.now.frame.now.graph f.1.now.weights.now f.1.now.targets.now starts.now)) (λ starts made h. h.2) chain.0 given.0 chain.2 in
+    let each = AllZip-weaken _ (λ starts made. IfOk made (IsRow ops f.1.now.overlay.now.frame.now.graph f.1.now.overlay.now.weights.now f.1.now.targets.now starts.now)) (λ starts made h. h.2) chain.0 given.0 chain.2 in
     of_ok c.in_ok-done.done _ _ _ given.2 (λ v h.
-    table-same ops f.1.now.frame.now c.args.columns.now.frame.now f.1.now.weights.now c.args.columns.now.weights.now f.1.now.targets.now c.args.columns.now.targets.now sources v.items frame weights targets
-    (all_zip-good _ (λ starts row. IsRow ops f.1.now.frame.now.graph f.1.now.weights.now f.1.now.targets.now starts row) chain.0 sources given.0 h.0 v.items (chain.1 ∙ shown) each h.1 h.2))
+    table-same ops f.1.now.overlay.now.frame.now c.args.columns.now.overlay.now.frame.now f.1.now.overlay.now.weights.now c.args.columns.now.overlay.now.weights.now f.1.now.targets.now c.args.columns.now.targets.now sources v.items frame weights targets
+    (all_zip-good _ (λ starts row. IsRow ops f.1.now.overlay.now.frame.now.graph f.1.now.overlay.now.weights.now f.1.now.targets.now starts row) chain.0 sources given.0 h.0 v.items (chain.1 ∙ shown) each h.1 h.2))
