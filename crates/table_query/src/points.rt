@@ -14,8 +14,8 @@ use std::alloc::{AllocError, Global};
 use std::thread::Threads;
 use step_search::Search;
 
-/// From so many rows on points are made: what they take is then less than what each row would for itself.
-const MANY: usize = 8;
+// From so many rows on it may pay to make points.
+const MANY: usize = 24;
 
 // The point of a target. The search may be any: it is begun anew, in the memory that it has.
 fn point<C: Cost>(
@@ -57,19 +57,25 @@ fn points_in_threads<C: Cost + Send + Sync>(
     made
 }
 
-/// The points of all targets of a table with so many rows, or none where that wouldn't pay.
+// Whether it pays to make the points of the targets of so many columns: where there are many rows, and no more columns.
+fn pays(rows: usize, columns: usize) -> bool {
+    rows >= MANY && rows >= columns
+}
+
+/// The points of all targets of a table of so many rows and columns, or none where that wouldn't pay.
 pub(crate) fn points_for<C: Cost + Send + Sync>(
     rt: &(impl Threads + Sync),
     alloc: Global,
     overlay: &Overlay<C>,
     all: &[Target<C>],
-    rows: usize,
+    size: (usize, usize),
 ) -> Result<Vec<TargetPoint<C>>, SearchFault>
     requires overlay { IsOverlay C.ops overlay.now.frame.now overlay.now.weights.now overlay.now.cliques.now overlay.now.heads.now }
     requires targets { (t : Target C) → Contains all.now t → t.vertex < overlay.now.frame.now.graph.vertices }
     ensures { IfOk result (λ points. AreMade C.ops overlay.now.frame.now overlay.now.weights.now all.now points.items) }
 {
-    if rows < MANY {
+    let (rows, columns) = size;
+    if !pays(rows, columns) {
         return Ok(Vec::new(alloc));
     }
     let points = points_in_threads(rt, alloc, overlay, all)?;

@@ -136,7 +136,8 @@ pub fn table<C: Cost + Send + Sync>(
     ensures { IfOk result (λ rows. IsTable C.ops overlay.now.frame.now.graph overlay.now.weights.now sources.now targets.now rows.items) }
 {
     let all = all_targets(alloc, targets)?;
-    let points = points_for(rt, alloc, overlay, &all, sources.len())?;
+    let size = (sources.len(), targets.len());
+    let points = points_for(rt, alloc, overlay, &all, size)?;
     let columns = Columns {
         overlay,
         targets,

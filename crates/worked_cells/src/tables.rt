@@ -142,14 +142,18 @@ fn each_cell_is_what_plain_search_finds(rt: HostRuntime) -> Result<(), Fail> {
     Ok(())
 }
 
-// A table of eight rows or more is made by columns: what each target costs from the entries of its cells, once.
+// A table of many rows, and no more columns, is made by columns: what each target costs from the entries of its cells, once.
 #[test]
 fn each_cell_of_many_rows_is_what_plain_search_finds(rt: HostRuntime) -> Result<(), Fail> {
     let ring = cut(rt.alloc(), &RING_OF_EIGHT, &[2, 4])?;
-    let from = "0:8/1;1:8/1;2:8/1;3:8/1;4:8/1;5:8/1;6:8/1;7:8/1";
+    let from = "0:8/1;1:8/1;2:8/1;3:8/1;4:8/1;5:8/1;6:8/1;7:8/1;\
+         0:0/3;1:0/3;2:0/3;3:0/3;4:0/3;5:0/3;6:0/3;7:0/3;\
+         0:5/0;1:5/0;2:5/0;3:5/0;4:5/0;5:5/0;6:5/0;7:5/0";
     let to = "0:1/3;1:1/3;2:1/3;3:1/3;4:1/3;5:1/3;6:1/3;7:1/3";
     let told = table_told(&rt, rt.alloc(), &ring, from, to)?;
-    let from = "0:8/1 1:8/1 2:8/1 3:8/1 4:8/1 5:8/1 6:8/1 7:8/1";
+    let from = "0:8/1 1:8/1 2:8/1 3:8/1 4:8/1 5:8/1 6:8/1 7:8/1 \
+         0:0/3 1:0/3 2:0/3 3:0/3 4:0/3 5:0/3 6:0/3 7:0/3 \
+         0:5/0 1:5/0 2:5/0 3:5/0 4:5/0 5:5/0 6:5/0 7:5/0";
     let to = "0:1/3 1:1/3 2:1/3 3:1/3 4:1/3 5:1/3 6:1/3 7:1/3";
     let plain = plain_told(rt.alloc(), &ring, from, to)?;
     assert_eq!(rt; told.as_str(), plain.as_str());
@@ -159,10 +163,14 @@ fn each_cell_of_many_rows_is_what_plain_search_finds(rt: HostRuntime) -> Result<
 #[test]
 fn many_rows_over_three_levels_are_what_plain_search_finds(rt: HostRuntime) -> Result<(), Fail> {
     let ring = cut(rt.alloc(), &RING_OF_TEN, &[1, 3, 6])?;
-    let from = "0:2/1;1:2/1;2:2/1;3:2/1;4:2/1;5:2/1;6:2/1;7:2/1;8:2/1;9:2/1";
+    let from = "0:2/1;1:2/1;2:2/1;3:2/1;4:2/1;5:2/1;6:2/1;7:2/1;8:2/1;9:2/1;\
+         0:7/0;1:7/0;2:7/0;3:7/0;4:7/0;5:7/0;6:7/0;7:7/0;8:7/0;9:7/0;\
+         0:0/9;1:0/9;2:0/9;3:0/9;4:0/9;5:0/9;6:0/9;7:0/9;8:0/9;9:0/9";
     let to = "0:1/9;1:1/9;2:1/9;3:1/9;4:1/9;5:1/9;6:1/9;7:1/9;8:1/9;9:1/9";
     let told = table_told(&rt, rt.alloc(), &ring, from, to)?;
-    let from = "0:2/1 1:2/1 2:2/1 3:2/1 4:2/1 5:2/1 6:2/1 7:2/1 8:2/1 9:2/1";
+    let from = "0:2/1 1:2/1 2:2/1 3:2/1 4:2/1 5:2/1 6:2/1 7:2/1 8:2/1 9:2/1 \
+         0:7/0 1:7/0 2:7/0 3:7/0 4:7/0 5:7/0 6:7/0 7:7/0 8:7/0 9:7/0 \
+         0:0/9 1:0/9 2:0/9 3:0/9 4:0/9 5:0/9 6:0/9 7:0/9 8:0/9 9:0/9";
     let to = "0:1/9 1:1/9 2:1/9 3:1/9 4:1/9 5:1/9 6:1/9 7:1/9 8:1/9 9:1/9";
     let plain = plain_told(rt.alloc(), &ring, from, to)?;
     assert_eq!(rt; told.as_str(), plain.as_str());
