@@ -61,6 +61,11 @@ module _ {C : Type 0} (table : List ℕ) (arena : List (Slot C)) (fits : length 
             ∙ sym (ap (λ (k : ℕ). get_or arena (k * 16 + v % 16) Untouched) (get_or_past table (v / 16) unmade le) ∙ get_or_past arena (unmade * 16 + v % 16) Untouched past)
       ]
 
+  -- so it is read there, of the table and the slots that were borrowed
+  pub slot_at-read : (borrowed : List ℕ) (slots : List (Slot C)) (i v : ℕ) (slot : Slot C) → borrowed ≡ table → i ≡ index borrowed v → slots ≡ arena → slot ≡ get_or slots i Untouched → slot_at (pages_of table arena) v ≡ slot
+  slot_at-read borrowed slots i v slot e is f read =
+      slot_at-index v ∙ ap (λ (k : ℕ). get_or arena k Untouched) (sym (index_is table borrowed i v e is)) ∙ ap (λ (s : List (Slot C)). get_or s i Untouched) (sym f) ∙ sym read
+
   -- how many slots a page has
   page_length : (k : ℕ) → length (page_in arena k) ≡ min 16 (length arena - k * 16)
   page_length k = length-take 16 (drop (k * 16) arena) ∙ ap (min 16) (length-drop (k * 16) arena)

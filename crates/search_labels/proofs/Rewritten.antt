@@ -1,9 +1,11 @@
 -- How the labels change where one slot is written.
-use Rattle.std.proofs.Common.{◌≡◌, ℕ, inl, inr, Bool, true, false, cond, nat_eq, List, refl, sym, ◌∙◌, ap}
+use Rattle.std.proofs.Common.{◌≡◌, ◌⊎◌, ℕ, inl, inr, Bool, true, false, cond, nat_eq, List, Option, Some, None, IfSome, IfNone, refl, sym, ◌∙◌, ap}
 use Rattle.search_labels.specs.Labelled.{label_in, settled_in, label_of, settled_of, changed}
 use Rattle.search_labels.specs.ChangedLaws.{same_place, changed-here, changed-there}
 use Rattle.search_labels.specs.Paged.{slot_at}
+use Rattle.search_labels.specs.declared.labels.Label.{Label}
 use Rattle.search_labels.specs.declared.labels.Slot.{Slot}
+use Rattle.search_labels.specs.declared.labels.Slot.TheVariants.{Labelled, Settled}
 
 -- what is read of a function that changed at a place, changed there
 module _ {Y Z : Type 0} (h : Y → Z) where
@@ -37,3 +39,29 @@ module _ {C : Type 0} (old more written : List (List (Slot C))) (same : slot_at 
 
   pub settled_stays : settled_of old v ≡ settled_in slot → settled_of written ≡ settled_of old
   settled_stays e = settled_written ∙ (λ i u. changed_same (settled_of old) v (settled_in slot) e u i)
+
+-- the slot of v is settled where it has a label and isn't settled: the pages are more before, which have the slots of old, and new after
+module _ {C : Type 0} (old more new : List (List (Slot C))) (same : slot_at more ≡ slot_at old) (v : ℕ) where
+  abbrev pub IsSettled : Option (Label C) → Type 0
+  IsSettled o = IfSome o (λ l. (slot_at more v ≡ Labelled l) × (slot_at new ≡ changed (slot_at more) v (Settled l)))
+
+  abbrev pub IsLeft : Option (Label C) → Type 0
+  IsLeft o = IfNone o ((slot_at new ≡ slot_at more) × ((settled_in (slot_at more v) ≡ true) ⊎ (label_in (slot_at more v) ≡ None)))
+
+  here : slot_at old v ≡ slot_at more v
+  here = ap (λ (f : ℕ → Slot C). f v) (sym same)
+
+  pub settling_label : (o : Option (Label C)) → IsSettled o → IsLeft o → label_of new ≡ label_of old
+  settling_label (Some l) s n = label_stays old more new same v (Settled l) s.1 (ap label_in (here ∙ s.0))
+  settling_label None s n = ap (λ (f : ℕ → Slot C). λ (u : ℕ). label_in (f u)) (n.0 ∙ same)
+
+  pub settling_some : (o : Option (Label C)) → IsSettled o → IfSome o (λ l. (label_of old v ≡ Some l) × (settled_of old v ≡ false) × (settled_of new ≡ changed (settled_of old) v true))
+  settling_some (Some l) s = (ap label_in (here ∙ s.0), ap settled_in (here ∙ s.0), settled_written old more new same v (Settled l) s.1)
+  settling_some None s = s
+
+  pub settling_none : (o : Option (Label C)) → IsLeft o → IfNone o ((settled_of new ≡ settled_of old) × ((settled_of old v ≡ true) ⊎ (label_of old v ≡ None)))
+  settling_none (Some l) n = n
+  settling_none None n = (
+    ap (λ (f : ℕ → Slot C). λ (u : ℕ). settled_in (f u)) (n.0 ∙ same),
+    elim n.1 [ inl e ↦ inl (ap settled_in here ∙ e) | inr e ↦ inr (ap label_in here ∙ e) ],
+  )

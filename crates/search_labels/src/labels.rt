@@ -1,7 +1,7 @@
 //! The labels of the vertices that a search has come to. They stand on pages of neighbouring vertices, and a
 //! page is made when one of its vertices is first labelled.
 
-ghost use Rattle.std.specs.Prelude.{◌≡◌, ℕ, [], true, false, Some, None, IsSome, OnOk};
+ghost use Rattle.std.specs.Prelude.{◌≡◌, ◌⊎◌, ℕ, [], true, false, Some, None, IfSome, IfNone, OnOk};
 ghost use Rattle.search_labels.specs.Labelled.{label_of, settled_of, changed};
 
 use crate::pages::Pages;
@@ -96,14 +96,14 @@ impl<C: Copy> Labels<C> {
         Ok(())
     }
 
-    /// Settles `v`, which has a label.
-    pub fn settle(&mut self, v: u32)
-        requires { IsSome (label_of self.old v) }
+    /// Settles `v` where it has a label and isn't settled, and gives the label. Else it changes
+    /// nothing.
+    #[inline(always)]
+    pub fn settle(&mut self, v: u32) -> Option<Label<C>>
         ensures label { label_of self.new ≡ label_of self.old }
-        ensures settled { settled_of self.new ≡ changed (settled_of self.old) v true }
+        ensures some { IfSome result (λ l. (label_of self.old v ≡ Some l) × (settled_of self.old v ≡ false) × (settled_of self.new ≡ changed (settled_of self.old) v true)) }
+        ensures none { IfNone result ((settled_of self.new ≡ settled_of self.old) × ((settled_of self.old v ≡ true) ⊎ (label_of self.old v ≡ None))) }
     {
-        if let Slot::Labelled(label) = self.pages.read(v) {
-            self.pages.write(v, Slot::Settled(label));
-        }
+        self.pages.settle(v)
     }
 }

@@ -1,12 +1,12 @@
 //! Slots by vertex on pages: each page has the slots of 16 neighbouring vertices, or none until it is made. The
 //! pages that are made stand one behind the other in one list, and a table says where each of them stands.
 
-ghost use Rattle.std.specs.Prelude.{◌≡◌, ◌≢◌, ℕ, ◌+◌, ◌*◌, ◌/◌, ◌%◌, ◌<◌, [], ◌∷◌, ◌++◌, length, slice_index_or, OnOk, OnErr, IfOk};
-ghost use Rattle.search_labels.specs.Labelled.{changed};
+ghost use Rattle.std.specs.Prelude.{◌≡◌, ◌≢◌, ◌⊎◌, ℕ, true, None, ◌+◌, ◌*◌, ◌/◌, ◌%◌, ◌<◌, [], ◌∷◌, ◌++◌, length, slice_index_or, IfSome, IfNone, OnOk, OnErr, IfOk};
+ghost use Rattle.search_labels.specs.Labelled.{label_in, settled_in, changed};
 ghost use Rattle.search_labels.specs.Paged.{unmade, place_of, slot_at, IsMade, AreTouched, IsArena, Keeps};
-ghost use Rattle.search_labels.specs.declared.labels.Slot.TheVariants.{Untouched};
+ghost use Rattle.search_labels.specs.declared.labels.Slot.TheVariants.{Untouched, Labelled, Settled};
 
-use crate::labels::Slot;
+use crate::labels::{Label, Slot};
 use std::alloc::{AllocError, Global};
 use std::marker::Model;
 
@@ -78,6 +78,26 @@ impl<C: Copy> Pages<C> {
     {
         let index = index_of(self.table.as_slice(), v);
         self.arena[index] = slot;
+    }
+
+    /// Settles the slot of `v` where it has a label and isn't settled, and gives the label. Else it
+    /// changes nothing.
+    #[inline(always)]
+    pub fn settle(&mut self, v: u32) -> Option<Label<C>>
+        ensures some { IfSome result (λ l. (slot_at self.old v ≡ Labelled l) × (slot_at self.new ≡ changed (slot_at self.old) v (Settled l))) }
+        ensures none { IfNone result ((slot_at self.new ≡ slot_at self.old) × ((settled_in (slot_at self.old v) ≡ true) ⊎ (label_in (slot_at self.old v) ≡ None))) }
+    {
+        let index = index_of(self.table.as_slice(), v);
+        match self.arena.get(index) {
+            Some(Slot::Labelled(label)) => {
+                let label = *label;
+                self.arena[index] = Slot::Settled(label);
+                Some(label)
+            }
+            Some(Slot::Untouched) => None,
+            Some(Slot::Settled(_)) => None,
+            None => None,
+        }
     }
 
     /// Makes the page of `v` where it isn't made yet. A page past the 2^32 - 1 that can be made is answered by the

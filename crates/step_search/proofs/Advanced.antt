@@ -10,7 +10,7 @@ use Rattle.step_search.specs.Paths.{AreStarts}
 use Rattle.search_labels.specs.Labelled.{changed, label_of, settled_of}
 use Rattle.search_labels.specs.ChangedLaws.{same_place, changed-here, changed-there}
 use Rattle.step_search.specs.Progress.{HasNode, IsNode, IsTree, Expanded, NodesExpanded, StartsIn, IsFront, AreBounds}
-use Rattle.step_search.specs.Stepping.{IsFresh, IsTaken, Settles, Begins, FewerOpen, node_of, one_if_open, open_below, start_node}
+use Rattle.step_search.specs.Stepping.{IsFresh, IsTaken, PutsNode, Begins, FewerOpen, node_of, one_if_open, open_below, start_node}
 use Rattle.step_search.specs.UnderWay.{IsUnderWay, IsBegun}
 use Rattle.search_labels.specs.declared.labels.Label.{Label}
 use Rattle.step_search.specs.declared.dijkstra.Node.{Node}
@@ -48,35 +48,35 @@ module _ (settled : ℕ → Bool) (v : ℕ) where
 
 module _ {C : Type 0} {ops : CostOps C} (laws : CostLaws ops) (S : Space C) (starts : List (Start C)) (old new : Search C)
     (front : IsFront ops S new.tree.items (label_of new.labels) (settled_of new.labels) new.queue) where
-  module _ (v : ℕ) (fit : AreStarts ops S starts) (is_tree : IsTree ops S starts old.tree.items) (expanded : NodesExpanded ops S old.tree.items (label_of old.labels)) (starts_in : StartsIn S starts old.tree.items) (taken : IsTaken ops S old v) (settles : Settles ops old new v) where
-    settled_node : IsNode ops S starts old.tree.items (length old.tree.items) (node_of v settles.label)
+  module _ (v : ℕ) (l : Label C) (fit : AreStarts ops S starts) (is_tree : IsTree ops S starts old.tree.items) (expanded : NodesExpanded ops S old.tree.items (label_of old.labels)) (starts_in : StartsIn S starts old.tree.items) (taken : IsTaken ops S old v l) (puts : PutsNode ops old new v l) where
+    settled_node : IsNode ops S starts old.tree.items (length old.tree.items) (node_of v l)
     settled_node =
-        let m = taken.front.labelled v settles.label settles.had in
+        let m = taken.front.labelled v l taken.has in
         record {
           vertex = taken.space.heads m.0.vertex v m.2.0 m.2.1;
-          units = taken.units settles.label settles.had;
-          from = (slice_get_within old.tree.items settles.label.node m.0 m.1, m.0, m.1, m.2);
+          units = taken.units;
+          from = (slice_get_within old.tree.items l.node m.0 m.1, m.0, m.1, m.2);
         }
 
     -- once a vertex is settled the search is still under way
-    pub settled_under_way : ((l : Label C) → label_of old.labels v ≡ Some l → Expanded ops S (label_of new.labels) v l.cost) → AreBounds ops S (label_of new.labels) new.rows.rows → IsUnderWay ops S starts new
+    pub settled_under_way : Expanded ops S (label_of new.labels) v l.cost → AreBounds ops S (label_of new.labels) new.rows.rows → IsUnderWay ops S starts new
     settled_under_way opened rows = record {
       space = taken.space;
       fit = fit;
-      tree = subst (λ (t : List (Node C)). IsTree ops S starts t) (sym settles.grows) (IsTree-push ops S starts old.tree.items (node_of v settles.label) is_tree settled_node);
+      tree = subst (λ (t : List (Node C)). IsTree ops S starts t) (sym puts.grows) (IsTree-push ops S starts old.tree.items (node_of v l) is_tree settled_node);
       front = front;
-      expanded = subst (λ (t : List (Node C)). NodesExpanded ops S t (label_of new.labels)) (sym settles.grows)
-          (NodesExpanded-push ops S old.tree.items (node_of v settles.label) (label_of new.labels) (NodesExpanded-falls laws S old.tree.items (label_of old.labels) (label_of new.labels) settles.falls expanded) (opened settles.label settles.had));
-      starts_in = subst (λ (t : List (Node C)). StartsIn S starts t) (sym settles.grows) (StartsIn-left S starts old.tree.items (node_of v settles.label) starts_in);
+      expanded = subst (λ (t : List (Node C)). NodesExpanded ops S t (label_of new.labels)) (sym puts.grows)
+          (NodesExpanded-push ops S old.tree.items (node_of v l) (label_of new.labels) (NodesExpanded-falls laws S old.tree.items (label_of old.labels) (label_of new.labels) puts.falls expanded) opened);
+      starts_in = subst (λ (t : List (Node C)). StartsIn S starts t) (sym puts.grows) (StartsIn-left S starts old.tree.items (node_of v l) starts_in);
       rows = rows;
     }
 
-    -- and one vertex fewer is open
-    pub settled_fewer : FewerOpen S old new
-    settled_fewer =
-        let m = taken.front.labelled v settles.label settles.had in
-        subst (λ (f : ℕ → Bool). open_below f S.vertices < open_below (settled_of old.labels) S.vertices) (sym settles.settled)
-        (open-fewer (settled_of old.labels) v S.vertices (taken.space.heads m.0.vertex v m.2.0 m.2.1) taken.unsettled)
+    -- and one vertex fewer is open than in the search before
+    pub settled_fewer : (first : Search C) → settled_of first.labels v ≡ false → settled_of new.labels ≡ changed (settled_of first.labels) v true → FewerOpen S first new
+    settled_fewer first unsettled settles =
+        let m = taken.front.labelled v l taken.has in
+        subst (λ (f : ℕ → Bool). open_below f S.vertices < open_below (settled_of first.labels) S.vertices) (sym settles)
+        (open-fewer (settled_of first.labels) v S.vertices (taken.space.heads m.0.vertex v m.2.0 m.2.1) unsettled)
 
   module _ (done : List (Start C)) (begun : IsBegun ops S starts done old) (s : Start C) (among : Contains starts s) (begins : Begins ops S old new s) where
     start_is_node : S.May s.vertex → IsNode ops S starts old.tree.items (length old.tree.items) (start_node s)

@@ -1,5 +1,6 @@
 -- The answer to a target that is settled, or when nothing is left to settle.
-use Rattle.std.proofs.Common.{◌≡◌, ℕ, ◌<◌, ◌⊎◌, inl, inr, true, false, Some, None, Option, MatchOption, List, [], ◌∷◌, ◌++◌, reverse, refl, sym, ◌∙◌, ap, subst, arith}
+use Rattle.std.proofs.Common.{◌≡◌, ℕ, ◌<◌, ◌⊎◌, inl, inr, true, false, Some, None, Option, MatchOption, List, [], ◌∷◌, ◌++◌, reverse, refl, sym, ◌∙◌, ap, subst, arith, IfNone, true≢false}
+use Rattle.std.specs.Option.{is_some}
 use Rattle.std.specs.List.{Contains}
 use Rattle.std.proofs.lemmas.Option.{same_Some, none-some}
 use Rattle.search_graph.specs.Costs.{CostOps, CostLaws, NoDearer}
@@ -14,6 +15,11 @@ use Rattle.search_labels.specs.declared.labels.Label.{Label}
 use Rattle.step_search.specs.declared.dijkstra.Search.{Search}
 use Rattle.step_search.proofs.Far.{path_far}
 use Rattle.step_search.proofs.Trails.{trail_of, trail_exists}
+
+-- what holds if there is none, where none is there
+pub where_none : {X P : Type 0} (o : Option X) → is_some o ≡ false → IfNone o P → P
+where_none (Some x) e h = absurd (true≢false e)
+where_none None e h = h
 
 nothing_in : {E : Type 0} (xs : List E) (x : E) → xs ≡ [] → Contains xs x → ⊥
 nothing_in xs x e h = let none : Contains [] x = subst (λ ys. Contains ys x) e h in let lt : none.0 < 0 = none.1 in omega arith

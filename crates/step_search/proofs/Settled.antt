@@ -5,13 +5,13 @@ use Rattle.search_graph.specs.Costs.{CostOps, CostLaws}
 use Rattle.search_graph.specs.declared.ends.Start.{Start}
 use Rattle.step_search.specs.Spaces.{Space, IsSpace}
 use Rattle.search_labels.specs.Labelled.{changed, label_of, settled_of}
-use Rattle.step_search.specs.Progress.{LabelWithin, LabelsFall, SettledWithin, Expanded, IsFront}
-use Rattle.step_search.specs.Stepping.{IsAtWork, IsTaken, NoneSettled, OnlyFalls, Settles, Begins, node_of, start_node}
+use Rattle.step_search.specs.Progress.{LabelsFall, SettledWithin, Expanded, IsFront}
+use Rattle.step_search.specs.Stepping.{IsAtWork, IsTaken, NoneSettled, OnlyFalls, PutsNode, Begins, node_of, start_node}
 use Rattle.search_labels.specs.declared.labels.Label.{Label}
 use Rattle.step_search.specs.declared.dijkstra.Node.{Node}
 use Rattle.step_search.specs.declared.dijkstra.Search.{Search}
 use Rattle.step_search.proofs.Falls.{LabelsFall-same}
-use Rattle.step_search.proofs.Grown.{slice_get-last, IsFront-push, taken_label, settle-front, settle-within}
+use Rattle.step_search.proofs.Grown.{slice_get-last, IsFront-push, settle-front, settle-within}
 
 module _ {C : Type 0} (ops : CostOps C) (S : Space C) where
   -- the front by equals
@@ -23,35 +23,28 @@ module _ {C : Type 0} (ops : CostOps C) (S : Space C) where
       (subst (λ (x : ℕ → Bool). IsFront ops S tree label x queue') (sym s)
       (subst (λ (x : List (C × ℕ)). IsFront ops S tree label settled x) (sym q) f)))
 
-module _ {C : Type 0} {ops : CostOps C} (laws : CostLaws ops) (S : Space C) (old : Search C) (v : ℕ) (taken : IsTaken ops S old v) where
-  -- what was taken has a label
-  pub taken_has : LabelWithin ops (label_of old.labels) v taken.key
-  taken_has = taken_label laws S old.tree.items (label_of old.labels) (settled_of old.labels) taken.before old.queue taken.key v taken.front taken.takes taken.unsettled
+module _ {C : Type 0} {ops : CostOps C} (laws : CostLaws ops) (S : Space C) (old : Search C) (v : ℕ) (l : Label C) (taken : IsTaken ops S old v l)
+    (mid : Search C) (tree : mid.tree.items ≡ old.tree.items ++ node_of v l ∷ []) (labels : mid.labels ≡ old.labels) where
+  -- the search goes to work on the node of what was taken
+  pub node_at_work : (at : ℕ) → mid.queue ≡ old.queue → at ≡ length old.tree.items → IsAtWork ops S mid at (node_of v l)
+  node_at_work at queue place = record {
+    space = taken.space;
+    front = IsFront-same ops S (old.tree.items ++ node_of v l ∷ []) mid.tree.items (label_of old.labels) (label_of mid.labels) (changed taken.settled v true) (settled_of mid.labels) old.queue mid.queue tree (ap label_of labels) (ap settled_of labels ∙ taken.settles) queue
+        (settle-front laws S old.tree.items (label_of old.labels) taken.settled taken.before old.queue taken.key v taken.front taken.takes taken.unsettled l taken.has);
+    here = subst (λ (t : List (Node C)). slice_get t at ≡ Some (node_of v l)) (sym tree) (subst (λ (i : ℕ). slice_get (old.tree.items ++ node_of v l ∷ []) i ≡ Some (node_of v l)) (sym place) (slice_get-last old.tree.items (node_of v l)));
+    vertex = let m = taken.front.labelled v l taken.has in taken.space.heads m.0.vertex v m.2.0 m.2.1;
+    units = taken.units;
+    within = subst (λ (x : ℕ → Option (Label C)). SettledWithin ops x (settled_of mid.labels) l.cost) (sym (ap label_of labels))
+        (subst (λ (x : ℕ → Bool). SettledWithin ops (label_of old.labels) x l.cost) (sym (ap settled_of labels ∙ taken.settles))
+        (settle-within laws S old.tree.items (label_of old.labels) taken.settled taken.before old.queue taken.key v taken.front taken.takes taken.unsettled l taken.has));
+  }
 
-  module _ (l : Label C) (has : label_of old.labels v ≡ Some l) (mid : Search C) (tree : mid.tree.items ≡ old.tree.items ++ node_of v l ∷ [])
-      (labels : label_of mid.labels ≡ label_of old.labels) (settled : settled_of mid.labels ≡ changed (settled_of old.labels) v true) where
-    -- and the search goes to work on its node
-    pub settle_at_work : (at : ℕ) → mid.queue ≡ old.queue → at ≡ length old.tree.items → IsAtWork ops S mid at (node_of v l)
-    settle_at_work at queue place = record {
-      space = taken.space;
-      front = IsFront-same ops S (old.tree.items ++ node_of v l ∷ []) mid.tree.items (label_of old.labels) (label_of mid.labels) (changed (settled_of old.labels) v true) (settled_of mid.labels) old.queue mid.queue tree labels settled queue
-          (settle-front laws S old.tree.items (label_of old.labels) (settled_of old.labels) taken.before old.queue taken.key v taken.front taken.takes taken.unsettled l has);
-      here = subst (λ (t : List (Node C)). slice_get t at ≡ Some (node_of v l)) (sym tree) (subst (λ (i : ℕ). slice_get (old.tree.items ++ node_of v l ∷ []) i ≡ Some (node_of v l)) (sym place) (slice_get-last old.tree.items (node_of v l)));
-      vertex = let m = taken.front.labelled v l has in taken.space.heads m.0.vertex v m.2.0 m.2.1;
-      units = taken.units l has;
-      within = subst (λ (x : ℕ → Option (Label C)). SettledWithin ops x (settled_of mid.labels) l.cost) (sym labels)
-          (subst (λ (x : ℕ → Bool). SettledWithin ops (label_of old.labels) x l.cost) (sym settled)
-          (settle-within laws S old.tree.items (label_of old.labels) (settled_of old.labels) taken.before old.queue taken.key v taken.front taken.takes taken.unsettled l has));
-    }
-
-    pub settle_settles : (new : Search C) → OnlyFalls ops mid new → Settles ops old new v
-    settle_settles new f = record {
-      label = l;
-      had = has;
-      grows = f.tree ∙ tree;
-      falls = subst (λ (x : ℕ → Option (Label C)). LabelsFall ops x (label_of new.labels)) labels f.falls;
-      settled = f.settled ∙ settled;
-    }
+  pub node_put : (new : Search C) → OnlyFalls ops mid new → PutsNode ops old new v l
+  node_put new f = record {
+    grows = f.tree ∙ tree;
+    falls = subst (λ (x : ℕ → Option (Label C)). LabelsFall ops x (label_of new.labels)) (ap label_of labels) f.falls;
+    settled = f.settled ∙ ap settled_of labels;
+  }
 
 module _ {C : Type 0} {ops : CostOps C} (laws : CostLaws ops) (S : Space C) (old : Search C) (s : Start C) where
   pub begin_at_work : IsSpace ops S → s.vertex < S.vertices → ops.units s.cost 1 → IsFront ops S old.tree.items (label_of old.labels) (settled_of old.labels) old.queue → NoneSettled (settled_of old.labels) →

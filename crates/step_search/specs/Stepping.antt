@@ -49,28 +49,32 @@ pub record OnlyFalls {C : Type 0} (ops : CostOps C) (old new : Search C) : Type 
   pub settled : settled_of new.labels ≡ settled_of old.labels
   pub tree : new.tree.items ≡ old.tree.items
 
--- new is old without entries of settled vertices
-pub record Skips {C : Type 0} (settled : ℕ → Bool) (old new : List (C × ℕ)) : Type 0 where
+-- new is old without entries of vertices that are settled or have no label
+pub record Skips {C : Type 0} (label : ℕ → Option (Label C)) (settled : ℕ → Bool) (old new : List (C × ℕ)) : Type 0 where
   pub fewer : (x : C × ℕ) → Contains new x → Contains old x
-  pub kept : (x : C × ℕ) → Contains old x → settled x.1 ≡ false → Contains new x
+  pub kept : (x : C × ℕ) (l : Label C) → Contains old x → settled x.1 ≡ false → label x.1 ≡ Some l → Contains new x
 
--- v, which isn't settled, was taken from the queue with the least key
-pub record IsNearest {C : Type 0} (ops : CostOps C) (settled : ℕ → Bool) (old new : List (C × ℕ)) (v : ℕ) : Type 0 where
+-- v, which has the label l and isn't settled, was taken from the queue with the least key
+pub record IsNearest {C : Type 0} (ops : CostOps C) (label : ℕ → Option (Label C)) (settled : ℕ → Bool) (old new : List (C × ℕ)) (v : ℕ) (l : Label C) : Type 0 where
   pub key : C
   pub before : List (C × ℕ)
-  pub skips : Skips settled old before
+  pub skips : Skips label settled old before
   pub takes : TakesLeast ops before new (key, v)
   pub unsettled : settled v ≡ false
+  pub has : label v ≡ Some l
 
--- the search is about to settle v, which was taken from the queue
-pub record IsTaken {C : Type 0} (ops : CostOps C) (S : Space C) (search : Search C) (v : ℕ) : Type 0 where
+-- v was taken from the queue, as it was before, and is settled at its label l, beside those that were settled
+pub record IsTaken {C : Type 0} (ops : CostOps C) (S : Space C) (search : Search C) (v : ℕ) (l : Label C) : Type 0 where
   pub space : IsSpace ops S
   pub before : List (C × ℕ)
-  pub front : IsFront ops S search.tree.items (label_of search.labels) (settled_of search.labels) before
+  pub settled : ℕ → Bool
+  pub front : IsFront ops S search.tree.items (label_of search.labels) settled before
   pub key : C
   pub takes : TakesLeast ops before search.queue (key, v)
-  pub unsettled : settled_of search.labels v ≡ false
-  pub units : (l : Label C) → label_of search.labels v ≡ Some l → ops.units l.cost (2 ^ 30)
+  pub unsettled : settled v ≡ false
+  pub settles : settled_of search.labels ≡ changed settled v true
+  pub has : label_of search.labels v ≡ Some l
+  pub units : ops.units l.cost (2 ^ 30)
 
 -- the node of a vertex at its label
 abbrev pub node_of : {C : Type 0} → ℕ → Label C → Node C
@@ -80,13 +84,11 @@ node_of v l = record { vertex = v; cost = l.cost; before = Some l.node }
 abbrev pub start_node : {C : Type 0} → Start C → Node C
 start_node s = record { vertex = s.vertex; cost = s.cost; before = None }
 
--- v is settled: its node is new in the tree
-pub record Settles {C : Type 0} (ops : CostOps C) (old new : Search C) (v : ℕ) : Type 0 where
-  pub label : Label C
-  pub had : label_of old.labels v ≡ Some label
-  pub grows : new.tree.items ≡ old.tree.items ++ node_of v label ∷ []
+-- the node of v at its label l is new in the tree
+pub record PutsNode {C : Type 0} (ops : CostOps C) (old new : Search C) (v : ℕ) (l : Label C) : Type 0 where
+  pub grows : new.tree.items ≡ old.tree.items ++ node_of v l ∷ []
   pub falls : LabelsFall ops (label_of old.labels) (label_of new.labels)
-  pub settled : settled_of new.labels ≡ changed (settled_of old.labels) v true
+  pub settled : settled_of new.labels ≡ settled_of old.labels
 
 -- the search has begun at s: where a path may begin there, its node is new in the tree, and expanded
 pub record Begins {C : Type 0} (ops : CostOps C) (S : Space C) (old new : Search C) (s : Start C) : Type 0 where

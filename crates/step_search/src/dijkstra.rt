@@ -1,6 +1,6 @@
 //! The search: a tree of walks, the labels of the vertices, and the queue.
 
-ghost use Rattle.std.specs.Prelude.{◌≡◌, ℕ, ◌<◌, List, true, false, reverse, length, Some, IfSome, IfNone, IfOk, OnOk};
+ghost use Rattle.std.specs.Prelude.{◌≡◌, ◌≢◌, ℕ, ◌<◌, List, true, false, reverse, length, Some, IfSome, IfNone, IfOk, OnOk};
 ghost use Rattle.std.specs.Bool.{OnTrue, OnFalse};
 ghost use Rattle.std.specs.List.{Contains, slice_get};
 ghost use Rattle.step_search.specs.Spaces.{IsSpace};
@@ -112,7 +112,7 @@ impl<C: Cost> Search<C> {
         ensures done { OnOk result (IsDone C.ops (T.space steps.now) starts.now self.new until) }
     {
         while !self.labels.is_settled(until) {
-            if !self.settle_next(steps, starts)? {
+            if self.settle_next(steps, starts)?.is_none() {
                 return Ok(());
             }
         }
@@ -141,7 +141,7 @@ impl<C: Cost> Search<C> {
             if self.queue.is_beyond(limit) {
                 return Ok(false);
             }
-            if !self.settle_next(steps, starts)? {
+            if self.settle_next(steps, starts)?.is_none() {
                 return Ok(true);
             }
         }
@@ -152,8 +152,8 @@ impl<C: Cost> Search<C> {
     /// nothing is left to settle: then no path leads to any of them. It ends in the error where memory runs out, and
     /// the search is then of no use any more.
     ///
-    /// `steps` and `starts` are those with which the search began. Before each vertex it looks at all targets, so there
-    /// should be few.
+    /// `steps` and `starts` are those with which the search began. Each vertex that it settles is compared with all
+    /// targets, so there should be few.
     pub fn run_first<T: Steps<C>>(
         &mut self,
         steps: &T,
@@ -166,14 +166,15 @@ impl<C: Cost> Search<C> {
         ensures first { IfOk result (λ first. IfSome first (λ k. (t : ℕ) × (slice_get targets.now k ≡ Some t) × IsDone C.ops (T.space steps.now) starts.now self.new t)) }
         ensures none { IfOk result (λ first. IfNone first ((t : ℕ) → Contains targets.now t → NoPathTo C.ops (T.space steps.now) starts.now t)) }
     {
-        loop {
-            if let Some(first) = self.first_settled(targets) {
+        if let Some(first) = self.first_settled(targets) {
+            return Ok(Some(first));
+        }
+        while let Some(v) = self.settle_next(steps, starts)? {
+            if let Some(first) = first_place(targets, v) {
                 return Ok(Some(first));
             }
-            if !self.settle_next(steps, starts)? {
-                return Ok(None);
-            }
         }
+        Ok(None)
     }
 
     /// Goes on until it has a path to `until` that costs no more than `known`, than which no path to it costs less, or
@@ -199,7 +200,7 @@ impl<C: Cost> Search<C> {
             if self.is_within(until, known) {
                 return Ok(());
             }
-            if !self.settle_next(steps, starts)? {
+            if self.settle_next(steps, starts)?.is_none() {
                 return Ok(());
             }
         }
@@ -307,6 +308,20 @@ impl<C: Cost> Search<C> {
         }
         None
     }
+}
+
+// The first place at which the vertex is among the targets, if it is.
+#[inline(always)]
+fn first_place(targets: &[u32], v: u32) -> Option<usize>
+    ensures some { IfSome result (λ k. slice_get targets.now k ≡ Some v) }
+    ensures none { IfNone result ((t : ℕ) → Contains targets.now t → t ≢ v) }
+{
+    for (place, target) in targets.iter().enumerate() {
+        if *target == v {
+            return Some(place);
+        }
+    }
+    None
 }
 
 // The vertices of the walk that the node at `at` stands for.

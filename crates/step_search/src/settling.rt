@@ -7,7 +7,7 @@ ghost use Rattle.step_search.specs.Spaces.{HasHop};
 ghost use Rattle.search_labels.specs.Labelled.{label_of, settled_of, changed};
 ghost use Rattle.search_queue.specs.Queued.{Adds};
 ghost use Rattle.step_search.specs.Progress.{LabelWithin, Expanded, IsFront, AreBounds};
-ghost use Rattle.step_search.specs.Stepping.{FewerOpen, Improves, IsAtWork, IsNearest, IsTaken, Offers, OnlyFalls, Settles, Skips};
+ghost use Rattle.step_search.specs.Stepping.{FewerOpen, Improves, IsAtWork, IsNearest, IsTaken, Offers, OnlyFalls, PutsNode, Skips};
 ghost use Rattle.step_search.specs.UnderWay.{IsUnderWay};
 
 use crate::dijkstra::{Node, Search};
@@ -26,58 +26,69 @@ struct Places<'a, C: Cost> {
 }
 
 impl<C: Cost> Search<C> {
-    // Settles the nearest vertex, and tells whether one was left to settle.
+    // Settles the nearest vertex, and gives it, or none where none was left to settle.
     #[inline(always)]
     pub(crate) fn settle_next<T: Steps<C>>(
         &mut self,
         steps: &T,
         starts: &[Start<C>],
-    ) -> Result<bool, AllocError>
+    ) -> Result<Option<u32>, AllocError>
         requires ready { T.ready steps.now }
         requires under_way { IsUnderWay C.ops (T.space steps.now) starts.now self.old }
         ensures under_way { OnOk result (IsUnderWay C.ops (T.space steps.now) starts.now self.new) }
-        ensures fewer { IfOk result (λ more. OnTrue more (FewerOpen (T.space steps.now) self.old self.new)) }
-        ensures empty { IfOk result (λ more. OnFalse more (self.new.queue ≡ [])) }
-        ensures labels { IfOk result (λ more. OnFalse more (self.new.labels ≡ self.old.labels)) }
+        ensures fewer { IfOk result (λ next. IfSome next (λ v. FewerOpen (T.space steps.now) self.old self.new)) }
+        ensures settles { IfOk result (λ next. IfSome next (λ v. settled_of self.new.labels ≡ changed (settled_of self.old.labels) v true)) }
+        ensures empty { IfOk result (λ next. IfNone next (self.new.queue ≡ [])) }
+        ensures same { IfOk result (λ next. IfNone next (settled_of self.new.labels ≡ settled_of self.old.labels)) }
     {
         let _ = starts;
         match self.nearest() {
-            Some(v) => {
-                self.settle(steps, v)?;
-                Ok(true)
+            Some((v, label)) => {
+                self.put_node(steps, v, label)?;
+                Ok(Some(v))
             }
-            None => Ok(false),
+            None => Ok(None),
         }
     }
 
-    // Takes the entry of the least key whose vertex isn't settled, and gives the vertex.
-    fn nearest(&mut self) -> Option<u32>
-        ensures some { IfSome result (IsNearest C.ops (settled_of self.old.labels) self.old.queue self.new.queue) }
-        ensures none { IfNone result (Skips (settled_of self.old.labels) self.old.queue self.new.queue) }
+    // Takes the entry of the least key whose vertex isn't settled, settles it, and gives it with
+    // its label.
+    #[inline(always)]
+    fn nearest(&mut self) -> Option<(u32, Label<C>)>
+        ensures some { IfSome result (λ x. IsNearest C.ops (label_of self.old.labels) (settled_of self.old.labels) self.old.queue self.new.queue x.0 x.1) }
+        ensures settles { IfSome result (λ x. settled_of self.new.labels ≡ changed (settled_of self.old.labels) x.0 true) }
+        ensures none { IfNone result (Skips (label_of self.old.labels) (settled_of self.old.labels) self.old.queue self.new.queue) }
         ensures empty { IfNone result (self.new.queue ≡ []) }
-        ensures labels { self.new.labels ≡ self.old.labels }
+        ensures same { IfNone result (settled_of self.new.labels ≡ settled_of self.old.labels) }
+        ensures labels { label_of self.new.labels ≡ label_of self.old.labels }
         ensures tree { self.new.tree.items ≡ self.old.tree.items }
         ensures rows { self.new.rows ≡ self.old.rows }
     {
         while let Some((_, v)) = self.queue.pop() {
-            if !self.labels.is_settled(v) {
-                return Some(v);
+            if let Some(label) = self.labels.settle(v) {
+                return Some((v, label));
             }
         }
         None
     }
 
-    // Settles the vertex, which was taken from the queue, at its label.
-    fn settle<T: Steps<C>>(&mut self, steps: &T, v: u32) -> Result<(), AllocError>
+    // Puts the node of the vertex, which was taken from the queue and settled at its label, and
+    // offers labels along the hops out of it.
+    #[inline(always)]
+    fn put_node<T: Steps<C>>(
+        &mut self,
+        steps: &T,
+        v: u32,
+        label: Label<C>,
+    ) -> Result<(), AllocError>
         requires ready { T.ready steps.now }
-        requires taken { IsTaken C.ops (T.space steps.now) self.old v }
+        requires taken { IsTaken C.ops (T.space steps.now) self.old v label }
         requires rows { AreBounds C.ops (T.space steps.now) (label_of self.old.labels) self.old.rows.rows }
         ensures front { OnOk result (IsFront C.ops (T.space steps.now) self.new.tree.items (label_of self.new.labels) (settled_of self.new.labels) self.new.queue) }
-        ensures settles { OnOk result (Settles C.ops self.old self.new v) }
-        ensures expanded { OnOk result ((l : _) → label_of self.old.labels v ≡ Some l → Expanded C.ops (T.space steps.now) (label_of self.new.labels) v l.cost) }
+        ensures puts { OnOk result (PutsNode C.ops self.old self.new v label) }
+        ensures expanded { OnOk result (Expanded C.ops (T.space steps.now) (label_of self.new.labels) v label.cost) }
         ensures rows { OnOk result (AreBounds C.ops (T.space steps.now) (label_of self.new.labels) self.new.rows.rows) }
     {
-        let label = self.labels.label(v).unwrap();
         let at = self.tree.len();
         let node = Node {
             cost: label.cost,
@@ -85,7 +96,6 @@ impl<C: Cost> Search<C> {
             before: Link::to(label.node)?,
         };
         self.tree.push(node)?;
-        self.labels.settle(v);
         self.expand(steps, at, node)?;
         Ok(())
     }

@@ -1,15 +1,15 @@
 -- The search is done with a vertex that is settled, and with each once the queue is empty.
 use Rattle.std.proofs.Common.{sym}
-use Rattle.step_search.proofs.Answered.{beyond, done_settled, done_empty}
+use Rattle.step_search.proofs.Answered.{beyond, done_settled, done_empty, where_none}
 use Rattle.step_search.proofs.dijkstra.Search.run_below.Goals as goal
 
 pub returns-then-is_beyond-clause-beyond : goal.returns-then-is_beyond-clause-beyond
 returns-then-is_beyond-clause-beyond g c =
     beyond g.met.C.Cost.laws (g.T.Steps.space c.args.steps.now) c.args.starts.now c.loop-limit.self c.loop-limit.invariant c.args.until c.args.limit (sym c.loop-limit-test.ensures) c.if-is_beyond.ensures.yes
 
-pub returns-then-not-branch-clause-done : goal.returns-then-not-branch-clause-done
-returns-then-not-branch-clause-done g c =
-    done_empty g.met.C.Cost.laws (g.T.Steps.space c.args.steps.now) c.args.starts.now c.settle_next.new.self c.in_ok-settle_next.ensures.under_way c.args.until (rw c.if-not-branch.true at c.in_ok-settle_next.ensures.empty)
+pub returns-then-is_none-clause-done : goal.returns-then-is_none-clause-done
+returns-then-is_none-clause-done g c =
+    done_empty g.met.C.Cost.laws (g.T.Steps.space c.args.steps.now) c.args.starts.now c.settle_next.new.self c.in_ok-settle_next.ensures.under_way c.args.until (where_none c.in_ok-settle_next.field-0 c.if-is_none.ensures c.in_ok-settle_next.ensures.empty)
 
 pub returns-clause-done : goal.returns-clause-done
 returns-clause-done g c =

@@ -1,15 +1,38 @@
--- The search is done with the target that is settled; once the queue is empty no path leads to those that aren't.
-use Rattle.std.proofs.Common.{sym, ◌∙◌, ap}
+-- The search is done with a target that is settled; once the queue is empty no path leads to those that aren't.
+use Rattle.std.proofs.Common.{inl, inr, true, refl, sym, ◌∙◌, ap}
 use Rattle.search_labels.specs.Labelled.{settled_of}
+use Rattle.search_labels.specs.ChangedLaws.{same_place, changed-here, changed-there}
 use Rattle.step_search.proofs.Answered.{done_settled, no_path_left}
 use Rattle.step_search.proofs.dijkstra.Search.run_first.Goals as goal
 
 pub returns-in-Some-clause-first : goal.returns-in-Some-clause-first
 returns-in-Some-clause-first g c =
     let s = c.in-Some.ensures.some in
-    (s.0, s.1, done_settled g.met.C.Cost.laws (g.T.Steps.space c.args.steps.now) c.args.starts.now c.loop-first.self c.loop-first.invariant s.0 (sym s.2))
+    (s.0, s.1, done_settled g.met.C.Cost.laws (g.T.Steps.space c.args.steps.now) c.args.starts.now c.args.self.now c.requires.under_way s.0 (sym s.2))
 
-pub returns-then-not-branch-clause-none : goal.returns-then-not-branch-clause-none
-returns-then-not-branch-clause-none g c = λ t h.
-    no_path_left g.met.C.Cost.laws (g.T.Steps.space c.args.steps.now) c.args.starts.now c.settle_next.new.self c.in_ok-settle_next.ensures.under_way t (rw c.if-not-branch.true at c.in_ok-settle_next.ensures.empty)
-    (ap (λ x. settled_of x t) (rw c.if-not-branch.true at c.in_ok-settle_next.ensures.labels) ∙ c.in_default.ensures.none t h)
+pub returns-in-Some-first_place-clause-first : goal.returns-in-Some-first_place-clause-first
+returns-in-Some-first_place-clause-first g c =
+    let v = c.in-Some-2.v in
+    let settles = rw c.in-Some-2.is at c.in_ok-v.ensures.settles in (
+      v,
+      c.in-Some-first_place.ensures.some,
+      done_settled g.met.C.Cost.laws (g.T.Steps.space c.args.steps.now) c.args.starts.now c.settle_next.new.self c.in_ok-v.ensures.under_way v
+          (sym (ap (λ f. f v) settles ∙ changed-here (settled_of c.loop-v.self.labels) v true v refl)),
+    )
+
+pub loop-v-preserved : goal.loop-v-preserved
+loop-v-preserved g c =
+    let v = c.in-Some-2.v in
+    let settles = rw c.in-Some-2.is at c.in_ok-v.ensures.settles in
+    record {
+      under_way = c.in_ok-v.ensures.under_way;
+      unsettled = λ t h. ap (λ f. f t) settles ∙ elim (same_place v t) [
+        | inl e ↦ absurd (c.in_default-first_place.ensures.none t h (sym e))
+        | inr e ↦ changed-there (settled_of c.loop-v.self.labels) v true t e ∙ c.loop-v.invariant.unsettled t h
+      ];
+    }
+
+pub returns-clause-none : goal.returns-clause-none
+returns-clause-none g c = λ t h.
+    no_path_left g.met.C.Cost.laws (g.T.Steps.space c.args.steps.now) c.args.starts.now c.settle_next.new.self c.in_ok-v.ensures.under_way t (rw c.in_default-2.is at c.in_ok-v.ensures.empty)
+    (ap (λ f. f t) (rw c.in_default-2.is at c.in_ok-v.ensures.same) ∙ c.loop-v.invariant.unsettled t h)

@@ -1,0 +1,42 @@
+-- The slot stands where the table says, and only one that has a label and isn't settled is written.
+use Rattle.std.proofs.Common.{◌<◌, inl, inr, length, refl, rules, sym, ◌∙◌, ap, subst}
+use Rattle.std.proofs.Math.ListN.{set}
+use Rattle.search_labels.specs.Labelled.{label_in, settled_in, changed}
+use Rattle.search_labels.specs.Paged.{pages_of, slot_at}
+use Rattle.search_labels.specs.declared.labels.Slot.TheVariants.{Untouched, Settled}
+use Rattle.search_labels.proofs.Paged.{index_is, IsArena-fits, slot_at-read, slot_at-written}
+use Rattle.search_labels.proofs.pages.Pages.settle.Goals as goal
+
+pub returns-in-Some-Labelled-clause-some : goal.returns-in-Some-Labelled-clause-some
+returns-in-Some-Labelled-clause-some g c =
+    let table = c.self.inside.table.items in
+    let arena = c.self.inside.arena.items in
+    let slot = Settled c.in-Some-Labelled.label in
+    let fits = IsArena-fits arena c.self.inside.touched.items c.self.invariant.slots in
+    let at = index_is table _ c.index_of-index.result c.args.v c.as_slice.ensures.value c.index_of-index.ensures in
+    let within : c.index_of-index.result < length arena = subst (λ s. c.index_of-index.result < length s) c.deref.ensures.value c.in-Some-Labelled.ensures.lookup.3.0 in
+    let read = slot_at-read table arena fits _ _ c.index_of-index.result c.args.v c.in-Some-Labelled.field-0.now c.as_slice.ensures.value c.index_of-index.ensures c.deref.ensures.value (c.in-Some-Labelled.ensures.lookup.3.1 Untouched) in (
+      ap (λ pages. slot_at pages c.args.v) (sym c.self.view_is) ∙ read ∙ c.in-Some-Labelled.field-0-is,
+      ap (λ i. slot_at (pages_of table (set arena i slot))) at ∙ slot_at-written table arena c.self.inside.touched.items c.self.invariant c.args.v slot (subst (λ i. i < length arena) at within)
+          ∙ ap (λ pages. changed (slot_at pages) c.args.v slot) c.self.view_is,
+    )
+
+pub returns-in-Some-Untouched-clause-none : goal.returns-in-Some-Untouched-clause-none
+returns-in-Some-Untouched-clause-none g c =
+    let fits = IsArena-fits c.self.inside.arena.items c.self.inside.touched.items c.self.invariant.slots in
+    let read = slot_at-read c.self.inside.table.items c.self.inside.arena.items fits _ _ c.index_of-index.result c.args.v c.in-Some-Untouched.field-0.now c.as_slice.ensures.value c.index_of-index.ensures c.deref.ensures.value
+    (c.in-Some-Untouched.ensures.lookup.3.1 Untouched) in
+    (refl, inr (ap label_in (ap (λ pages. slot_at pages c.args.v) (sym c.self.view_is) ∙ read ∙ c.in-Some-Untouched.field-0-is)))
+
+pub returns-in-Some-Settled-clause-none : goal.returns-in-Some-Settled-clause-none
+returns-in-Some-Settled-clause-none g c =
+    let fits = IsArena-fits c.self.inside.arena.items c.self.inside.touched.items c.self.invariant.slots in
+    let read = slot_at-read c.self.inside.table.items c.self.inside.arena.items fits _ _ c.index_of-index.result c.args.v c.in-Some-Settled.field-0.now c.as_slice.ensures.value c.index_of-index.ensures c.deref.ensures.value
+    (c.in-Some-Settled.ensures.lookup.3.1 Untouched) in
+    (refl, inl (ap settled_in (ap (λ pages. slot_at pages c.args.v) (sym c.self.view_is) ∙ read ∙ c.in-Some-Settled.field-0-is)))
+
+pub returns-in-None-clause-none : goal.returns-in-None-clause-none
+returns-in-None-clause-none g c =
+    let fits = IsArena-fits c.self.inside.arena.items c.self.inside.touched.items c.self.invariant.slots in
+    let read = slot_at-read c.self.inside.table.items c.self.inside.arena.items fits _ _ c.index_of-index.result c.args.v Untouched c.as_slice.ensures.value c.index_of-index.ensures c.deref.ensures.value (search rules) in
+    (refl, inr (ap label_in (ap (λ pages. slot_at pages c.args.v) (sym c.self.view_is) ∙ read)))
