@@ -48,7 +48,8 @@ module _ (settled : ℕ → Bool) (v : ℕ) where
 
 module _ {C : Type 0} {ops : CostOps C} (laws : CostLaws ops) (S : Space C) (starts : List (Start C)) (old new : Search C)
     (front : IsFront ops S new.tree.items (label_of new.labels) (settled_of new.labels) new.queue) where
-  module _ (v : ℕ) (l : Label C) (fit : AreStarts ops S starts) (is_tree : IsTree ops S starts old.tree.items) (expanded : NodesExpanded ops S old.tree.items (label_of old.labels)) (starts_in : StartsIn S starts old.tree.items) (taken : IsTaken ops S old v l) (puts : PutsNode ops old new v l) where
+  module _ (v : ℕ) (l : Label C) (fit : AreStarts ops S starts) (is_tree : IsTree ops S starts old.tree.items) (expanded : NodesExpanded ops S old.tree.items (label_of old.labels))
+      (starts_in : StartsIn S starts old.tree.items) (taken : IsTaken ops S old v l) (puts : PutsNode ops old new v l) where
     settled_node : IsNode ops S starts old.tree.items (length old.tree.items) (node_of v l)
     settled_node =
         let m = taken.front.labelled v l taken.has in
