@@ -1,5 +1,5 @@
 -- A road network cut into cells by where its vertices lie (this project's rule).
-use Rattle.std.specs.Prelude.{◌≡◌, ℕ, ℤ, pos, ◌+ℤ◌, List, ◌++◌, get_or, map}
+use Rattle.std.specs.Prelude.{◌≡◌, ℕ, ℤ, pos, ◌+ℤ◌, List, [], ◌∷◌, ◌++◌, filter, get_or, map, nat_lt}
 use Rattle.road_base.specs.declared.coordinates.Point.{Point}
 use Rattle.edge_graph.specs.NetworkView.{NetworkView, copies_in, graph_of, vertices_of}
 use Rattle.road_segments.specs.Vertex.{Vertex}
@@ -34,3 +34,15 @@ pub record IsFrameOf (network : NetworkView) (limits : List ℕ) (frame : Framed
   pub graph : frame.graph ≡ graph_of network
   pub cells : IsHalvedBy (midpoints_of network) limits frame.cells
   pub framed : IsFramed frame
+
+-- of these limits those that are below a number of vertices
+abbrev pub limits_below : ℕ → List ℕ → List ℕ
+limits_below vertices limits = filter (λ limit. nat_lt limit vertices) limits
+
+-- the limits by which a server cuts a large network
+abbrev pub all_limits : List ℕ
+all_limits = 256 ∷ 4096 ∷ 65536 ∷ 1048576 ∷ 16777216 ∷ []
+
+-- the limits by which a server cuts so many vertices: a cell that may hold all of them would have no border
+abbrev pub server_limits : ℕ → List ℕ
+server_limits vertices = limits_below vertices all_limits

@@ -3,7 +3,7 @@
 ghost use Rattle.std.specs.Prelude.{◌≡◌, ◌≤◌, All, IfOk};
 ghost use Rattle.std.specs.List.Sorted.{IsStrictlyIncreasing};
 ghost use Rattle.edge_graph.specs.NetworkView.{graph_of};
-ghost use Rattle.customized.specs.Framing.{IsFrameOf};
+ghost use Rattle.customized.specs.Framing.{IsFrameOf, limits_below, server_limits};
 ghost use Rattle.head_index.specs.ByHead.{AreByHead};
 
 use crate::midpoints::midpoints;
@@ -15,7 +15,7 @@ use std::alloc::{AllocError, Global};
 use std::marker::Model;
 use std::sync::Arc;
 
-/// How many vertices the cells of each level have at most, the lowest level first, where a server cuts its
+/// How many vertices the cells of each level have at most, the lowest level first, where a server cuts a large
 /// network.
 pub const SERVER_LIMITS: [u32; 5] = [256, 4096, 65536, 1048576, 16777216];
 
@@ -70,6 +70,18 @@ impl Roads {
         })
     }
 
+    /// A network cut as a server cuts its own: by those of `SERVER_LIMITS` that are below the number of its vertices. Under
+    /// any other limit all vertices would be one cell, which has no border, so that no search could leap over it. It answers
+    /// an error only where memory runs out.
+    pub fn for_server(alloc: Global, network: Network) -> Result<Roads, AllocError>
+        ensures network { IfOk result (λ roads. roads.network ≡ network) }
+        ensures frame { IfOk result (λ roads. IsFrameOf network (server_limits (graph_of network).vertices) roads.frame) }
+    {
+        let vertices = network.graph().vertices();
+        let limits = limits_below(alloc, &SERVER_LIMITS, vertices)?;
+        Roads::of(alloc, network, &limits)
+    }
+
     /// The network.
     pub fn network(&self) -> &Network
         ensures { result.now ≡ self.now.network }
@@ -102,6 +114,17 @@ impl Roads {
             heads: Arc::try_clone(&self.heads)?,
         })
     }
+}
+
+// Of these limits those that are below a number of vertices.
+fn limits_below(alloc: Global, limits: &[u32], vertices: u32) -> Result<Vec<u32>, AllocError>
+    ensures { IfOk result (λ below. below.items ≡ limits_below vertices limits.now) }
+{
+    limits
+        .iter()
+        .copied()
+        .filter(|limit| *limit < vertices)
+        .collect(alloc)
 }
 
 // The frame of a network's graph, by these limits.

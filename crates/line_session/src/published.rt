@@ -6,7 +6,7 @@ ghost use Rattle.line_session.specs.Leading.{IsTrafficReply};
 ghost use Rattle.line_session.specs.Publication.{IsReplyLine, opening};
 
 use control_port::{BodyRoom, publish_files};
-use customized::{Metric, Roads, SERVER_LIMITS};
+use customized::{Metric, Roads};
 use edge_graph::Network;
 use metric_make::base;
 use metric_publish::LocalBoard;
@@ -52,7 +52,7 @@ impl Published {
     ) -> Result<Published, AllocError>
         ensures { IfOk result (λ p. p ≡ opening network) }
     {
-        let roads = Roads::of(alloc, network, &SERVER_LIMITS)?;
+        let roads = Roads::for_server(alloc, network)?;
         let base = base(alloc, roads.network())?;
         let grid = Grid::of(alloc, roads.network())?;
         let metric = Metric::make(rt, alloc, &roads, base)?;

@@ -15,7 +15,7 @@ ghost use Rattle.snap_index.specs.Ends.{all_ends};
 
 use command_words::ServeWords;
 use control_port::{base_of_files, file_text, kind_text};
-use customized::{Metric, Roads, SERVER_LIMITS};
+use customized::{Metric, Roads};
 use edge_graph::Network;
 use map_loading::{LoadFault, load};
 use metric_make::BaseMetric;
@@ -119,7 +119,7 @@ fn start_of<R: Threads + Sync>(
     ensures fault { IfErr result (IsRowFault speeds.now turns.now) }
 {
     let base = start_costs(alloc, &network, speeds, turns)?;
-    let roads = Roads::of(alloc, network, &SERVER_LIMITS)?;
+    let roads = Roads::for_server(alloc, network)?;
     let grid = Grid::of(alloc, roads.network())?;
     let metric = Metric::make(rt, alloc, &roads, base)?;
     let metric = shared(alloc, metric)?;

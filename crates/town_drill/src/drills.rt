@@ -11,7 +11,7 @@ ghost use Rattle.town_drill.specs.Drill.{AreLines, IsDrill, IsLine};
 use crate::asked::trips_under;
 use crate::metrics::metric_of;
 use crate::telling::line;
-use customized::{Roads, SERVER_LIMITS};
+use customized::Roads;
 use edge_graph::Network;
 use map_loading::{LoadFault, load};
 use snap_index::Grid;
@@ -80,7 +80,7 @@ fn lines_on(
     requires few { n ≤ 1000 }
     ensures { IfOk result (λ text. AreLines network n (string_bytes text)) }
 {
-    let roads = Roads::of(alloc, network, &SERVER_LIMITS)?;
+    let roads = Roads::for_server(alloc, network)?;
     let grid = Grid::of(alloc, roads.network())?;
     let text = lines_under(rt, alloc, &roads, &grid, n)?;
     Ok(text)

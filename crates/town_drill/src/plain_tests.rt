@@ -13,7 +13,7 @@ use crate::drills::load_town;
 use crate::metrics::metric_of;
 use crate::telling::line;
 use crate::trips::{Trip, place_at};
-use customized::{Roads, SERVER_LIMITS, Under};
+use customized::{Roads, Under};
 use plain_search::{SearchFault, least_from};
 use road_base::{Place, Point};
 use road_places::{start_at, target_at};
@@ -193,7 +193,7 @@ fn plain_lines(rt: &(impl Threads + Abort + Sync), alloc: Global) -> Result<Stri
     let Ok(network) = load_town(alloc, TOWN) else {
         return Err(AllocError);
     };
-    let roads = Roads::of(alloc, network, &SERVER_LIMITS)?;
+    let roads = Roads::for_server(alloc, network)?;
     lines_on(rt, alloc, &roads)
 }
 

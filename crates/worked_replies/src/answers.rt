@@ -32,12 +32,13 @@ fn assert_first_route(
     Ok(())
 }
 
-// The cells are found by the server's limits, street by street, and by both.
+// The cells are found by all limits of a server, street by street, and by both; and there are none.
 #[test]
 fn the_first_route(rt: HostRuntime) -> Result<(), ReplyFault> {
     assert_first_route(&rt, rt.alloc(), &SERVER_LIMITS)?;
     assert_first_route(&rt, rt.alloc(), &[2])?;
-    assert_first_route(&rt, rt.alloc(), &[2, 4])
+    assert_first_route(&rt, rt.alloc(), &[2, 4])?;
+    assert_first_route(&rt, rt.alloc(), &[])
 }
 
 // Asserts what the way round the block is.

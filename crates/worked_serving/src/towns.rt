@@ -8,7 +8,7 @@ ghost use Rattle.customized.specs.Exact.{Customized};
 ghost use Rattle.metric_publish.specs.History.{IsKin};
 ghost use Rattle.snap_index.specs.Ends.{all_ends};
 
-use customized::{Metric, Roads, SERVER_LIMITS};
+use customized::{Metric, Roads};
 use edge_graph::Network;
 use metric_make::base;
 use metric_publish::{Kindred, LocalBoard};
@@ -42,7 +42,7 @@ fn network(alloc: Global, objects: &[Object], profile: &Profile) -> Result<Netwo
 
 fn roads_of(alloc: Global, objects: &[Object]) -> Result<Roads, AllocError> {
     let profile = profile(alloc)?;
-    Roads::of(alloc, network(alloc, objects, &profile)?, &SERVER_LIMITS)
+    Roads::for_server(alloc, network(alloc, objects, &profile)?)
 }
 
 /// The roads of the town.
