@@ -1,7 +1,7 @@
 -- What halving keeps: the spots, and that no part is empty.
 use Rattle.std.proofs.Common.{◌≡◌, ℕ, ◌+◌, ◌-◌, ◌/◌, ◌<◌, ◌≤◌, List, [], ◌∷◌, ◌++◌, length, take, drop, get_or, All, zero-add, refl, sym, ap, ◌∙◌, subst, arith, length-append, ⊎_elim}
 use Rattle.std.proofs.lemmas.Bool.{cases_lt}
-use Rattle.std.proofs.lemmas.List.{append-nil, append_assoc, length-take-le, take_at, drop_at, take_all, drop_all, take-append-drop, take_more, drop_more}
+use Rattle.std.proofs.lemmas.List.{append-nil, append_assoc, length-take-le, length-drop, take_at, drop_at, take_all, drop_all, take-append-drop, take_more, drop_more}
 use borrow.Rule.Slice.PartMut.{put_mid}
 use Rattle.std.proofs.lemmas.List.Elements.{All-append, All-cons, All-nil, All-head, All-tail}
 use Rattle.std.specs.List.Sorted.{IsPermutation, IsSortedBy}
@@ -92,27 +92,43 @@ spread_few whole parts s h =
     (λ (none : length whole ≤ 0). let e : length whole ≡ 0 = omega arith in omega (arith, s.one e))
     (cases_lt 0 (length whole))
 
+-- what a list holds from there on
+pub rest_whole : (half : ℕ) (xs : List Spot) → take (length xs - half) (drop half xs) ≡ drop half xs
+rest_whole half xs = let size : length (drop half xs) ≡ length xs - half = length-drop half xs in take_all (length xs - half) (drop half xs) (omega (arith, size))
+
+-- the first half has been written
+pub written_half : (limit start half : ℕ) (along first_new : List Spot) (before between : List ℕ) → half ≤ length along
+    → (parts : List (List Spot)) × IsHalved limit (take half along) parts × (first_new ≡ joined parts) × (between ≡ before ++ ends start parts) → length first_new ≡ half
+written_half limit start half along first_new before between fits (firsts, one, is, bounds) =
+    ap length is ∙ length_permutation (take half along) (joined firsts) (halved_same limit (take half along) firsts one) ∙ length-take-le half along fits
+
+-- as much is left for the second
+pub rest_size : (half : ℕ) (first_new spots : List Spot) → length first_new ≡ half → half ≤ length spots
+    → length (take (length (first_new ++ drop half spots) - half) (drop half (first_new ++ drop half spots))) ≡ length spots - half
+rest_size half first_new spots written fits =
+    let long : length (first_new ++ drop half spots) ≡ length first_new + length (drop half spots) = length-append first_new (drop half spots) in
+    ap length (rest_whole half (first_new ++ drop half spots)) ∙ length-drop half (first_new ++ drop half spots) ∙ (let size : length (drop half spots) ≡ length spots - half = length-drop half spots in omega arith)
+
 -- the parts of the two halves are those of the whole
-pub halves_joined : (limit start half : ℕ) (spots sorted first_new second_new : List Spot) (before between after : List ℕ)
-    → limit < length spots → IsPermutation spots sorted → IsSortedBy (comes_before (wider_axis spots)) sorted → half ≡ length sorted - length sorted / 2
-    → (parts : List (List Spot)) × IsHalved limit (take half sorted) parts × (first_new ≡ joined parts) × (between ≡ before ++ ends start parts)
-    → (parts : List (List Spot)) × IsHalved limit (take (length (first_new ++ drop half sorted) - half) (drop half (first_new ++ drop half sorted))) parts × (second_new ≡ joined parts) × (after ≡ between ++ ends (start + half) parts)
-    → (parts : List (List Spot)) × IsHalved limit spots parts × (put_mid half (length (first_new ++ drop half sorted) - half) (first_new ++ drop half sorted) second_new ≡ joined parts) × (after ≡ before ++ ends start parts)
-halves_joined limit start half spots sorted first_new second_new before between after more same up is (firsts, one, first_is, first_ends) (seconds, two, second_is, second_ends) =
-    let back : List Spot = drop half sorted in
-    let size : length sorted ≡ length spots = length_permutation spots sorted same in
-    let within : half ≤ length sorted = omega arith in
-    let front : length (take half sorted) ≡ half = length-take-le half sorted within in
-    let written : length first_new ≡ half = ap length first_is ∙ length_permutation (take half sorted) (joined firsts) (halved_same limit (take half sorted) firsts one) ∙ front in
+pub halves_joined : (limit start half : ℕ) (part along spots first_new second_new : List Spot) (before between after : List ℕ)
+    → limit < length part → IsPermutation part along → IsSortedBy (comes_before (wider_axis part)) along → length spots ≡ length part → half ≡ length spots - length spots / 2
+    → (parts : List (List Spot)) × IsHalved limit (take half along) parts × (first_new ≡ joined parts) × (between ≡ before ++ ends start parts)
+    → (parts : List (List Spot)) × IsHalved limit (take (length along - half) (drop half along)) parts × (second_new ≡ joined parts) × (after ≡ between ++ ends (start + half) parts)
+    → (parts : List (List Spot)) × IsHalved limit part parts × (put_mid half (length (first_new ++ drop half spots) - half) (first_new ++ drop half spots) second_new ≡ joined parts) × (after ≡ before ++ ends start parts)
+halves_joined limit start half part along spots first_new second_new before between after more same up long is (firsts, one, first_is, first_ends) (seconds, two, second_is, second_ends) =
+    let back : List Spot = drop half spots in
+    let size : length along ≡ length part = length_permutation part along same in
+    let within : half ≤ length along = omega arith in
+    let front : length (take half along) ≡ half = length-take-le half along within in
+    let written : length first_new ≡ half = written_half limit start half along first_new before between within (firsts, one, first_is, first_ends) in
     let rest : drop half (first_new ++ back) ≡ back = drop_at first_new back half written in
-    let long : length (first_new ++ back) ≡ length first_new + length back = length-append first_new back in
-    let whole_rest : take (length (first_new ++ back) - half) (drop half (first_new ++ back)) ≡ back =
-    ap (take (length (first_new ++ back) - half)) rest ∙ take_all (length (first_new ++ back) - half) back (omega arith) in
-    let two' : IsHalved limit back seconds = subst (λ (xs : List Spot). IsHalved limit xs seconds) whole_rest two in
-    let both : take half sorted ++ back ≡ sorted = take-append-drop half sorted in
-    let halves : AreHalves spots (take half sorted) back = record {
-      same = subst (λ (xs : List Spot). IsPermutation spots xs) (sym both) same;
-      in_order = subst (λ (xs : List Spot). IsSortedBy (comes_before (wider_axis spots)) xs) (sym both) up;
+    let length_back : length back ≡ length spots - half = length-drop half spots in
+    let length_all : length (first_new ++ back) ≡ length first_new + length back = length-append first_new back in
+    let two' : IsHalved limit (drop half along) seconds = subst (λ (xs : List Spot). IsHalved limit xs seconds) (rest_whole half along) two in
+    let both : take half along ++ drop half along ≡ along = take-append-drop half along in
+    let halves : AreHalves part (take half along) (drop half along) = record {
+      same = subst (λ (xs : List Spot). IsPermutation part xs) (sym both) same;
+      in_order = subst (λ (xs : List Spot). IsSortedBy (comes_before (wider_axis part)) xs) (sym both) up;
       half = omega arith;
     } in
     let none : drop (length (first_new ++ back) - half) (drop half (first_new ++ back)) ≡ [] =
@@ -129,7 +145,15 @@ halves_joined limit start half spots sorted first_new second_new before between 
     ∙ append_assoc before (ends start firsts) (ends (start + half) seconds)
     ∙ ap (λ n. before ++ (ends start firsts ++ ends n seconds)) joined_size
     ∙ ap (λ xs. before ++ xs) (sym (ends-append start firsts seconds)) in
-    (firsts ++ seconds, large spots (take half sorted) back firsts seconds more halves one two', placed ∙ total, bounds)
+    (firsts ++ seconds, large part (take half along) (drop half along) firsts seconds more halves one two', placed ∙ total, bounds)
+
+-- the parts so far are halved on, and the others stand behind them
+pub each_kept : (limit : ℕ) (parts next : List (List Spot)) (k : ℕ) (old spots : List Spot) → old ≡ joined parts → AreHalved limit (take k parts) next → spots ≡ joined next ++ joined (drop k parts) → IsPermutation old spots
+each_kept limit parts next k old spots is halved spots_are =
+    let split : joined (take k parts) ++ joined (drop k parts) ≡ old = sym (joined-append (take k parts) (drop k parts)) ∙ ap joined (take-append-drop k parts) ∙ sym is in
+    subst (λ (xs : List Spot). IsPermutation xs spots) split
+    (subst (λ (ys : List Spot). IsPermutation (joined (take k parts) ++ joined (drop k parts)) ys) (sym spots_are)
+    (IsPermutation-append (joined (take k parts)) (joined next) (joined (drop k parts)) (joined (drop k parts)) (each_same limit (take k parts) next halved) (IsPermutation-refl (joined (drop k parts)))))
 
 each_push : (limit : ℕ) (parts : List (List Spot)) (part : List Spot) (next more : List (List Spot)) → AreHalved limit parts next → IsHalved limit part more → AreHalved limit (parts ++ part ∷ []) (next ++ more)
 each_push limit [] part next more h one = (more, [], ap (λ xs. xs ++ more) h ∙ sym (append-nil more), one, refl)

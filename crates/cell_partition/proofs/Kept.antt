@@ -17,6 +17,8 @@ use Rattle.cell_partition.specs.Halving.{IsHalved, AreHalved, AreLevels, parts_a
 use Rattle.cell_partition.specs.Levels.{cells_of, IsLevel, partition_of, AreKept}
 use Rattle.cell_partition.proofs.Parts.{joined-append, joined-map, parts_at-bounds_of}
 use Rattle.cell_partition.proofs.Numbers.{has, times, has_contains, number_inside, number_member, number_only, number_here, number_later, number-append_inside, number-append_outside, has_joined_at, cases, or_rest}
+use Rattle.cell_partition.specs.Orders.{AreApart}
+use Rattle.cell_partition.proofs.Orders.{apart_permutation}
 use Rattle.cell_partition.proofs.Halves.{halved_same, AreSpread, spread_above, spread_few}
 
 -- the spots have the vertices in order
@@ -256,6 +258,12 @@ cut_length midpoints limits spots bounds kept some cut =
     ap length cut.spots_are
     ∙ length_permutation (spots_of midpoints) (joined (parts_above (spots_of midpoints) cut.parts)) (spread_above (spots_of midpoints) limits cut.parts some cut.levels).same
     ∙ length-spots 0 midpoints
+
+pub cut_apart : (midpoints : List (ℤ × ℤ)) (limits : List ℕ) (spots : List Spot) (bounds : List ℕ) (kept : List Level) → All (λ limit. 1 ≤ limit) limits → IsCut midpoints limits spots bounds kept → AreApart spots
+cut_apart midpoints limits spots bounds kept some cut =
+    let whole : AreApart (spots_of midpoints) = λ vertex. subst (λ (xs : List ℕ). times vertex xs ≤ 1) (sym (vertices-spots 0 midpoints)) (once_from vertex 0 (length midpoints)) in
+    subst AreApart (sym cut.spots_are)
+    (apart_permutation (spots_of midpoints) (joined (parts_above (spots_of midpoints) cut.parts)) (spread_above (spots_of midpoints) limits cut.parts some cut.levels).same whole)
 
 ends-vertices : (start : ℕ) (parts : List (List Spot)) → ends start (vertices_of parts) ≡ ends start parts
 ends-vertices start [] = refl

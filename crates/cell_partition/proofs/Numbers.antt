@@ -99,17 +99,17 @@ number_member vertex (cell ∷ cells) h =
 abbrev pub times : ℕ → List ℕ → ℕ
 times vertex xs = count_by (eqb vertex) xs
 
-times-append : (vertex : ℕ) (xs ys : List ℕ) → times vertex (xs ++ ys) ≡ times vertex xs + times vertex ys
+pub times-append : (vertex : ℕ) (xs ys : List ℕ) → times vertex (xs ++ ys) ≡ times vertex xs + times vertex ys
 times-append vertex xs ys = sum_by-append (λ x. cond (eqb vertex x) 1 0) xs ys
 
-times-cons : (vertex x : ℕ) (xs : List ℕ) → times vertex (x ∷ xs) ≡ cond (eqb vertex x) 1 0 + times vertex xs
+pub times-cons : (vertex x : ℕ) (xs : List ℕ) → times vertex (x ∷ xs) ≡ cond (eqb vertex x) 1 0 + times vertex xs
 times-cons vertex x xs = sum_by-cons (λ x. cond (eqb vertex x) 1 0) x xs
 
 has_once : (b r : Bool) (n m : ℕ) → m ≡ cond b 1 0 + n → (b || r) ≡ true → (r ≡ true → 1 ≤ n) → 1 ≤ m
 has_once true r n m e h rest = omega (arith, e)
 has_once false r n m e h rest = omega (arith, e, rest h)
 
-times_has : (vertex : ℕ) (xs : List ℕ) → has vertex xs ≡ true → 1 ≤ times vertex xs
+pub times_has : (vertex : ℕ) (xs : List ℕ) → has vertex xs ≡ true → 1 ≤ times vertex xs
 times_has vertex [] h = absurd (cc h)
 times_has vertex (x ∷ xs) h = has_once (eqb vertex x) (has vertex xs) (times vertex xs) (times vertex (x ∷ xs)) (times-cons vertex x xs) h (times_has vertex xs)
 

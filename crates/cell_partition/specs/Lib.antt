@@ -3,3 +3,4 @@ pub mod Bounds
 pub mod Partition
 pub mod Halving
 pub mod Levels
+pub mod Orders

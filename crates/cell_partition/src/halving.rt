@@ -2,10 +2,12 @@
 ghost use Rattle.std.specs.Prelude.{◌≡◌, ℕ, ◌+◌, ◌<◌, ◌≤◌, List, [], ◌∷◌, ◌++◌, length, IfOk, OnOk};
 ghost use Rattle.std.specs.List.Sorted.{IsPermutation, IsSortedBy};
 ghost use Rattle.cell_partition.specs.declared.spot.Spot.{Spot};
-ghost use Rattle.cell_partition.specs.Spots.{spots_of, comes_before, wider_axis};
+ghost use Rattle.cell_partition.specs.Spots.{spots_of, comes_before};
 ghost use Rattle.cell_partition.specs.Bounds.{joined, ends, bounds_of};
 ghost use Rattle.cell_partition.specs.Halving.{IsHalved, AreHalved};
+ghost use Rattle.cell_partition.specs.Orders.{AreApart, IsInOrder};
 
+use crate::part::Part;
 use crate::spot::{Axis, Spot};
 use std::alloc::{AllocError, Global};
 
@@ -25,17 +27,27 @@ pub fn spots_of(alloc: Global, midpoints: &[(i32, i32)]) -> Result<Vec<Spot>, Al
     Ok(spots)
 }
 
-// Puts the spots in order along their wider axis, those of one coordinate by vertex.
-fn sort_along_wider_axis(spots: &mut [Spot])
-    ensures same { IsPermutation spots.old spots.new }
-    ensures in_order { IsSortedBy (comes_before (wider_axis spots.old)) spots.new }
+// The spots in order along an axis, those of one coordinate by vertex.
+fn sorted(alloc: Global, spots: &[Spot], axis: Axis) -> Result<Vec<Spot>, AllocError>
+    ensures same { IfOk result (λ sorted. IsPermutation spots.now sorted.items) }
+    ensures in_order { IfOk result (λ sorted. IsSortedBy (comes_before axis) sorted.items) }
 {
-    let axis = Axis::wider(spots);
+    let mut sorted = Vec::from_slice(alloc, spots)?;
+    sort(sorted.as_mut_slice(), axis);
+    Ok(sorted)
+}
+
+// Puts the spots in order along an axis, those of one coordinate by vertex.
+fn sort(spots: &mut [Spot], axis: Axis)
+    ensures same { IsPermutation spots.old spots.new }
+    ensures in_order { IsSortedBy (comes_before axis) spots.new }
+{
     spots.sort_unstable_by_key(|spot| (spot.along(axis), spot.vertex));
 }
 
 // Halves the spots until parts have at most `limit` of them, and adds where each part ends.
 fn halve(
+    alloc: Global,
     spots: &mut [Spot],
     limit: u32,
     start: u32,
@@ -43,16 +55,69 @@ fn halve(
 ) -> Result<(), AllocError>
     requires some { 1 ≤ limit }
     requires fits { start + length spots.old < 4294967296 }
+    requires apart { AreApart spots.old }
     ensures { OnOk result ((parts : List (List Spot)) × IsHalved limit spots.old parts × (spots.new ≡ joined parts) × (bounds.new.items ≡ bounds.old.items ++ ends start parts)) }
 {
     if spots.len() <= limit as usize {
         bounds.push(start + spots.len() as u32)?;
         return Ok(());
     }
-    sort_along_wider_axis(spots);
-    let half = spots.len() - spots.len() / 2;
-    halve(&mut spots[..half], limit, start, bounds)?;
-    halve(&mut spots[half..], limit, start + half as u32, bounds)
+    let longitudes = sorted(alloc, spots, Axis::Longitude)?;
+    let latitudes = sorted(alloc, spots, Axis::Latitude)?;
+    let part = Part {
+        axis: Axis::Longitude,
+        along: &longitudes,
+        across: &latitudes,
+    };
+    let halving = Halving { alloc, limit };
+    halving.halve(part, spots, start, bounds)
+}
+
+// What stays the same while a part is halved on: where memory comes from, and how many
+// spots a part may keep.
+#[derive(Clone, Copy)]
+struct Halving {
+    alloc: Global,
+    limit: u32,
+}
+
+impl Halving {
+    // Halves a part until its parts have at most `limit` spots, writes them one behind
+    // another, and adds where each ends.
+    fn halve(
+        self,
+        part: Part<'_>,
+        spots: &mut [Spot],
+        start: u32,
+        bounds: &mut Vec<u32>,
+    ) -> Result<(), AllocError>
+        requires some { 1 ≤ self.limit }
+        requires in_order { IsInOrder part.axis part.along.now part.across.now }
+        requires size { length spots.old ≡ length part.along.now }
+        requires fits { start + length spots.old < 4294967296 }
+        ensures { OnOk result ((parts : List (List Spot)) × IsHalved self.limit part.entry.along.now parts × (spots.new ≡ joined parts) × (bounds.new.items ≡ bounds.old.items ++ ends start parts)) }
+    {
+        if part.along.len() <= self.limit as usize {
+            spots.copy_from_slice(part.along);
+            bounds.push(start + spots.len() as u32)?;
+            return Ok(());
+        }
+        let part = part.along_wider_axis();
+        let half = spots.len() - spots.len() / 2;
+        let (first, second) = part.across_halves(self.alloc, half)?;
+        let first = Part {
+            across: &first,
+            along: &part.along[..half],
+            ..part
+        };
+        let second = Part {
+            across: &second,
+            along: &part.along[half..],
+            ..part
+        };
+        self.halve(first, &mut spots[..half], start, bounds)?;
+        self.halve(second, &mut spots[half..], start + half as u32, bounds)
+    }
 }
 
 /// Halves each part on, where the parts lie one behind another at these bounds, and
@@ -66,6 +131,7 @@ pub fn halve_each(
     ghost parts: { List (List Spot) }
     requires some { 1 ≤ limit }
     requires fits { length spots.old < 4294967296 }
+    requires apart { AreApart spots.old }
     requires in_place { spots.old ≡ joined parts }
     requires at_bounds { bounds.now ≡ bounds_of parts }
     ensures { IfOk result (λ v. (next : List (List Spot)) × AreHalved limit parts next × (spots.new ≡ joined next) × (v.items ≡ bounds_of next)) }
@@ -75,6 +141,7 @@ pub fn halve_each(
         let start = bounds[cell - 1];
         let end = bounds[cell];
         halve(
+            alloc,
             &mut spots[start as usize..end as usize],
             limit,
             start,

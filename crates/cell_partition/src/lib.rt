@@ -12,6 +12,7 @@ mod cutting;
 mod halving;
 mod level;
 mod numbering;
+mod part;
 mod partition;
 mod spot;
 

@@ -17,7 +17,7 @@ pub enum Axis {
 }
 
 impl Spot {
-    ghost use Rattle.cell_partition.specs.Spots.{along};
+    ghost use Rattle.cell_partition.specs.Spots.{along, comes_before};
 
     /// The coordinate along this axis.
     pub fn along(&self, axis: Axis) -> i32
@@ -28,10 +28,28 @@ impl Spot {
             Axis::Latitude => self.latitude,
         }
     }
+
+    /// Whether it comes before another along this axis: by its coordinate, then by its vertex.
+    pub fn comes_before(&self, other: &Spot, axis: Axis) -> bool
+        ensures { result ≡ comes_before axis self.now other.now }
+    {
+        (self.along(axis), self.vertex) < (other.along(axis), other.vertex)
+    }
 }
 
 impl Axis {
     ghost use Rattle.cell_partition.specs.Spots.{greatest, least, width, wider_axis};
+    ghost use Rattle.cell_partition.specs.Orders.{other_axis};
+
+    /// The other axis.
+    pub fn other(self) -> Axis
+        ensures { result ≡ other_axis self }
+    {
+        match self {
+            Axis::Longitude => Axis::Latitude,
+            Axis::Latitude => Axis::Longitude,
+        }
+    }
 
     // The greatest coordinate along this axis.
     fn greatest(self, spots: &[Spot]) -> i32

@@ -2,7 +2,7 @@ use Rattle.std.proofs.Common.{◌≡◌, ℕ, ◌+◌, ◌-◌, ◌<◌, ◌≤�
 use Rattle.std.proofs.lemmas.List.{drop_all}
 use Rattle.cell_partition.specs.declared.level.Level.{Level}
 use Rattle.cell_partition.specs.Bounds.{joined, bounds_of, parts_at}
-use Rattle.cell_partition.proofs.Kept.{IsCut, Halves, cut_start, cut_ready, cut_length, all_drop, level_ready, cut_more, cut_kept}
+use Rattle.cell_partition.proofs.Kept.{IsCut, Halves, cut_start, cut_ready, cut_length, cut_apart, all_drop, level_ready, cut_more, cut_kept}
 use Rattle.cell_partition.proofs.cutting.cells.Goals as goal
 
 pub loop-rest-init : goal.loop-rest-init
@@ -24,7 +24,8 @@ halve_each-requires c =
     let same : length spots ≡ length c.args.midpoints.now =
     cut_length c.args.midpoints.now (drop c.loop-rest.rest limits) spots c.loop-rest.bounds.items c.loop-rest.levels.items (all_drop limits c.loop-rest.rest c.requires.some) c.loop-rest.invariant.cut in
     let size : length spots < 4294967296 = omega (arith, c.requires.few) in
-    (c.requires.some r 0 inside, (size, (pair.0, pair.1)))
+    let apart = cut_apart c.args.midpoints.now (drop c.loop-rest.rest limits) spots c.loop-rest.bounds.items c.loop-rest.levels.items (all_drop limits c.loop-rest.rest c.requires.some) c.loop-rest.invariant.cut in
+    (c.requires.some r 0 inside, (size, (apart, (pair.0, pair.1))))
 
 pub of-requires : goal.of-requires
 of-requires c =
