@@ -1,5 +1,5 @@
 -- A part in order along both axes, and its halves.
-use Rattle.std.proofs.Common.{◌≡◌, ℕ, ◌+◌, ◌-◌, ◌<◌, ◌≤◌, Bool, true, false, not, cond, eqb, List, [], ◌∷◌, ◌++◌, length, take, drop, map, get_or, All, Contains, refl, sym, ap, ◌∙◌, subst, arith, zero, suc, length-append, ⊎_elim, Ordering}
+use Rattle.std.proofs.Common.{◌≡◌, ℕ, ◌+◌, ◌<◌, ◌≤◌, Bool, true, false, not, cond, eqb, List, [], ◌∷◌, ◌++◌, length, take, drop, map, get_or, All, Contains, refl, sym, ap, ◌∙◌, subst, arith, zero, suc, length-append, ⊎_elim, Ordering}
 use Rattle.std.specs.Cmp.{IsStrictWeakOrder}
 use Rattle.std.specs.Ordering.{int_cmp, nat_cmp, ordering_then, ordering_reverse, is_lt}
 use Rattle.std.specs.declared.cmp.Ordering.TheVariants.{Less, Equal, Greater}
@@ -8,7 +8,7 @@ use Rattle.std.specs.List.Sorted.{IsPermutation, IsSortedBy}
 use Rattle.std.proofs.lemmas.Bool.Decides.{nat_tests}
 use Rattle.std.proofs.lemmas.Cmp.{then_total, on_total, int_cmp_total, nat_cmp_total}
 use Rattle.std.proofs.lemmas.List.{nil_from_length, append-nil, map-append, get_or-take, get_or-drop, length-take-le, take-append-drop, take_all, get_or_default}
-use Rattle.std.proofs.lemmas.List.Elements.{All-contains, All-cons, All-nil, Contains-append_left, Contains-append_right, Contains-append_cases, Contains-get_or, filter_passes}
+use Rattle.std.proofs.lemmas.List.Elements.{All-contains, Contains-append_left, Contains-append_right, Contains-append_cases, Contains-get_or, filter_passes}
 use Rattle.std.proofs.lemmas.List.Filters.{length-filter_both}
 use Rattle.std.proofs.lemmas.List.Kept.{IsSortedBy-filter}
 use Rattle.std.proofs.lemmas.List.MinMax.{ranks_by}
@@ -18,7 +18,7 @@ use Rattle.cell_partition.specs.declared.spot.Axis.{Axis}
 use Rattle.cell_partition.specs.declared.spot.Axis.TheVariants.{Longitude, Latitude}
 use Rattle.cell_partition.specs.Spots.{along, comes_before}
 use Rattle.cell_partition.specs.Orders.{other_axis, AreApart, IsInOrder}
-use Rattle.cell_partition.proofs.Numbers.{times, times-append, times-cons, times_has, has_contains}
+use Rattle.cell_partition.proofs.Numbers.{times, times-append, times-cons}
 
 abbrev vertices : List Spot → List ℕ
 vertices spots = map (λ (spot : Spot). spot.vertex) spots

@@ -3,7 +3,8 @@
 //! It is the first stage of Customizable Route Planning (Delling, Goldberg, Pajor
 //! and Werneck): no weights, only places. Vertices are halved along the wider axis
 //! until parts hold at most the highest limit; these are the cells of the highest
-//! level, and each is halved on for the level below. How good the cells are for
+//! level, and each is halved on for the level below. For each level a part is sorted
+//! once along each axis, and its halves keep both orders. How good the cells are for
 //! queries is not claimed; that they nest and that each vertex has one cell in each
 //! level is. The halving rule is this project's own.
 #![tactic(auto)]

@@ -38,7 +38,6 @@ impl Spot {
 }
 
 impl Axis {
-    ghost use Rattle.cell_partition.specs.Spots.{greatest, least, width, wider_axis};
     ghost use Rattle.cell_partition.specs.Orders.{other_axis};
 
     /// The other axis.
@@ -48,46 +47,6 @@ impl Axis {
         match self {
             Axis::Longitude => Axis::Latitude,
             Axis::Latitude => Axis::Longitude,
-        }
-    }
-
-    // The greatest coordinate along this axis.
-    fn greatest(self, spots: &[Spot]) -> i32
-        ensures { result ≡ greatest self spots.now }
-    {
-        let mut most = i32::MIN;
-        for spot in spots {
-            most = most.max(spot.along(self));
-        }
-        most
-    }
-
-    // The least coordinate along this axis.
-    fn least(self, spots: &[Spot]) -> i32
-        ensures { result ≡ least self spots.now }
-    {
-        let mut most = i32::MAX;
-        for spot in spots {
-            most = most.min(spot.along(self));
-        }
-        most
-    }
-
-    // How far the spots lie apart along this axis.
-    fn width(self, spots: &[Spot]) -> i64
-        ensures { result ≡ width self spots.now }
-    {
-        i64::from(self.greatest(spots)) - i64::from(self.least(spots))
-    }
-
-    /// The axis along which the spots lie further apart, longitude on equal widths.
-    pub fn wider(spots: &[Spot]) -> Axis
-        ensures { result ≡ wider_axis spots.now }
-    {
-        if Axis::Longitude.width(spots) < Axis::Latitude.width(spots) {
-            Axis::Latitude
-        } else {
-            Axis::Longitude
         }
     }
 }
