@@ -1,4 +1,4 @@
-//! The halving rule, in place.
+//! The halving rule, on vertices sorted once along each axis.
 ghost use Rattle.std.specs.Prelude.{◌≡◌, ℕ, ◌+◌, ◌<◌, ◌≤◌, List, [], ◌∷◌, ◌++◌, length, IfOk, OnOk};
 ghost use Rattle.std.specs.List.Sorted.{IsPermutation, IsSortedBy};
 ghost use Rattle.cell_partition.specs.declared.spot.Spot.{Spot};
