@@ -1,5 +1,6 @@
 //! The halving rule, on vertices sorted once along each axis.
 ghost use Rattle.std.specs.Prelude.{◌≡◌, ℕ, ◌+◌, ◌<◌, ◌≤◌, List, [], ◌∷◌, ◌++◌, length, IfOk, OnOk};
+ghost use Rattle.std.specs.Bool.{OnTrue};
 ghost use Rattle.std.specs.List.Sorted.{IsPermutation, IsSortedBy};
 ghost use Rattle.cell_partition.specs.declared.spot.Spot.{Spot};
 ghost use Rattle.cell_partition.specs.Spots.{spots_of, comes_before};
@@ -42,7 +43,23 @@ fn sort(spots: &mut [Spot], axis: Axis)
     ensures same { IsPermutation spots.old spots.new }
     ensures in_order { IsSortedBy (comes_before axis) spots.new }
 {
+    if are_in_order(spots, axis) {
+        return;
+    }
     spots.sort_unstable_by_key(|spot| (spot.along(axis), spot.vertex));
+}
+
+// Whether the spots are in order along an axis. Those of a part of the level above are, along the
+// axis by which it was cut off.
+fn are_in_order(spots: &[Spot], axis: Axis) -> bool
+    ensures { OnTrue result (IsSortedBy (comes_before axis) spots.now) }
+{
+    for place in 1..spots.len() {
+        if spots[place].comes_before(&spots[place - 1], axis) {
+            return false;
+        }
+    }
+    true
 }
 
 // Halves the spots until parts have at most `limit` of them, and adds where each part ends.
