@@ -1,47 +1,48 @@
 //! What the offers along each row have cost so far, the places of a row side by side, so that most offers are seen to
-//! improve nothing without a look at their heads' labels, which lie anywhere.
+//! improve nothing without a look at their heads' labels, which lie anywhere. A place has eight bytes where its value
+//! is short enough for a word, or missing.
 
 ghost use Rattle.std.specs.Prelude.{◌≡◌, ℕ, ◌<◌, ◌≤◌, ◌^◌, [], length, Some, None, OnOk};
 ghost use Rattle.std.specs.Bool.{OnTrue};
 ghost use Rattle.std.specs.List.{slice_get};
 ghost use Rattle.step_search.specs.Rowed.{level_of, block_of, value_on, value_of, AreLaid, Lowers, LowersRow, LowersAt};
 
-use cost_lists::CostRow;
+use cost_lists::{CostList, CostRow, Narrow};
 use search_graph::Cost;
 use std::alloc::{AllocError, Global};
 use std::marker::Model;
 
 /// The values of a row's places, or none until an offer goes along the row.
-pub struct Block<C> {
-    values: Vec<Option<C>>,
+pub struct Block<C: Narrow> {
+    values: CostList<C>,
 }
 
-impl<C: Drop> Drop for Block<C> {
+impl<C: Narrow> Drop for Block<C> {
     fn drop(self) {
         let Block { values: _values } = self;
     }
 }
 
-impl<C> Model for Block<C> {
+impl<C: Narrow> Model for Block<C> {
     ghost use Rattle.std.specs.Prelude.{List, Option};
 
     ghost Value = { List (Option C) };
 
-    ghost view = { λ b. b.values.items };
+    ghost view = { λ b. b.values };
 }
 
 /// The blocks of a level, by the numbers of its rows.
-pub struct Level<C> {
+pub struct Level<C: Narrow> {
     blocks: Vec<Block<C>>,
 }
 
-impl<C: Drop> Drop for Level<C> {
+impl<C: Narrow> Drop for Level<C> {
     fn drop(self) {
         let Level { blocks: _blocks } = self;
     }
 }
 
-impl<C> Model for Level<C> {
+impl<C: Narrow> Model for Level<C> {
     ghost use Rattle.std.specs.Prelude.{List, Option};
 
     ghost Value = { List (List (Option C)) };
@@ -50,14 +51,14 @@ impl<C> Model for Level<C> {
 }
 
 /// The blocks of all levels.
-pub struct Rows<C> {
+pub struct Rows<C: Narrow> {
     alloc: Global,
     levels: Vec<Level<C>>,
     // the names of the rows whose blocks have values; a name comes before its block
     touched: Vec<(u32, u32)>,
 }
 
-impl<C: Drop> Drop for Rows<C> {
+impl<C: Narrow> Drop for Rows<C> {
     fn drop(self) {
         let Rows {
             alloc: _alloc,
@@ -67,7 +68,7 @@ impl<C: Drop> Drop for Rows<C> {
     }
 }
 
-impl<C> Model for Rows<C> {
+impl<C: Narrow> Model for Rows<C> {
     ghost use Rattle.std.specs.Prelude.{List, Option};
     ghost use Rattle.step_search.specs.Rowed.{AreLaid};
 
@@ -87,12 +88,12 @@ struct Offers<'a, C: Cost> {
 }
 
 /// What the offers along each row have cost so far, and the places where the last offers improved that.
-pub struct RowLabels<C> {
+pub struct RowLabels<C: Narrow> {
     pub rows: Rows<C>,
     pub improved: Vec<usize>,
 }
 
-impl<C: Drop> Drop for RowLabels<C> {
+impl<C: Narrow> Drop for RowLabels<C> {
     fn drop(self) {
         let RowLabels {
             rows: _rows,
@@ -101,13 +102,13 @@ impl<C: Drop> Drop for RowLabels<C> {
     }
 }
 
-impl<C: Copy> Block<C> {
+impl<C: Narrow> Block<C> {
     // A block with no values.
     fn new(alloc: Global) -> Block<C>
         ensures { result ≡ [] }
     {
         Block {
-            values: Vec::new(alloc),
+            values: CostList::new(alloc),
         }
     }
 
@@ -119,22 +120,33 @@ impl<C: Copy> Block<C> {
     }
 
     // Takes all values away.
-    fn clear(&mut self)
+    fn clear(&mut self, alloc: Global)
         ensures { self.new ≡ [] }
     {
-        self.values.clear();
+        self.values = CostList::new(alloc);
     }
 
     // Makes room for `count` places.
-    fn ensure(&mut self, count: usize) -> Result<(), AllocError>
+    fn ensure(&mut self, alloc: Global, count: usize) -> Result<(), AllocError>
         ensures same { (j : ℕ) → value_on self.new j ≡ value_on self.old j }
         ensures long { OnOk result (count ≤ length self.new) }
     {
-        if self.values.len() < count {
-            self.values.resize(count, None)?;
+        if self.values.len() == 0 {
+            self.values = CostList::with_capacity(alloc, count)?;
         }
-        Ok(())
+        lengthen_values(&mut self.values, count)
     }
+}
+
+// Goes on to `count` places; those that come have no value.
+fn lengthen_values<C: Narrow>(values: &mut CostList<C>, count: usize) -> Result<(), AllocError>
+    ensures same { (j : ℕ) → value_on values.new j ≡ value_on values.old j }
+    ensures long { OnOk result (count ≤ length values.new) }
+{
+    while values.len() < count {
+        values.push(None)?;
+    }
+    Ok(())
 }
 
 impl<C: Cost> Block<C> {
@@ -147,7 +159,7 @@ impl<C: Cost> Block<C> {
         ensures long { length self.new ≡ length self.old }
     {
         lower_values(
-            self.values.as_mut_slice(),
+            &mut self.values,
             offers.paid,
             offers.costs,
             offers.count,
@@ -158,7 +170,7 @@ impl<C: Cost> Block<C> {
 
 // Offers a cost along each of the first `count` places.
 fn lower_values<C: Cost>(
-    values: &mut [Option<C>],
+    values: &mut CostList<C>,
     paid: C,
     costs: &CostRow<'_, C>,
     count: usize,
@@ -181,7 +193,7 @@ fn lower_values<C: Cost>(
 // Offers a cost along one place.
 #[inline(always)]
 fn lower_value<C: Cost>(
-    values: &mut [Option<C>],
+    values: &mut CostList<C>,
     place: usize,
     offer: C,
     improved: &mut Vec<usize>,
@@ -190,17 +202,17 @@ fn lower_value<C: Cost>(
     ensures lowers { OnOk result (LowersAt C.ops values.old values.new place offer improved.old.items improved.new.items) }
     ensures room { length values.new ≡ length values.old }
 {
-    if let Some(value) = values[place] {
+    if let Some(value) = values.get(place) {
         if !offer.cmp(&value).is_lt() {
             return Ok(());
         }
     }
-    values[place] = Some(offer);
+    values.set(place, Some(offer))?;
     improved.push(place)?;
     Ok(())
 }
 
-impl<C: Copy> Level<C> {
+impl<C: Narrow> Level<C> {
     // A level with no blocks.
     fn new(alloc: Global) -> Level<C>
         ensures { result ≡ [] }
@@ -221,12 +233,12 @@ impl<C: Copy> Level<C> {
     }
 
     // Takes the values of a block away.
-    fn clear(&mut self, number: u32)
+    fn clear(&mut self, alloc: Global, number: u32)
         ensures here { block_of self.new number ≡ [] }
         ensures empty { (n : ℕ) → block_of self.old n ≡ [] → block_of self.new n ≡ [] }
     {
         if (number as usize) < self.blocks.len() {
-            self.blocks[number as usize].clear();
+            self.blocks[number as usize].clear(alloc);
         }
     }
 
@@ -238,7 +250,7 @@ impl<C: Copy> Level<C> {
         ensures room { OnOk result (count ≤ length (block_of self.new number)) }
     {
         lengthen_blocks(alloc, &mut self.blocks, number as usize + 1)?;
-        self.blocks[number as usize].ensure(count)
+        self.blocks[number as usize].ensure(alloc, count)
     }
 }
 
@@ -263,7 +275,7 @@ impl<C: Cost> Level<C> {
 }
 
 // Goes on to `count` blocks; those that come have no values.
-fn lengthen_blocks<C: Copy>(
+fn lengthen_blocks<C: Narrow>(
     alloc: Global,
     blocks: &mut Vec<Block<C>>,
     count: usize,
@@ -278,7 +290,7 @@ fn lengthen_blocks<C: Copy>(
 }
 
 // Goes on to `count` levels; those that come have no blocks.
-fn lengthen_levels<C: Copy>(
+fn lengthen_levels<C: Narrow>(
     alloc: Global,
     levels: &mut Vec<Level<C>>,
     count: usize,
@@ -293,28 +305,28 @@ fn lengthen_levels<C: Copy>(
 }
 
 // Takes the values of the row of a name away.
-fn clear_row<C: Copy>(levels: &mut Vec<Level<C>>, level: usize, number: u32)
+fn clear_row<C: Narrow>(alloc: Global, levels: &mut Vec<Level<C>>, level: usize, number: u32)
     ensures here { block_of (level_of levels.new.items level) number ≡ [] }
     ensures empty { (l n : ℕ) → block_of (level_of levels.old.items l) n ≡ [] → block_of (level_of levels.new.items l) n ≡ [] }
 {
     if level < levels.len() {
-        levels[level].clear(number);
+        levels[level].clear(alloc, number);
     }
 }
 
 // Takes the values of all rows away.
-fn clear_rows<C: Copy>(levels: &mut Vec<Level<C>>, touched: &mut Vec<(u32, u32)>)
+fn clear_rows<C: Narrow>(alloc: Global, levels: &mut Vec<Level<C>>, touched: &mut Vec<(u32, u32)>)
     requires { AreLaid levels.old.items touched.old.items }
     ensures rows { (l n : ℕ) → block_of (level_of levels.new.items l) n ≡ [] }
     ensures touched { touched.new.items ≡ [] }
 {
     while let Some((level, number)) = touched.pop() {
-        clear_row(levels, level as usize, number);
+        clear_row(alloc, levels, level as usize, number);
     }
 }
 
 // Makes room for `count` places in the row of a name, once the name is among those that are touched.
-fn ensure_row<C: Copy>(
+fn ensure_row<C: Narrow>(
     alloc: Global,
     levels: &mut Vec<Level<C>>,
     touched: &mut Vec<(u32, u32)>,
@@ -376,11 +388,15 @@ impl<C: Cost> RowLabels<C> {
         }
     }
 
-    /// Takes the values of all rows away, and keeps their memory.
+    /// Takes the values of all rows away. The memory of the lists of rows is kept, that of their values is not.
     pub fn clear(&mut self)
         ensures { (row : ℕ × ℕ) (j : ℕ) → value_of self.new.rows row j ≡ None }
     {
-        clear_rows(&mut self.rows.levels, &mut self.rows.touched);
+        clear_rows(
+            self.rows.alloc,
+            &mut self.rows.levels,
+            &mut self.rows.touched,
+        );
     }
 
     /// Goes along the first `count` places of the row of a name, behind what is paid: where a place has a cost, and what is

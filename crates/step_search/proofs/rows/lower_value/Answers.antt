@@ -1,11 +1,11 @@
 -- An offer that isn't less is left.
-use Rattle.std.proofs.Common.{rules, ◌≡◌, false, None, ◌∙◌}
+use Rattle.std.proofs.Common.{rules, ◌≡◌, false, Some, None, ◌∙◌, ap}
 use Rattle.std.specs.Ordering.{is_lt}
-use Rattle.std.proofs.lemmas.List.{get_or_default}
+use Rattle.std.proofs.lemmas.Option.{get_or_from_slice_get}
 use Rattle.step_search.proofs.Laid.{left_alone}
 use Rattle.step_search.proofs.rows.lower_value.Goals as goal
 
 pub returns-then-not-is_lt-clause-lowers : goal.returns-then-not-is_lt-clause-lowers
 returns-then-not-is_lt-clause-lowers g c =
     let not : is_lt (g.C.Ord.cmp c.args.offer c.in-Some.value) ≡ false = search rules in
-    left_alone g.met.C.Cost.laws g.C.Ord.cmp g.met.C.Cost.same_order c.args.values.now c.args.place c.args.offer c.in-Some.value c.args.improved.now.items (get_or_default c.args.values.now c.args.place None _ c.requires ∙ c.in-Some.is) not
+    left_alone g.met.C.Cost.laws g.C.Ord.cmp g.met.C.Cost.same_order c.args.values.now c.args.place c.args.offer c.in-Some.value c.args.improved.now.items (get_or_from_slice_get c.args.values.now c.args.place (Some c.in-Some.value) None (c.get.ensures ∙ ap Some c.in-Some.is)) not
