@@ -1,2 +1,3 @@
 mod Paged
 mod Rewritten
+mod Wording

@@ -13,7 +13,7 @@ module _ {Y Z : Type 0} (h : Y → Z) where
   read_choice true x y = refl
   read_choice false x y = refl
 
-  read_changed : (f g : ℕ → Y) (v : ℕ) (y : Y) → g ≡ changed f v y → (u : ℕ) → h (g u) ≡ changed (λ w. h (f w)) v (h y) u
+  pub read_changed : (f g : ℕ → Y) (v : ℕ) (y : Y) → g ≡ changed f v y → (u : ℕ) → h (g u) ≡ changed (λ w. h (f w)) v (h y) u
   read_changed f g v y e u = ap (λ (k : ℕ → Y). h (k u)) e ∙ read_choice (nat_eq v u) y (f u)
 
 -- a change to what was there is none

@@ -3,8 +3,11 @@
 
 ghost use Rattle.std.specs.Prelude.{◌≡◌, ◌⊎◌, ℕ, [], true, false, Some, None, IfSome, IfNone, OnOk};
 ghost use Rattle.search_labels.specs.Labelled.{label_of, settled_of, changed};
+ghost use Rattle.search_labels.specs.Worded.{read_label};
 
 use crate::pages::Pages;
+use crate::words::{cost_of, word_of};
+use search_graph::Cost;
 use std::alloc::{AllocError, Global};
 use std::marker::Model;
 
@@ -24,33 +27,43 @@ pub enum Slot<C> {
     Settled(Label<C>),
 }
 
-/// The labels by vertex.
-pub struct Labels<C> {
-    pages: Pages<C>,
+/// The labels by vertex. In place of a cost a slot has its rank, or its place among those that have
+/// none.
+pub struct Labels<C: Cost> {
+    pages: Pages<u64>,
+    // the costs without a rank, in the order in which they were put
+    others: Vec<C>,
 }
 
-impl<C: Drop> Drop for Labels<C> {
+impl<C: Cost> Drop for Labels<C> {
     fn drop(self) {
-        let Labels { pages: _pages } = self;
+        let Labels {
+            pages: _pages,
+            others: _others,
+        } = self;
     }
 }
 
-impl<C> Model for Labels<C> {
+impl<C: Cost> Model for Labels<C> {
     ghost use Rattle.std.specs.Prelude.{List};
     ghost use Rattle.search_labels.specs.declared.labels.Slot.{Slot};
+    ghost use Rattle.search_labels.specs.Worded.{AreWorded, read_pages};
 
     ghost Value = { List (List (Slot C)) };
 
-    ghost view = { λ s. s.pages };
+    ghost view = { λ s. read_pages C.unranked s.others.items s.pages };
+
+    ghost invariant = { λ s. AreWorded s.others.items s.pages };
 }
 
-impl<C: Copy> Labels<C> {
+impl<C: Cost> Labels<C> {
     /// No labels.
     pub fn new(alloc: Global) -> Labels<C>
         ensures { result ≡ [] }
     {
         Labels {
             pages: Pages::new(alloc),
+            others: Vec::new(alloc),
         }
     }
 
@@ -60,6 +73,7 @@ impl<C: Copy> Labels<C> {
         ensures settled { (v : ℕ) → settled_of self.new v ≡ false }
     {
         self.pages.clear();
+        self.others.clear();
     }
 
     /// The label of `v`, if it has one.
@@ -69,8 +83,8 @@ impl<C: Copy> Labels<C> {
     {
         match self.pages.read(v) {
             Slot::Untouched => None,
-            Slot::Labelled(label) => Some(label),
-            Slot::Settled(label) => Some(label),
+            Slot::Labelled(label) => Some(labelled(label, self.others.as_slice())),
+            Slot::Settled(label) => Some(labelled(label, self.others.as_slice())),
         }
     }
 
@@ -92,7 +106,9 @@ impl<C: Copy> Labels<C> {
         ensures settled { OnOk result (settled_of self.new ≡ settled_of self.old) }
     {
         self.pages.ensure(v)?;
-        self.pages.write(v, Slot::Labelled(label));
+        let Label { cost, node } = label;
+        let cost = word_of(cost, &mut self.others)?;
+        self.pages.write(v, Slot::Labelled(Label { cost, node }));
         Ok(())
     }
 
@@ -104,6 +120,18 @@ impl<C: Copy> Labels<C> {
         ensures some { IfSome result (λ l. (label_of self.old v ≡ Some l) × (settled_of self.old v ≡ false) × (settled_of self.new ≡ changed (settled_of self.old) v true)) }
         ensures none { IfNone result ((settled_of self.new ≡ settled_of self.old) × ((settled_of self.old v ≡ true) ⊎ (label_of self.old v ≡ None))) }
     {
-        self.pages.settle(v)
+        let label = self.pages.settle(v)?;
+        Some(labelled(label, self.others.as_slice()))
+    }
+}
+
+// The label whose word this is.
+#[inline(always)]
+fn labelled<C: Cost>(label: Label<u64>, others: &[C]) -> Label<C>
+    ensures { result ≡ read_label C.unranked others.now label }
+{
+    Label {
+        cost: cost_of(label.cost, others),
+        node: label.node,
     }
 }

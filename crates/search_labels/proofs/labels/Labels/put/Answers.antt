@@ -1,14 +1,32 @@
--- One slot is written, on a page that is made if need be.
-use Rattle.std.proofs.Common.{◌∙◌, ap}
-use Rattle.search_labels.specs.Paged.{slot_at}
+-- One slot is written, on a page that is made if need be, with a word for the cost.
+use Rattle.std.proofs.Common.{refl}
+use Rattle.search_labels.specs.Worded.{read_pages}
 use Rattle.search_labels.specs.declared.labels.Slot.TheVariants.{Labelled}
 use Rattle.search_labels.proofs.Rewritten.{label_written, settled_stays}
+use Rattle.search_labels.proofs.Wording.{label_put, AreWorded-same, AreWorded-grown, AreWorded-put}
 use Rattle.search_labels.proofs.labels.Labels.put.Goals as goal
+
+pub invariant_of-self : goal.invariant_of-self
+invariant_of-self g c = AreWorded-same c.self.inside.others.items c.self.inside.pages c.self.invariant c.ensure.new.self c.ensure.ensures.same
+
+pub invariant_of-self-in_err-cost : goal.invariant_of-self-in_err-cost
+invariant_of-self-in_err-cost g c =
+    let made = AreWorded-same c.self.inside.others.items c.self.inside.pages c.self.invariant c.ensure.new.self c.ensure.ensures.same in
+    AreWorded-grown c.self.inside.others.items c.ensure.new.self made c.word_of.ensures.grown.0 c.word_of.new.others.items c.word_of.ensures.grown.1 c.word_of.ensures.few
+
+pub invariant_of-self-2 : goal.invariant_of-self-2
+invariant_of-self-2 g c =
+    AreWorded-put c.self.inside.others.items c.self.inside.pages c.self.invariant c.word_of.ensures.grown.0 c.word_of.new.others.items c.ensure.new.self c.write.new.self
+    c.args.v c.in_ok-cost.cost c.args.label.node c.word_of.ensures.grown.1 c.word_of.ensures.few c.ensure.ensures.same c.write.ensures c.in_ok-cost.ensures.named
 
 pub returns-clause-label : goal.returns-clause-label
 returns-clause-label g c =
-    label_written c.args.self.now c.ensure.new.self c.write.new.self (c.in_ok-ensure.ensures.same ∙ ap slot_at c.self.view_is) c.args.v (Labelled c.args.label) c.write.ensures
+    let put = label_put g.C.Cost.unranked c.self.inside.others.items c.self.inside.pages c.args.self.now c.self.view_is c.word_of.ensures.grown.0 c.word_of.new.others.items c.ensure.new.self c.write.new.self
+    c.args.v c.in_ok-cost.cost c.args.label.node c.args.label.cost c.self.invariant c.word_of.ensures.grown.1 c.ensure.ensures.same c.write.ensures c.in_ok-cost.ensures.value in
+    label_written c.args.self.now c.args.self.now (read_pages g.C.Cost.unranked c.word_of.new.others.items c.write.new.self) refl c.args.v (Labelled c.args.label) put
 
 pub returns-clause-settled : goal.returns-clause-settled
 returns-clause-settled g c =
-    settled_stays c.args.self.now c.ensure.new.self c.write.new.self (c.in_ok-ensure.ensures.same ∙ ap slot_at c.self.view_is) c.args.v (Labelled c.args.label) c.write.ensures c.requires
+    let put = label_put g.C.Cost.unranked c.self.inside.others.items c.self.inside.pages c.args.self.now c.self.view_is c.word_of.ensures.grown.0 c.word_of.new.others.items c.ensure.new.self c.write.new.self
+    c.args.v c.in_ok-cost.cost c.args.label.node c.args.label.cost c.self.invariant c.word_of.ensures.grown.1 c.ensure.ensures.same c.write.ensures c.in_ok-cost.ensures.value in
+    settled_stays c.args.self.now c.args.self.now (read_pages g.C.Cost.unranked c.word_of.new.others.items c.write.new.self) refl c.args.v (Labelled c.args.label) put c.requires
