@@ -80,7 +80,8 @@ impl<C: Cost> Search<C> {
     }
 
     /// Begins anew, in the memory that the search has, at each start where a path may begin, or gives the error
-    /// where memory runs out. It takes time for the pages that were touched since it last began.
+    /// where memory runs out. It takes time for the pages and rows that were touched since it last began; the values
+    /// along rows take new memory.
     ///
     /// It may be called after any error.
     pub fn restart<T: Steps<C>>(&mut self, steps: &T, starts: &[Start<C>]) -> Result<(), AllocError>
