@@ -9,7 +9,7 @@ use cell_frame::Cell;
 use cost_texts::{row_told, vertices_told};
 use customized::{Metric, Roads, Under};
 use metric_make::base;
-use small_towns::{CAR, bend, network_of};
+use small_towns::{CAR, bend, network_of, to_and_fro};
 use std::alloc::{AllocError, Global};
 use std::process::Abort;
 use std::thread::Threads;
@@ -180,4 +180,28 @@ fn an_answer_is_given_the_metrics_own_parts(rt: HostRuntime) -> Result<(), Alloc
     let metric = customized(&rt, alloc, map.as_str(), &[2])?;
     assert_parts(&rt, &metric);
     Ok(())
+}
+
+// Asserts how many levels a server cuts a way of so many segments into, each of which has two vertices.
+fn assert_levels(
+    rt: &impl Abort,
+    alloc: Global,
+    segments: usize,
+    want: u32,
+) -> Result<(), AllocError> {
+    let map = to_and_fro(alloc, segments)?;
+    let Ok(network) = network_of(alloc, map.as_str(), CAR) else {
+        return Err(AllocError);
+    };
+    let roads = Roads::for_server(alloc, Box::into_inner(network))?;
+    assert_eq!(rt; roads.frame().levels(), want);
+    Ok(())
+}
+
+// A cell of the lowest level may hold 256 vertices, and a level of one cell isn't made.
+#[test]
+fn a_server_makes_no_level_of_one_cell(rt: HostRuntime) -> Result<(), AllocError> {
+    let alloc = rt.alloc();
+    assert_levels(&rt, alloc, 128, 0)?;
+    assert_levels(&rt, alloc, 129, 1)
 }
