@@ -1,4 +1,5 @@
 pub mod Appending
+pub mod Fitting
 pub mod Parts
 pub mod KeptDigits
 pub mod Ranges

@@ -3,7 +3,7 @@
 ghost use Rattle.std.specs.Prelude.{◌≡◌};
 ghost use Rattle.decimal_text.specs.ObjectId.{id_of};
 
-use crate::numerals::{append_digits, has_minus, is_numeral, past_minus, signed};
+use crate::numerals::{append_fitting, has_minus, is_numeral, past_minus, signed};
 
 const MOST_DIGITS: usize = 19;
 
@@ -14,10 +14,10 @@ pub fn id(bytes: &[u8]) -> Option<i64>
     ensures { result ≡ id_of bytes.now }
 {
     let digits = past_minus(bytes);
-    if !is_numeral(digits) || digits.len() > MOST_DIGITS {
+    if digits.len() > MOST_DIGITS || !is_numeral(digits) {
         return None;
     }
-    let magnitude = append_digits(0, digits, u64::MAX);
+    let magnitude = append_fitting(0, digits);
     if magnitude <= i64::MAX as u64 {
         Some(signed(bytes, magnitude))
     } else if has_minus(bytes) && magnitude == i64::MIN.unsigned_abs() {
