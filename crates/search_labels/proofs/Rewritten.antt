@@ -43,7 +43,7 @@ module _ {C : Type 0} (old more written : List (List (Slot C))) (same : slot_at 
 -- the slot of v is settled where it has a label and isn't settled: the pages are more before, which have the slots of old, and new after
 module _ {C : Type 0} (old more new : List (List (Slot C))) (same : slot_at more ≡ slot_at old) (v : ℕ) where
   abbrev pub IsSettled : Option (Label C) → Type 0
-  IsSettled o = IfSome o (λ l. (slot_at more v ≡ Labelled l) × (slot_at new ≡ changed (slot_at more) v (Settled l)))
+  IsSettled o = IfSome o (λ l. (slot_at more v ≡ Labelled l.node l.cost) × (slot_at new ≡ changed (slot_at more) v (Settled l.node l.cost)))
 
   abbrev pub IsLeft : Option (Label C) → Type 0
   IsLeft o = IfNone o ((slot_at new ≡ slot_at more) × ((settled_in (slot_at more v) ≡ true) ⊎ (label_in (slot_at more v) ≡ None)))
@@ -52,11 +52,11 @@ module _ {C : Type 0} (old more new : List (List (Slot C))) (same : slot_at more
   here = ap (λ (f : ℕ → Slot C). f v) (sym same)
 
   pub settling_label : (o : Option (Label C)) → IsSettled o → IsLeft o → label_of new ≡ label_of old
-  settling_label (Some l) s n = label_stays old more new same v (Settled l) s.1 (ap label_in (here ∙ s.0))
+  settling_label (Some l) s n = label_stays old more new same v (Settled l.node l.cost) s.1 (ap label_in (here ∙ s.0))
   settling_label None s n = ap (λ (f : ℕ → Slot C). λ (u : ℕ). label_in (f u)) (n.0 ∙ same)
 
   pub settling_some : (o : Option (Label C)) → IsSettled o → IfSome o (λ l. (label_of old v ≡ Some l) × (settled_of old v ≡ false) × (settled_of new ≡ changed (settled_of old) v true))
-  settling_some (Some l) s = (ap label_in (here ∙ s.0), ap settled_in (here ∙ s.0), settled_written old more new same v (Settled l) s.1)
+  settling_some (Some l) s = (ap label_in (here ∙ s.0), ap settled_in (here ∙ s.0), settled_written old more new same v (Settled l.node l.cost) s.1)
   settling_some None s = s
 
   pub settling_none : (o : Option (Label C)) → IsLeft o → IfNone o ((settled_of new ≡ settled_of old) × ((settled_of old v ≡ true) ⊎ (label_of old v ≡ None)))

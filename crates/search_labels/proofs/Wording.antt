@@ -6,8 +6,8 @@ use Rattle.std.proofs.lemmas.Option.{same_Some}
 use Rattle.std.proofs.Math.ListN.{get_or-append, get_or-map}
 use Rattle.search_labels.specs.Labelled.{label_in, settled_in, changed}
 use Rattle.search_labels.specs.ChangedLaws.{same_place, changed-here, changed-there}
-use Rattle.search_labels.specs.Paged.{page_of, slot_at}
-use Rattle.search_labels.specs.Worded.{cost_at, read_label, read_slot, read_pages, AreWorded}
+use Rattle.search_labels.specs.Paged.{page_size, page_of, slot_at}
+use Rattle.search_labels.specs.Worded.{cost_at, read_slot, read_pages, AreWorded}
 use Rattle.search_labels.specs.declared.labels.Label.{Label}
 use Rattle.search_labels.specs.declared.labels.Slot.{Slot}
 use Rattle.search_labels.specs.declared.labels.Slot.TheVariants.{Untouched, Labelled, Settled}
@@ -17,8 +17,8 @@ module _ {C : Type 0} (f : ℕ → C) where
   -- the slot of v is read of its words
   slot_at-read : (others : List C) (pages : List (List (Slot ℕ))) (v : ℕ) → slot_at (read_pages f others pages) v ≡ read_slot f others (slot_at pages v)
   slot_at-read others pages v =
-      ap (λ (page : List (Slot C)). get_or page (v % 16) Untouched) (get_or-map (map (read_slot f others)) pages (v / 16) [])
-      ∙ get_or-map (read_slot f others) (page_of pages (v / 16)) (v % 16) Untouched
+      ap (λ (page : List (Slot C)). get_or page (v % page_size) Untouched) (get_or-map (map (read_slot f others)) pages (v / page_size) [])
+      ∙ get_or-map (read_slot f others) (page_of pages (v / page_size)) (v % page_size) Untouched
 
   cost_at-short : (others : List C) (w : ℕ) → w < 2 ^ 63 → cost_at f others w ≡ f w
   cost_at-short others w h = grind (arith, nat_tests)
@@ -38,19 +38,19 @@ module _ {C : Type 0} (f : ℕ → C) where
   -- so each slot is what it was
   read_slot-grown : (others more : List C) (slot : Slot ℕ) → ((l : Label ℕ) → label_in slot ≡ Some l → l.cost < 2 ^ 63 + length others) → read_slot f (others ++ more) slot ≡ read_slot f others slot
   read_slot-grown others more Untouched h = refl
-  read_slot-grown others more (Labelled l) h = ap (λ c. Labelled (record { cost = c; node = l.node })) (cost_at-grown others more l.cost (h l refl))
-  read_slot-grown others more (Settled l) h = ap (λ c. Settled (record { cost = c; node = l.node })) (cost_at-grown others more l.cost (h l refl))
+  read_slot-grown others more (Labelled node word) h = ap (λ c. Labelled node c) (cost_at-grown others more word (h _ refl))
+  read_slot-grown others more (Settled node word) h = ap (λ c. Settled node c) (cost_at-grown others more word (h _ refl))
 
   -- what is known of v by its words
   label_in-read : (others : List C) (slot : Slot ℕ) → label_in slot ≡ None → label_in (read_slot f others slot) ≡ None
   label_in-read others Untouched e = refl
-  label_in-read others (Labelled l) e = cc
-  label_in-read others (Settled l) e = cc
+  label_in-read others (Labelled node word) e = cc
+  label_in-read others (Settled node word) e = cc
 
   settled_in-read : (others : List C) (slot : Slot ℕ) → settled_in slot ≡ true → settled_in (read_slot f others slot) ≡ true
   settled_in-read others Untouched e = e
-  settled_in-read others (Labelled l) e = e
-  settled_in-read others (Settled l) e = refl
+  settled_in-read others (Labelled node word) e = e
+  settled_in-read others (Settled node word) e = refl
 
 -- what holds anyhow holds where there is none
 pub IfNone-always : {X P : Type 0} (o : Option X) → P → IfNone o P
@@ -77,11 +77,11 @@ module _ {C : Type 0} (f : ℕ → C) (others : List C) (old : List (List (Slot 
       ∙ ap (λ (h : ℕ → Slot C). changed h v (read_slot f grown slot)) all
 
   -- a slot is settled, or none
-  pub label_settled : (written : List (List (Slot ℕ))) (v : ℕ) (l : Label ℕ) → (slot_at old v ≡ Labelled l) × (slot_at written ≡ changed (slot_at old) v (Settled l)) →
-      (slot_at now v ≡ Labelled (read_label f others l)) × (slot_at (read_pages f others written) ≡ changed (slot_at now) v (Settled (read_label f others l)))
+  pub label_settled : (written : List (List (Slot ℕ))) (v : ℕ) (l : Label ℕ) → (slot_at old v ≡ Labelled l.node l.cost) × (slot_at written ≡ changed (slot_at old) v (Settled l.node l.cost)) →
+      (slot_at now v ≡ Labelled l.node (cost_at f others l.cost)) × (slot_at (read_pages f others written) ≡ changed (slot_at now) v (Settled l.node (cost_at f others l.cost)))
   label_settled written v l h = (
     sym (slots_same v) ∙ ap (read_slot f others) h.0,
-    slot_written others written v (Settled l) slots_same h.1,
+    slot_written others written v (Settled l.node l.cost) slots_same h.1,
   )
 
   pub none_settled : (written : List (List (Slot ℕ))) (v : ℕ) → (slot_at written ≡ slot_at old) × ((settled_in (slot_at old v) ≡ true) ⊎ (label_in (slot_at old v) ≡ None)) →
@@ -95,13 +95,13 @@ module _ {C : Type 0} (f : ℕ → C) (others : List C) (old : List (List (Slot 
   )
 
   -- a label is put, on a page that is made if need be
-  pub label_put : (more grown : List C) (made written : List (List (Slot ℕ))) (v word node : ℕ) (cost : C) → AreWorded others old → grown ≡ others ++ more → slot_at made ≡ slot_at old →
-      slot_at written ≡ changed (slot_at made) v (Labelled (record { cost = word; node = node })) → cost_at f grown word ≡ cost →
-      slot_at (read_pages f grown written) ≡ changed (slot_at now) v (Labelled (record { cost = cost; node = node }))
-  label_put more grown made written v word node cost are g same change value =
-      let slot : Slot ℕ = Labelled (record { cost = word; node = node }) in
+  pub label_put : (more grown : List C) (made written : List (List (Slot ℕ))) (v word node : ℕ) (label : Label C) → AreWorded others old → grown ≡ others ++ more → slot_at made ≡ slot_at old →
+      slot_at written ≡ changed (slot_at made) v (Labelled node word) → cost_at f grown word ≡ label.cost → node ≡ label.node →
+      slot_at (read_pages f grown written) ≡ changed (slot_at now) v (Labelled label.node label.cost)
+  label_put more grown made written v word node label are g same change cost same_node =
+      let slot : Slot ℕ = Labelled node word in
       slot_written grown written v slot (slots_stay more grown are g) (change ∙ ap (λ (k : ℕ → Slot ℕ). changed k v slot) same)
-      ∙ ap (λ c. changed (slot_at now) v (Labelled (record { cost = c; node = node }))) value
+      ∙ ap (λ c. changed (slot_at now) v (Labelled node c)) cost ∙ ap (λ n. changed (slot_at now) v (Labelled n label.cost)) same_node
 
 -- words name costs still
 module _ {C : Type 0} (others : List C) (old : List (List (Slot ℕ))) (are : AreWorded others old) where
@@ -132,9 +132,9 @@ module _ {C : Type 0} (others : List C) (old : List (List (Slot ℕ))) (are : Ar
   }
 
   pub AreWorded-put : (more grown : List C) (made written : List (List (Slot ℕ))) (v word node : ℕ) → grown ≡ others ++ more → length grown < 2 ^ 63 → slot_at made ≡ slot_at old →
-      slot_at written ≡ changed (slot_at made) v (Labelled (record { cost = word; node = node })) → word < 2 ^ 63 + length grown → AreWorded grown written
+      slot_at written ≡ changed (slot_at made) v (Labelled node word) → word < 2 ^ 63 + length grown → AreWorded grown written
   AreWorded-put more grown made written v word node g few same change named =
-      let slot : Slot ℕ = Labelled (record { cost = word; node = node }) in
+      let slot : Slot ℕ = Labelled node word in
       let before = AreWorded-grown more grown g few in
       record {
         few = few;
@@ -146,7 +146,7 @@ module _ {C : Type 0} (others : List C) (old : List (List (Slot ℕ))) (are : Ar
             ];
       }
 
-  pub AreWorded-settled : (new : List (List (Slot ℕ))) (v : ℕ) (o : Option (Label ℕ)) → IfSome o (λ l. (slot_at old v ≡ Labelled l) × (slot_at new ≡ changed (slot_at old) v (Settled l))) →
+  pub AreWorded-settled : (new : List (List (Slot ℕ))) (v : ℕ) (o : Option (Label ℕ)) → IfSome o (λ l. (slot_at old v ≡ Labelled l.node l.cost) × (slot_at new ≡ changed (slot_at old) v (Settled l.node l.cost))) →
       IfNone o ((slot_at new ≡ slot_at old) × ((settled_in (slot_at old v) ≡ true) ⊎ (label_in (slot_at old v) ≡ None))) → AreWorded others new
-  AreWorded-settled new v (Some l) s n = AreWorded-written new v (Settled l) s.1 (λ m e. are.each v m (ap label_in s.0 ∙ e))
+  AreWorded-settled new v (Some l) s n = AreWorded-written new v (Settled l.node l.cost) s.1 (λ m e. are.each v m (ap label_in s.0 ∙ e))
   AreWorded-settled new v None s n = AreWorded-same new n.0

@@ -9,14 +9,14 @@ use Rattle.search_labels.specs.declared.labels.Slot.TheVariants.{Untouched, Labe
 -- the label in a slot, if there is one
 abbrev pub label_in : {C : Type 0} → Slot C → Option (Label C)
 label_in Untouched = None
-label_in (Labelled l) = Some l
-label_in (Settled l) = Some l
+label_in (Labelled node cost) = Some (record { cost = cost; node = node })
+label_in (Settled node cost) = Some (record { cost = cost; node = node })
 
 -- whether a slot is settled
 abbrev pub settled_in : {C : Type 0} → Slot C → Bool
 settled_in Untouched = false
-settled_in (Labelled l) = false
-settled_in (Settled l) = true
+settled_in (Labelled node cost) = false
+settled_in (Settled node cost) = true
 
 -- the label of the vertex v
 abbrev pub label_of : {C : Type 0} → List (List (Slot C)) → ℕ → Option (Label C)

@@ -1,8 +1,12 @@
--- Private to this crate: slots by vertex on pages of 16 neighbouring vertices: a page has all their slots, or none until it is made. The pages that are made stand one behind the other in one list, and a table has their places.
+-- Private to this crate: slots by vertex on pages of neighbouring vertices: a page has all their slots, or none until it is made. The pages that are made stand one behind the other in one list, and a table has their places.
 use Rattle.std.specs.Prelude.{◌≡◌, ◌⊎◌, ℕ, ◌*◌, ◌/◌, ◌%◌, ◌<◌, ◌≤◌, Some, List, [], length, take, drop, map, slice_index_or}
 use Rattle.std.specs.List.{slice_get}
 use Rattle.search_labels.specs.declared.labels.Slot.{Slot}
 use Rattle.search_labels.specs.declared.labels.Slot.TheVariants.{Untouched}
+
+-- how many vertices a page is for
+abbrev pub page_size : ℕ
+page_size = 4
 
 -- the page p
 abbrev pub page_of : {C : Type 0} → List (List (Slot C)) → ℕ → List (Slot C)
@@ -14,11 +18,11 @@ slot_on page r = slice_index_or page r Untouched
 
 -- the slot of the vertex v
 abbrev pub slot_at : {C : Type 0} → List (List (Slot C)) → ℕ → Slot C
-slot_at pages v = slot_on (page_of pages (v / 16)) (v % 16)
+slot_at pages v = slot_on (page_of pages (v / page_size)) (v % page_size)
 
 -- whether the page of the vertex v is made
 abbrev pub IsMade : {C : Type 0} → List (List (Slot C)) → ℕ → Type 0
-IsMade pages v = v % 16 < length (page_of pages (v / 16))
+IsMade pages v = v % page_size < length (page_of pages (v / page_size))
 
 -- in place of the place of a page that isn't made
 abbrev pub unmade : ℕ
@@ -30,7 +34,7 @@ place_of table p = slice_index_or table p unmade
 
 -- the page that stands at a place among those that are made
 abbrev pub page_in : {C : Type 0} → List (Slot C) → ℕ → List (Slot C)
-page_in arena place = take 16 (drop (place * 16) arena)
+page_in arena place = take page_size (drop (place * page_size) arena)
 
 -- the pages by their numbers
 abbrev pub pages_of : {C : Type 0} → List ℕ → List (Slot C) → List (List (Slot C))
@@ -42,8 +46,8 @@ pub record AreTouched (table : List ℕ) (touched : List ℕ) : Type 0 where
 
 -- the slots are those of whole pages, none of them past the touched ones
 pub record IsArena {C : Type 0} (arena : List (Slot C)) (touched : List ℕ) : Type 0 where
-  pub whole : length arena % 16 ≡ 0
-  pub long : length arena ≤ length touched * 16
+  pub whole : length arena % page_size ≡ 0
+  pub long : length arena ≤ length touched * page_size
   pub few : length touched ≤ unmade
 
 -- both

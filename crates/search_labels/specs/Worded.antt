@@ -10,15 +10,15 @@ use Rattle.search_labels.specs.declared.labels.Slot.TheVariants.{Untouched, Labe
 abbrev pub cost_at : {C : Type 0} → (ℕ → C) → List C → ℕ → C
 cost_at unranked others word = if nat_lt word (2 ^ 63) then unranked word else slice_index_or others (word - 2 ^ 63) (unranked word)
 
--- the label whose word this is
-abbrev pub read_label : {C : Type 0} → (ℕ → C) → List C → Label ℕ → Label C
-read_label unranked others l = record { cost = cost_at unranked others l.cost; node = l.node }
+-- the label with this node and this word
+abbrev pub read_label : {C : Type 0} → (ℕ → C) → List C → ℕ → ℕ → Label C
+read_label unranked others node word = record { cost = cost_at unranked others word; node = node }
 
 -- the slot of that label
 abbrev pub read_slot : {C : Type 0} → (ℕ → C) → List C → Slot ℕ → Slot C
 read_slot unranked others Untouched = Untouched
-read_slot unranked others (Labelled l) = Labelled (read_label unranked others l)
-read_slot unranked others (Settled l) = Settled (read_label unranked others l)
+read_slot unranked others (Labelled node word) = Labelled node (cost_at unranked others word)
+read_slot unranked others (Settled node word) = Settled node (cost_at unranked others word)
 
 -- the pages of those slots
 abbrev pub read_pages : {C : Type 0} → (ℕ → C) → List C → List (List (Slot ℕ)) → List (List (Slot C))

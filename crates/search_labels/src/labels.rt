@@ -19,13 +19,16 @@ pub struct Label<C> {
     pub node: usize,
 }
 
-/// What a search knows of a vertex: nothing, a label, or a label than which no cheaper way can come.
+/// What a search knows of a vertex: nothing, a label, or a label than which no cheaper way can come. The
+/// node stands in four bytes, and before the cost: it shares a word with the slot's mark so.
 #[derive(Clone, Copy, Drop)]
 pub enum Slot<C> {
     Untouched,
-    Labelled(Label<C>),
-    Settled(Label<C>),
+    Labelled { node: u32, cost: C },
+    Settled { node: u32, cost: C },
 }
+
+const _: () = prove!(size_of::<Slot<u64>>() == 16);
 
 /// The labels by vertex. In place of a cost a slot has its rank, or its place among those that have
 /// none.
@@ -83,8 +86,16 @@ impl<C: Cost> Labels<C> {
     {
         match self.pages.read(v) {
             Slot::Untouched => None,
-            Slot::Labelled(label) => Some(labelled(label, self.others.as_slice())),
-            Slot::Settled(label) => Some(labelled(label, self.others.as_slice())),
+            Slot::Labelled { node, cost } => Some(labelled(
+                node as usize,
+                cost,
+                self.others.as_slice(),
+            )),
+            Slot::Settled { node, cost } => Some(labelled(
+                node as usize,
+                cost,
+                self.others.as_slice(),
+            )),
         }
     }
 
@@ -94,21 +105,24 @@ impl<C: Cost> Labels<C> {
     {
         match self.pages.read(v) {
             Slot::Untouched => false,
-            Slot::Labelled(_) => false,
-            Slot::Settled(_) => true,
+            Slot::Labelled { .. } => false,
+            Slot::Settled { .. } => true,
         }
     }
 
-    /// Gives `v`, which isn't settled, a label in place of the one that it had.
+    /// Gives `v`, which isn't settled, a label in place of the one that it had. A node past 2^32 - 1 is
+    /// answered by the error, as where memory runs out.
     pub fn put(&mut self, v: u32, label: Label<C>) -> Result<(), AllocError>
         requires { settled_of self.old v ≡ false }
         ensures label { OnOk result (label_of self.new ≡ changed (label_of self.old) v (Some label)) }
         ensures settled { OnOk result (settled_of self.new ≡ settled_of self.old) }
     {
+        let Ok(node) = u32::try_from(label.node) else {
+            return Err(AllocError);
+        };
         self.pages.ensure(v)?;
-        let Label { cost, node } = label;
-        let cost = word_of(cost, &mut self.others)?;
-        self.pages.write(v, Slot::Labelled(Label { cost, node }));
+        let cost = word_of(label.cost, &mut self.others)?;
+        self.pages.write(v, Slot::Labelled { node, cost });
         Ok(())
     }
 
@@ -121,17 +135,15 @@ impl<C: Cost> Labels<C> {
         ensures none { IfNone result ((settled_of self.new ≡ settled_of self.old) × ((settled_of self.old v ≡ true) ⊎ (label_of self.old v ≡ None))) }
     {
         let label = self.pages.settle(v)?;
-        Some(labelled(label, self.others.as_slice()))
+        Some(labelled(label.node, label.cost, self.others.as_slice()))
     }
 }
 
-// The label whose word this is.
+// The label with this node and this word.
 #[inline(always)]
-fn labelled<C: Cost>(label: Label<u64>, others: &[C]) -> Label<C>
-    ensures { result ≡ read_label C.unranked others.now label }
+fn labelled<C: Cost>(node: usize, word: u64, others: &[C]) -> Label<C>
+    ensures { result ≡ read_label C.unranked others.now node word }
 {
-    Label {
-        cost: cost_of(label.cost, others),
-        node: label.node,
-    }
+    let cost = cost_of(word, others);
+    Label { cost, node }
 }

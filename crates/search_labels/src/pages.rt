@@ -1,9 +1,9 @@
-//! Slots by vertex on pages: each page has the slots of 16 neighbouring vertices, or none until it is made. The
+//! Slots by vertex on pages: each page has the slots of 4 neighbouring vertices, or none until it is made. The
 //! pages that are made stand one behind the other in one list, and a table says where each of them stands.
 
 ghost use Rattle.std.specs.Prelude.{◌≡◌, ◌≢◌, ◌⊎◌, ℕ, true, None, ◌+◌, ◌*◌, ◌/◌, ◌%◌, ◌<◌, [], ◌∷◌, ◌++◌, length, slice_index_or, IfSome, IfNone, OnOk, OnErr, IfOk};
 ghost use Rattle.search_labels.specs.Labelled.{label_in, settled_in, changed};
-ghost use Rattle.search_labels.specs.Paged.{unmade, place_of, slot_at, IsMade, AreTouched, IsArena, Keeps};
+ghost use Rattle.search_labels.specs.Paged.{page_size, unmade, place_of, slot_at, IsMade, AreTouched, IsArena, Keeps};
 ghost use Rattle.search_labels.specs.declared.labels.Slot.TheVariants.{Untouched, Labelled, Settled};
 
 use crate::labels::{Label, Slot};
@@ -11,7 +11,7 @@ use std::alloc::{AllocError, Global};
 use std::marker::Model;
 
 /// How many vertices a page is for.
-const PAGE: usize = 16;
+const PAGE: usize = 4;
 
 /// In place of the place of a page that isn't made.
 const UNMADE: u32 = u32::MAX;
@@ -84,18 +84,21 @@ impl<C: Copy> Pages<C> {
     /// changes nothing.
     #[inline(always)]
     pub fn settle(&mut self, v: u32) -> Option<Label<C>>
-        ensures some { IfSome result (λ l. (slot_at self.old v ≡ Labelled l) × (slot_at self.new ≡ changed (slot_at self.old) v (Settled l))) }
+        ensures some { IfSome result (λ l. (slot_at self.old v ≡ Labelled l.node l.cost) × (slot_at self.new ≡ changed (slot_at self.old) v (Settled l.node l.cost))) }
         ensures none { IfNone result ((slot_at self.new ≡ slot_at self.old) × ((settled_in (slot_at self.old v) ≡ true) ⊎ (label_in (slot_at self.old v) ≡ None))) }
     {
         let index = index_of(self.table.as_slice(), v);
         match self.arena.get(index) {
-            Some(Slot::Labelled(label)) => {
-                let label = *label;
-                self.arena[index] = Slot::Settled(label);
-                Some(label)
+            Some(Slot::Labelled { node, cost }) => {
+                let (node, cost) = (*node, *cost);
+                self.arena[index] = Slot::Settled { node, cost };
+                Some(Label {
+                    cost,
+                    node: node as usize,
+                })
             }
             Some(Slot::Untouched) => None,
-            Some(Slot::Settled(_)) => None,
+            Some(Slot::Settled { .. }) => None,
             None => None,
         }
     }
@@ -127,7 +130,7 @@ impl<C: Copy> Pages<C> {
 // Where the slot of `v` stands among those of the pages that are made: past them all where its page isn't.
 #[inline(always)]
 fn index_of(table: &[u32], v: u32) -> usize
-    ensures { result ≡ place_of table.now (v / 16) * 16 + v % 16 }
+    ensures { result ≡ place_of table.now (v / page_size) * page_size + v % page_size }
 {
     let place = match table.get(v as usize / PAGE) {
         Some(place) => *place,
@@ -144,7 +147,7 @@ fn append_page<C: Copy>(
 ) -> Result<u32, AllocError>
     requires { IsArena arena.old.items touched.old.items }
     ensures arena { IsArena arena.new.items touched.new.items }
-    ensures place { IfOk result (λ place. (place ≡ length touched.old.items) × (place < unmade) × (length arena.new.items ≡ place * 16 + 16)) }
+    ensures place { IfOk result (λ place. (place ≡ length touched.old.items) × (place < unmade) × (length arena.new.items ≡ place * page_size + page_size)) }
     ensures touched { OnOk result (touched.new.items ≡ touched.old.items ++ page ∷ []) }
     ensures keeps { Keeps touched.old.items touched.new.items }
     ensures same { (i : ℕ) → slice_index_or arena.new.items i Untouched ≡ slice_index_or arena.old.items i Untouched }

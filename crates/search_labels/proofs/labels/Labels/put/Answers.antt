@@ -1,5 +1,5 @@
 -- One slot is written, on a page that is made if need be, with a word for the cost.
-use Rattle.std.proofs.Common.{refl}
+use Rattle.std.proofs.Common.{◌≡◌, refl, rules}
 use Rattle.search_labels.specs.Worded.{read_pages}
 use Rattle.search_labels.specs.declared.labels.Slot.TheVariants.{Labelled}
 use Rattle.search_labels.proofs.Rewritten.{label_written, settled_stays}
@@ -17,16 +17,18 @@ invariant_of-self-in_err-cost g c =
 pub invariant_of-self-2 : goal.invariant_of-self-2
 invariant_of-self-2 g c =
     AreWorded-put c.self.inside.others.items c.self.inside.pages c.self.invariant c.word_of.ensures.grown.0 c.word_of.new.others.items c.ensure.new.self c.write.new.self
-    c.args.v c.in_ok-cost.cost c.args.label.node c.word_of.ensures.grown.1 c.word_of.ensures.few c.ensure.ensures.same c.write.ensures c.in_ok-cost.ensures.named
+    c.args.v c.in_ok-cost.cost c.in-Ok.node c.word_of.ensures.grown.1 c.word_of.ensures.few c.ensure.ensures.same c.write.ensures c.in_ok-cost.ensures.named
 
 pub returns-clause-label : goal.returns-clause-label
 returns-clause-label g c =
+    let same_node : c.in-Ok.node ≡ c.args.label.node = search rules in
     let put = label_put g.C.Cost.unranked c.self.inside.others.items c.self.inside.pages c.args.self.now c.self.view_is c.word_of.ensures.grown.0 c.word_of.new.others.items c.ensure.new.self c.write.new.self
-    c.args.v c.in_ok-cost.cost c.args.label.node c.args.label.cost c.self.invariant c.word_of.ensures.grown.1 c.ensure.ensures.same c.write.ensures c.in_ok-cost.ensures.value in
-    label_written c.args.self.now c.args.self.now (read_pages g.C.Cost.unranked c.word_of.new.others.items c.write.new.self) refl c.args.v (Labelled c.args.label) put
+    c.args.v c.in_ok-cost.cost c.in-Ok.node c.args.label c.self.invariant c.word_of.ensures.grown.1 c.ensure.ensures.same c.write.ensures c.in_ok-cost.ensures.value same_node in
+    label_written c.args.self.now c.args.self.now (read_pages g.C.Cost.unranked c.word_of.new.others.items c.write.new.self) refl c.args.v (Labelled c.args.label.node c.args.label.cost) put
 
 pub returns-clause-settled : goal.returns-clause-settled
 returns-clause-settled g c =
+    let same_node : c.in-Ok.node ≡ c.args.label.node = search rules in
     let put = label_put g.C.Cost.unranked c.self.inside.others.items c.self.inside.pages c.args.self.now c.self.view_is c.word_of.ensures.grown.0 c.word_of.new.others.items c.ensure.new.self c.write.new.self
-    c.args.v c.in_ok-cost.cost c.args.label.node c.args.label.cost c.self.invariant c.word_of.ensures.grown.1 c.ensure.ensures.same c.write.ensures c.in_ok-cost.ensures.value in
-    settled_stays c.args.self.now c.args.self.now (read_pages g.C.Cost.unranked c.word_of.new.others.items c.write.new.self) refl c.args.v (Labelled c.args.label) put c.requires
+    c.args.v c.in_ok-cost.cost c.in-Ok.node c.args.label c.self.invariant c.word_of.ensures.grown.1 c.ensure.ensures.same c.write.ensures c.in_ok-cost.ensures.value same_node in
+    settled_stays c.args.self.now c.args.self.now (read_pages g.C.Cost.unranked c.word_of.new.others.items c.write.new.self) refl c.args.v (Labelled c.args.label.node c.args.label.cost) put c.requires

@@ -23,12 +23,12 @@ returns-in_err-label-clause-none g c =
 
 pub returns-clause-label : goal.returns-clause-label
 returns-clause-label g c =
-    let label = read_label g.C.Cost.unranked c.self.inside.others.items c.in_ok-label.label in
+    let label = read_label g.C.Cost.unranked c.self.inside.others.items c.in_ok-label.label.node c.in_ok-label.label.cost in
     let settled = label_settled g.C.Cost.unranked c.self.inside.others.items c.self.inside.pages c.args.self.now c.self.view_is c.settle.new.self c.args.v c.in_ok-label.label c.in_ok-label.ensures.some in
     settling_label c.args.self.now c.args.self.now (read_pages g.C.Cost.unranked c.self.inside.others.items c.settle.new.self) refl c.args.v (Some label) settled tt
 
 pub returns-clause-some : goal.returns-clause-some
 returns-clause-some g c =
-    let label = read_label g.C.Cost.unranked c.self.inside.others.items c.in_ok-label.label in
+    let label = read_label g.C.Cost.unranked c.self.inside.others.items c.in_ok-label.label.node c.in_ok-label.label.cost in
     let settled = label_settled g.C.Cost.unranked c.self.inside.others.items c.self.inside.pages c.args.self.now c.self.view_is c.settle.new.self c.args.v c.in_ok-label.label c.in_ok-label.ensures.some in
     rw (c.labelled.ensures, c.as_slice.ensures.value) (settling_some c.args.self.now c.args.self.now (read_pages g.C.Cost.unranked c.self.inside.others.items c.settle.new.self) refl c.args.v (Some label) settled)

@@ -1,6 +1,6 @@
 -- The page is touched before it is made, and made before its place is set.
 use Rattle.std.proofs.Common.{◌≡◌, ◌<◌, ◌≤◌, ◌+◌, ◌*◌, ◌/◌, length, refl, ◌∙◌, ap, subst, arith}
-use Rattle.search_labels.specs.Paged.{place_of, slot_at, IsMade}
+use Rattle.search_labels.specs.Paged.{page_size, place_of, slot_at, IsMade}
 use Rattle.search_labels.proofs.Paged.{index, index_is, IsArena-fits, IsMade-index, slot_at-kept, slot_at-made, AreTouched-kept, AreTouched-made}
 use Rattle.search_labels.proofs.pages.Pages.ensure.Goals as goal
 
@@ -37,8 +37,8 @@ returns-clause-made g c =
     let table = c.set_place.new.table.items in
     let arena = c.append_page.new.arena.items in
     let fits = IsArena-fits arena c.append_page.new.touched.items c.append_page.ensures.arena in
-    let here : place_of table (c.args.v / 16) ≡ c.in_ok-place.place = c.in_ok-set_place.ensures.here in
-    let long : length arena ≡ c.in_ok-place.place * 16 + 16 = c.in_ok-place.ensures.place.2 in
+    let here : place_of table (c.args.v / page_size) ≡ c.in_ok-place.place = c.in_ok-set_place.ensures.here in
+    let long : length arena ≡ c.in_ok-place.place * page_size + page_size = c.in_ok-place.ensures.place.2 in
     IsMade-index table arena fits c.args.v (omega arith)
 
 pub returns-clause-same : goal.returns-clause-same
@@ -54,15 +54,15 @@ returns-clause-same g c =
     let whole = c.self.invariant.slots.whole in
     let long = c.self.invariant.slots.long in
     let place = c.in_ok-place.ensures.place.0 in
-    let here : place_of c.set_place.new.table.items (c.args.v / 16) ≡ c.in_ok-place.place = c.in_ok-set_place.ensures.here in
-    let before : length arena ≤ place_of table (c.args.v / 16) * 16 = omega arith in
-    let after : length arena ≤ place_of c.set_place.new.table.items (c.args.v / 16) * 16 = omega arith in
-    slot_at-made table c.set_place.new.table.items arena c.append_page.new.arena.items fits fits_more c.append_page.ensures.same (c.args.v / 16) before after c.set_place.ensures.others ∙ ap slot_at c.self.view_is
+    let here : place_of c.set_place.new.table.items (c.args.v / page_size) ≡ c.in_ok-place.place = c.in_ok-set_place.ensures.here in
+    let before : length arena ≤ place_of table (c.args.v / page_size) * page_size = omega arith in
+    let after : length arena ≤ place_of c.set_place.new.table.items (c.args.v / page_size) * page_size = omega arith in
+    slot_at-made table c.set_place.new.table.items arena c.append_page.new.arena.items fits fits_more c.append_page.ensures.same (c.args.v / page_size) before after c.set_place.ensures.others ∙ ap slot_at c.self.view_is
 
 pub invariant_of-self-2 : goal.invariant_of-self-2
 invariant_of-self-2 g c =
-    let here : place_of c.set_place.new.table.items (c.args.v / 16) ≡ length c.self.inside.touched.items = c.in_ok-set_place.ensures.here ∙ c.in_ok-place.ensures.place.0 in
+    let here : place_of c.set_place.new.table.items (c.args.v / page_size) ≡ length c.self.inside.touched.items = c.in_ok-set_place.ensures.here ∙ c.in_ok-place.ensures.place.0 in
     record {
-      places = AreTouched-made c.self.inside.table.items c.set_place.new.table.items c.self.inside.touched.items c.append_page.new.touched.items (c.args.v / 16) c.in_ok-place.ensures.touched here c.set_place.ensures.others c.self.invariant.places;
+      places = AreTouched-made c.self.inside.table.items c.set_place.new.table.items c.self.inside.touched.items c.append_page.new.touched.items (c.args.v / page_size) c.in_ok-place.ensures.touched here c.set_place.ensures.others c.self.invariant.places;
       slots = c.append_page.ensures.arena;
     }

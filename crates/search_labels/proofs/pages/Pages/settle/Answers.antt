@@ -11,7 +11,7 @@ pub returns-in-Some-Labelled-clause-some : goal.returns-in-Some-Labelled-clause-
 returns-in-Some-Labelled-clause-some g c =
     let table = c.self.inside.table.items in
     let arena = c.self.inside.arena.items in
-    let slot = Settled c.in-Some-Labelled.label in
+    let slot = Settled c.in-Some-Labelled.node c.in-Some-Labelled.cost in
     let fits = IsArena-fits arena c.self.inside.touched.items c.self.invariant.slots in
     let at = index_is table _ c.index_of-index.result c.args.v c.as_slice.ensures.value c.index_of-index.ensures in
     let within : c.index_of-index.result < length arena = subst (λ s. c.index_of-index.result < length s) c.deref.ensures.value c.in-Some-Labelled.ensures.lookup.3.0 in
