@@ -180,6 +180,7 @@ impl Metric {
             heads: self.roads.heads(),
             base: self.base(set),
             cliques: self.cliques(set),
+            searches: self.roads.searches(),
         }
     }
 

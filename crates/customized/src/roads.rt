@@ -11,6 +11,8 @@ use cell_frame::Frame;
 use cell_partition::{PartitionError, cells};
 use edge_graph::Network;
 use head_index::HeadIndex;
+use search_graph::WeightDurLen;
+use search_pool::SearchPool;
 use std::alloc::{AllocError, Global};
 use std::marker::Model;
 use std::sync::Arc;
@@ -19,11 +21,16 @@ use std::sync::Arc;
 /// network.
 pub const SERVER_LIMITS: [u32; 5] = [256, 4096, 65536, 1048576, 16777216];
 
-/// A road network with the frame of its graph, and the arcs of that by their heads. Contracts see the network and the frame.
+/// How many searches that have ended are kept with their memory: as many requests that are answered at one time find one.
+const SPARE_SEARCHES: usize = 16;
+
+/// A road network with the frame of its graph, the arcs of that by their heads, and memory for searches of it. Contracts see the
+/// network and the frame.
 pub struct Roads {
     network: Arc<Network>,
     frame: Arc<Frame>,
     heads: Arc<HeadIndex>,
+    searches: Arc<SearchPool<WeightDurLen>>,
 }
 
 impl Drop for Roads {
@@ -32,6 +39,7 @@ impl Drop for Roads {
             network: _network,
             frame: _frame,
             heads: _heads,
+            searches: _searches,
         } = self;
     }
 }
@@ -63,10 +71,12 @@ impl Roads {
     {
         let frame = frame_of(alloc, &network, limits)?;
         let heads = HeadIndex::of(alloc, network.graph())?;
+        let searches = SearchPool::with_room(alloc, SPARE_SEARCHES)?;
         Ok(Roads {
             network: Arc::new(alloc, network)?,
             frame: Arc::new(alloc, frame)?,
             heads: Arc::new(alloc, heads)?,
+            searches: Arc::new(alloc, searches)?,
         })
     }
 
@@ -104,6 +114,11 @@ impl Roads {
         &self.heads
     }
 
+    /// Memory for searches of the graph, to be taken and given back. All copies of these roads share it.
+    pub fn searches(&self) -> &SearchPool<WeightDurLen> {
+        &self.searches
+    }
+
     /// Roads that share the memory of these. It answers the error where no more can share it.
     pub fn copy(&self) -> Result<Roads, AllocError>
         ensures { IfOk result (λ roads. roads ≡ self.now) }
@@ -112,6 +127,7 @@ impl Roads {
             network: Arc::try_clone(&self.network)?,
             frame: Arc::try_clone(&self.frame)?,
             heads: Arc::try_clone(&self.heads)?,
+            searches: Arc::try_clone(&self.searches)?,
         })
     }
 }

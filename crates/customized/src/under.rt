@@ -13,6 +13,7 @@ use edge_graph::Network;
 use head_index::HeadIndex;
 use metric_make::BaseMetric;
 use search_graph::WeightDurLen;
+use search_pool::SearchPool;
 use std::marker::Model;
 
 /// A network with its costs, the frame of its graph, the arcs of that by their heads, and cliques that are exact for just
@@ -24,6 +25,7 @@ pub struct Under<'a> {
     pub(crate) heads: &'a HeadIndex,
     pub(crate) base: &'a BaseMetric,
     pub(crate) cliques: &'a Cliques<WeightDurLen>,
+    pub(crate) searches: &'a SearchPool<WeightDurLen>,
 }
 
 impl<'a> Model for Under<'a> {
@@ -76,5 +78,10 @@ impl<'a> Under<'a> {
         ensures { AreExact road_cost_ops self.now.frame self.now.road.weights result.now (length self.now.frame.cells.levels) }
     {
         self.cliques
+    }
+
+    /// Memory for searches of the graph, to be taken and given back.
+    pub fn searches(&self) -> &SearchPool<WeightDurLen> {
+        self.searches
     }
 }

@@ -21,7 +21,6 @@ use road_base::Place;
 use road_places::{Route, starts, targets};
 use search_graph::{Start, Target, WeightDurLen};
 use std::alloc::{AllocError, Global};
-use step_search::Search;
 
 /// Where a walk from a place may start: each is a vertex of the network and of the frame, and costs at most one unit.
 pub(crate) fn starts_from(
@@ -74,8 +73,9 @@ pub(crate) fn over_graph(
     let frame = under.frame();
     let base = under.base();
     let cliques = under.cliques();
-    let mut search = Search::new(alloc);
-    match cheapest_from(
+    let searches = under.searches();
+    let mut search = searches.take(alloc);
+    let found = cheapest_from(
         alloc,
         frame,
         base.weights(),
@@ -83,7 +83,9 @@ pub(crate) fn over_graph(
         starts,
         targets,
         &mut search,
-    ) {
+    );
+    searches.give(search);
+    match found {
         Ok(found) => Ok(found),
         Err(SearchFault::Memory) => Err(AllocError),
     }

@@ -13,6 +13,7 @@ use overlay_query::{PackedFound, cheapest};
 use path_unpack::{cheapest_from, least_from, unpack};
 use plain_search::{Found, SearchFault};
 use search_graph::WeightDurLen;
+use search_pool::SearchPool;
 use small_graphs::{
     Drawing, Overlay, RING_OF_EIGHT, RING_OF_TEN, SMALL, WEIGHED, WEIGHED_RING, cut, plain_told,
     starts, targets, walks_told,
@@ -95,10 +96,24 @@ fn cheapest_told(
     requires small { AreSmall road_cost_ops overlay.now.frame.value.graph overlay.now.weights.value }
     requires exact { AreExact road_cost_ops overlay.now.frame.value overlay.now.weights.value overlay.now.cliques.value (length overlay.now.frame.value.cells.levels) }
 {
+    let mut search = Box::new(alloc, Search::new(alloc))?;
+    cheapest_told_by(alloc, overlay, &mut search, from, to)
+}
+
+// The same in the memory of a search.
+fn cheapest_told_by(
+    alloc: Global,
+    overlay: &Overlay,
+    search: &mut Search<WeightDurLen>,
+    from: &str,
+    to: &str,
+) -> Result<String, SearchFault>
+    requires small { AreSmall road_cost_ops overlay.now.frame.value.graph overlay.now.weights.value }
+    requires exact { AreExact road_cost_ops overlay.now.frame.value overlay.now.weights.value overlay.now.cliques.value (length overlay.now.frame.value.cells.levels) }
+{
     let vertices = overlay.frame.graph().vertices();
     let starts = starts(alloc, vertices, from)?;
     let targets = targets(alloc, vertices, to)?;
-    let mut search = Box::new(alloc, Search::new(alloc))?;
     let found = cheapest_from(
         alloc,
         &overlay.frame,
@@ -106,9 +121,26 @@ fn cheapest_told(
         &overlay.cliques,
         &starts,
         &targets,
-        &mut search,
+        search,
     )?;
     Ok(found_told(alloc, &found)?)
+}
+
+// The same in the memory of a search of the pool, to which it is given back.
+fn cheapest_told_in(
+    alloc: Global,
+    overlay: &Overlay,
+    pool: &SearchPool<WeightDurLen>,
+    from: &str,
+    to: &str,
+) -> Result<String, SearchFault>
+    requires small { AreSmall road_cost_ops overlay.now.frame.value.graph overlay.now.weights.value }
+    requires exact { AreExact road_cost_ops overlay.now.frame.value overlay.now.weights.value overlay.now.cliques.value (length overlay.now.frame.value.cells.levels) }
+{
+    let mut search = pool.take(alloc);
+    let told = cheapest_told_by(alloc, overlay, &mut search, from, to);
+    pool.give(search);
+    told
 }
 
 #[test]
@@ -129,6 +161,50 @@ fn the_nearer_of_two_targets_is_the_cheapest(rt: HostRuntime) -> Result<(), Fail
     assert_eq!(rt; none.as_str(), "- ");
     let near = cheapest_told(rt.alloc(), &ring, "4:5/0", "8:2/2 3:2/2 5:2/2")?;
     assert_eq!(rt; near.as_str(), "8/8/2 4 5 ");
+    Ok(())
+}
+
+// One search after the other in the memory of one, over a larger graph, a smaller one and the larger one again: what the
+// one before has found says nothing to the next.
+#[test]
+fn searches_of_a_pool_answer_as_new_ones(rt: HostRuntime) -> Result<(), Fail> {
+    let alloc = rt.alloc();
+    let ten = cut(alloc, &RING_OF_TEN, &[3, 5])?;
+    let eight = cut(alloc, &RING_OF_EIGHT, &[2, 4])?;
+    let pool = SearchPool::with_room(alloc, 1)?;
+    let far = cheapest_told_in(alloc, &ten, &pool, "4:5/0", "3:2/2")?;
+    assert_eq!(rt;
+        far.as_str(),
+        cheapest_told(alloc, &ten, "4:5/0", "3:2/2")?.as_str()
+    );
+    let other = cheapest_told_in(alloc, &eight, &pool, "0:0/0", "5:0/0")?;
+    assert_eq!(rt;
+        other.as_str(),
+        cheapest_told(alloc, &eight, "0:0/0", "5:0/0")?.as_str()
+    );
+    let none = cheapest_told_in(alloc, &ten, &pool, "4:5/0", "8:2/2")?;
+    assert_eq!(rt; none.as_str(), "- ");
+    let near = cheapest_told_in(alloc, &ten, &pool, "4:5/0", "8:2/2 3:2/2 5:2/2")?;
+    assert_eq!(rt; near.as_str(), "8/8/2 4 5 ");
+    Ok(())
+}
+
+// Two are taken at one time of a pool with room for one, and both given back; and none is kept where there is no room.
+#[test]
+fn a_pool_gives_more_searches_than_it_keeps(rt: HostRuntime) -> Result<(), Fail> {
+    let alloc = rt.alloc();
+    let ring = cut(alloc, &RING_OF_TEN, &[3, 5])?;
+    for room in 0..2 {
+        let pool = SearchPool::with_room(alloc, room)?;
+        let mut one = pool.take(alloc);
+        let near = cheapest_told_by(alloc, &ring, &mut one, "4:5/0", "5:2/2")?;
+        assert_eq!(rt; near.as_str(), "8/8/2 4 5 ");
+        let two = pool.take(alloc);
+        pool.give(one);
+        pool.give(two);
+        let again = cheapest_told_in(alloc, &ring, &pool, "4:5/0", "5:2/2")?;
+        assert_eq!(rt; again.as_str(), "8/8/2 4 5 ");
+    }
     Ok(())
 }
 
