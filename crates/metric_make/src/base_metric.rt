@@ -58,11 +58,12 @@ pub fn base(alloc: Global, network: &Network) -> Result<BaseMetric, AllocError>
     ensures value { IfOk result (λ metric. metric ≡ base_of network.now) }
     ensures on { OnOk result (IsMetricOn network.now (base_of network.now).weights) }
 {
-    metric(alloc, network, &[], &[])
+    of_rows(alloc, network, &[], &[])
 }
 
 /// The metric of a network under the rows of a speeds file and of a turns file, in file order, in the ranges that
-/// their readers give. It begins with the profile each time.
+/// their readers give. It begins each time with `base`, the metric of the network by its profile alone: what no row is for
+/// costs what it does there, and where there are no rows of a kind its memory is shared.
 ///
 /// A row of speeds is for each permitted vertex from its one node to its other: its speed counts in place of the
 /// vertex's own, and 0 closes the vertex, which leaves all turns as they are. Where it has a rate, in thousandths of a
@@ -72,6 +73,24 @@ pub fn base(alloc: Global, network: &Network) -> Result<BaseMetric, AllocError>
 /// or turn the last counts alone. A copy of a vertex costs what the vertex does, and an arc of the searched graph what the
 /// turn does for which it stands. It answers an error only where memory runs out.
 pub fn metric(
+    alloc: Global,
+    network: &Network,
+    base: &BaseMetric,
+    speeds: &[SpeedRow],
+    turns: &[TurnRow],
+) -> Result<BaseMetric, AllocError>
+    requires base { base.now ≡ base_of network.now }
+    requires speeds { AreSpeedsInRange speeds.now }
+    requires penalties { ArePenaltiesInRange turns.now }
+    ensures value { IfOk result (λ metric. metric ≡ metric_of network.now speeds.now turns.now) }
+    ensures on { OnOk result (IsMetricOn network.now (metric_of network.now speeds.now turns.now).weights) }
+{
+    let _ = base;
+    of_rows(alloc, network, speeds, turns)
+}
+
+// The metric of a network under these rows.
+fn of_rows(
     alloc: Global,
     network: &Network,
     speeds: &[SpeedRow],
@@ -93,6 +112,16 @@ pub fn metric(
 }
 
 impl BaseMetric {
+    /// A copy, which shares the memory of this one. It answers the error where no more can share it.
+    pub fn copy(&self) -> Result<BaseMetric, AllocError>
+        ensures { IfOk result (λ copy. copy ≡ self.now) }
+    {
+        Ok(BaseMetric {
+            weights: self.weights.copy()?,
+            unmatched: self.unmatched,
+        })
+    }
+
     /// The metric of those who avoid the classes of a set, that of this number among the profile's `excludable`:
     /// each vertex of a way with one of these classes is closed, and so are its copies. All else is as here: turns keep
     /// their costs, whose memory both share, and so the number of exits that they were made by. It takes 8 bytes a

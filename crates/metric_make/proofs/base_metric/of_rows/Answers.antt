@@ -13,7 +13,7 @@ use Rattle.edge_graph.specs.NetworkView.{graph_of, stands, vertices_of}
 use Rattle.road_segments.specs.Laws.{length-vertices}
 use Rattle.metric_make.specs.CopyLaws.{All-with_copies, alike-by_ends, by_ends, length-with_copies}
 use Rattle.metric_make.specs.MetricOf.{AreWithinUnit, IsShort, turn_cost, vertex_cost, with_copies}
-use Rattle.metric_make.proofs.base_metric.metric.Goals as goal
+use Rattle.metric_make.proofs.base_metric.of_rows.Goals as goal
 
 -- there is a cost for each vertex of the network
 pub with_copies-requires : goal.with_copies-requires
