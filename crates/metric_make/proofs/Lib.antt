@@ -3,4 +3,7 @@ mod BearingLemmas
 pub mod CopyLemmas
 pub mod CostLemmas
 pub mod LastRowLemmas
+mod LengthLemmas
 pub mod MatchLemmas
+pub mod MetricLemmas
+pub mod UnderLemmas

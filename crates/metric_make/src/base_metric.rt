@@ -1,17 +1,23 @@
 //! The metric of a network.
 
-ghost use Rattle.std.specs.Prelude.{◌≡◌, ◌<◌, IfOk, OnOk, Some, length};
+ghost use Rattle.std.specs.Prelude.{◌≡◌, ◌<◌, [], List, IfOk, OnOk, Some, length};
 ghost use Rattle.std.specs.List.{slice_get};
 ghost use Rattle.std.specs.Option.{ForSome};
+ghost use Rattle.edge_graph.specs.NetworkView.{graph_of};
 ghost use Rattle.metric_make.specs.Avoiding.{avoided};
 ghost use Rattle.metric_make.specs.MetricOf.{AreWithinUnit, IsMetricOn, IsShort, base_of, metric_of};
 ghost use Rattle.search_graph.specs.RoadCosts.{road_cost_ops};
 ghost use Rattle.traffic_files.specs.Ranges.{ArePenaltiesInRange, AreSpeedsInRange};
+ghost use Rattle.traffic_files.specs.declared.rows.SpeedRow.{SpeedRow};
+ghost use Rattle.traffic_files.specs.declared.rows.TurnRow.{TurnRow};
 
 use crate::avoiding::avoided_costs;
 use crate::copies::{with_arcs_out_of_copies, with_copies};
 use crate::turns::turn_costs;
+use crate::under_speeds::vertices_under;
+use crate::under_turns::arcs_under;
 use crate::vertices::vertex_costs;
+use cost_lists::{CostList, FullCostList};
 use edge_graph::Network;
 use search_graph::{WeightDurLen, Weights, small_weights};
 use std::alloc::{AllocError, Global};
@@ -58,7 +64,9 @@ pub fn base(alloc: Global, network: &Network) -> Result<BaseMetric, AllocError>
     ensures value { IfOk result (λ metric. metric ≡ base_of network.now) }
     ensures on { OnOk result (IsMetricOn network.now (base_of network.now).weights) }
 {
-    of_rows(alloc, network, &[], &[])
+    let vertices = with_copies(network, vertex_costs(alloc, network)?)?;
+    let arcs = with_arcs_out_of_copies(network, turn_costs(alloc, network)?)?;
+    of_costs(alloc, network, vertices, arcs, 0)
 }
 
 /// The metric of a network under the rows of a speeds file and of a turns file, in file order, in the ranges that
@@ -85,29 +93,34 @@ pub fn metric(
     ensures value { IfOk result (λ metric. metric ≡ metric_of network.now speeds.now turns.now) }
     ensures on { OnOk result (IsMetricOn network.now (metric_of network.now speeds.now turns.now).weights) }
 {
-    let _ = base;
-    of_rows(alloc, network, speeds, turns)
+    if turns.is_empty() {
+        return base.under_speeds(alloc, network, speeds);
+    }
+    let profile = base.weights();
+    let vertex = vertices_under(alloc, network, profile, speeds)?;
+    let arc = arcs_under(alloc, network, profile, turns)?;
+    let unmatched = vertex.unmatched + arc.unmatched;
+    of_costs(alloc, network, vertex.costs, arc.costs, unmatched)
 }
 
-// The metric of a network under these rows.
-fn of_rows(
+// The metric of a network by what all vertices and arcs cost, where so many rows matched nothing.
+fn of_costs(
     alloc: Global,
     network: &Network,
-    speeds: &[SpeedRow],
-    turns: &[TurnRow],
+    vertices: CostList<WeightDurLen>,
+    arcs: FullCostList<WeightDurLen>,
+    unmatched: u64,
 ) -> Result<BaseMetric, AllocError>
-    requires speeds { AreSpeedsInRange speeds.now }
-    requires penalties { ArePenaltiesInRange turns.now }
-    ensures value { IfOk result (λ metric. metric ≡ metric_of network.now speeds.now turns.now) }
-    ensures on { OnOk result (IsMetricOn network.now (metric_of network.now speeds.now turns.now).weights) }
+    requires vertices { length vertices ≡ (graph_of network.now).vertices }
+    requires arcs { length arcs ≡ length (graph_of network.now).arcs }
+    requires within { AreWithinUnit (record { vertex = vertices; arc = arcs }) }
+    ensures value { IfOk result (λ metric. metric ≡ record { weights = record { vertex = vertices; arc = arcs }; unmatched = unmatched }) }
+    ensures on { (speeds : List SpeedRow) (turns : List TurnRow) → record { vertex = vertices; arc = arcs } ≡ (metric_of network.now speeds turns).weights → IsMetricOn network.now (metric_of network.now speeds turns).weights }
 {
-    let vertex = vertex_costs(alloc, network, speeds)?;
-    let arc = turn_costs(alloc, network, turns)?;
-    let vertices = with_copies(network, vertex.costs)?;
-    let arcs = with_arcs_out_of_copies(network, arc.costs)?;
+    let graph = network.graph();
     Ok(BaseMetric {
-        weights: small_weights(alloc, network.graph(), vertices, arcs)?,
-        unmatched: vertex.unmatched + arc.unmatched,
+        weights: small_weights(alloc, graph, vertices, arcs)?,
+        unmatched,
     })
 }
 
@@ -119,6 +132,31 @@ impl BaseMetric {
         Ok(BaseMetric {
             weights: self.weights.copy()?,
             unmatched: self.unmatched,
+        })
+    }
+
+    // This metric of the profile alone under the rows of a speeds file: the arcs are shared, and the vertices too where there
+    // are no rows.
+    fn under_speeds(
+        &self,
+        alloc: Global,
+        network: &Network,
+        rows: &[SpeedRow],
+    ) -> Result<BaseMetric, AllocError>
+        requires profile { self.now ≡ base_of network.now }
+        requires in_range { AreSpeedsInRange rows.now }
+        ensures value { IfOk result (λ metric. metric ≡ metric_of network.now rows.now []) }
+        ensures on { OnOk result (IsMetricOn network.now (metric_of network.now rows.now []).weights) }
+    {
+        let profile = self.weights();
+        let _few = network.graph();
+        if rows.is_empty() {
+            return self.copy();
+        }
+        let vertex = vertices_under(alloc, network, profile, rows)?;
+        Ok(BaseMetric {
+            weights: self.weights.with_vertices(alloc, vertex.costs)?,
+            unmatched: vertex.unmatched,
         })
     }
 

@@ -10,6 +10,8 @@ mod last_rows;
 mod speed_rows;
 mod turn_rows;
 mod turns;
+mod under_speeds;
+mod under_turns;
 mod vertices;
 
 pub use base_metric::{BaseMetric, base, metric};

@@ -8,7 +8,7 @@ use Rattle.road_segments.specs.Laws.{length-vertices}
 use Rattle.metric_make.specs.LastRows.{AreMarked, triple_eq}
 use Rattle.metric_make.specs.TrafficRows.{is_turn_over}
 use Rattle.metric_make.proofs.MatchLemmas.{field-at, is_turn_over-more}
-use Rattle.metric_make.proofs.turns.row_for.Goals as goal
+use Rattle.metric_make.proofs.under_turns.row_for.Goals as goal
 
 pub returns-clause-matched : goal.returns-clause-matched
 returns-clause-matched c before marks q entry there =

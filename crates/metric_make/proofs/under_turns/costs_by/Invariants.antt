@@ -4,7 +4,7 @@ use Rattle.metric_make.specs.LastRows.{AreLastTurns, AreMarked, triple_eq}
 use Rattle.metric_make.specs.MetricOf.{turn_cost}
 use Rattle.metric_make.specs.TrafficRows.{is_turn_over}
 use Rattle.search_graph.specs.RoadCosts.{road_cost_ops}
-use Rattle.metric_make.proofs.turns.costs_by.Given as goal
+use Rattle.metric_make.proofs.under_turns.costs_by.Given as goal
 
 -- the turns so far have their costs, and have matched their rows
 abbrev pub invariant-loop-i : goal.invariant-loop-i

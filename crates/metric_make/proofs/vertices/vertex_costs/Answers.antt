@@ -1,17 +1,11 @@
-use Rattle.std.proofs.Common.{◌≡◌, ℕ, ◌+◌, ◌*◌, ◌++◌, ◌∷◌, [], All, List, Option, take, refl, subst, arith}
+use Rattle.std.proofs.Common.{◌≡◌, ◌++◌, ◌∷◌, [], All, List, Option, refl, arith}
 use Rattle.std.proofs.lemmas.List.Elements.{All-push}
 use Rattle.std.specs.Option.{ForSome}
 use Rattle.search_graph.specs.RoadCosts.{road_cost_ops}
 use Rattle.search_graph.specs.declared.costs.WeightDurLen.{WeightDurLen}
-use Rattle.std.proofs.lemmas.List.{take_all}
-use Rattle.road_segments.specs.Laws.{length-vertices}
-use Rattle.edge_graph.specs.NetworkView.{vertices_of}
-use Rattle.road_segments.specs.Vertex.{Vertex}
-use Rattle.metric_make.specs.LastRows.{AreMarked, pair_eq}
 use Rattle.metric_make.specs.MetricOf.{IsShort}
-use Rattle.metric_make.specs.TrafficRows.{is_way}
 use Rattle.metric_make.proofs.CostLemmas.{segment-step}
-use Rattle.metric_make.proofs.vertices.costs_by.Goals as goal
+use Rattle.metric_make.proofs.vertices.vertex_costs.Goals as goal
 
 -- what holds of each cost so far and of two more
 both-pushed : (P : Option WeightDurLen → Type 0) (costs one both : List (Option WeightDurLen)) (first second : Option WeightDurLen) → one ≡ costs ++ first ∷ [] → both ≡ one ++ second ∷ [] → All P costs → P first → P second → All P both
@@ -19,19 +13,9 @@ both-pushed P costs one both first second e f so_far h k = rw (f, e) (All-push P
 
 pub loop-s-preserved : goal.loop-s-preserved
 loop-s-preserved c = record {
-  rest = segment-step c.args.network.now.profile.by_distance c.args.rows.now c.args.network.now.segments c.loop-s.s c.length-decimetres.result c.ends.result.0 c.ends.result.1 c.loop-s.costs c.push-in-loop-s.new.self c.cost.result c.cost-in-loop-s.result _
+  rest = segment-step c.args.network.now.profile.by_distance [] c.args.network.now.segments c.loop-s.s c.length-decimetres.result c.ends.result.0 c.ends.result.1 c.loop-s.costs c.push-in-loop-s.new.self c.cost.result c.cost-in-loop-s.result _
       (omega (arith, c.segments-s-end.ensures.value)) c.ends.ensures c.length-decimetres.ensures.value c.cost.ensures.value c.cost-in-loop-s.ensures.value
       (rw (c.in_ok-push-2.ensures.pushed, c.in_ok-push.ensures.pushed) refl) c.loop-s.invariant.rest;
   unit = both-pushed (λ o. ForSome o (λ x. road_cost_ops.units x 1)) c.loop-s.costs _ _ c.cost.result c.cost-in-loop-s.result c.in_ok-push.ensures.pushed c.in_ok-push-2.ensures.pushed c.loop-s.invariant.unit c.cost.ensures.unit c.cost-in-loop-s.ensures.unit;
   short = both-pushed (λ o. ForSome o IsShort) c.loop-s.costs _ _ c.cost.result c.cost-in-loop-s.result c.in_ok-push.ensures.pushed c.in_ok-push-2.ensures.pushed c.loop-s.invariant.short c.cost.ensures.short c.cost-in-loop-s.ensures.short;
-  rows = c.cost-in-loop-s.ensures.rows;
-  matched =
-      let both : 2 * c.loop-s.s + 1 + 1 ≡ 2 * (c.loop-s.s + 1) = omega arith in
-      subst (λ (n : ℕ). AreMarked pair_eq (λ q. is_way (take n (vertices_of c.args.network.now)) q.0 q.1) c.cost-in-loop-s.new.last) both c.cost-in-loop-s.ensures.matched;
 }
-
-pub returns-clause-matched : goal.returns-clause-matched
-returns-clause-matched c =
-    let vs = vertices_of c.args.network.now in
-    let all : take (2 * c.loop-s.s) vs ≡ vs = take_all (2 * c.loop-s.s) vs (omega (arith, length-vertices c.args.network.now.segments, c.segments-s-end.ensures.value)) in
-    subst (λ (l : List Vertex). AreMarked pair_eq (λ q. is_way l q.0 q.1) c.loop-s.last) all c.loop-s.invariant.matched
