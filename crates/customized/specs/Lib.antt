@@ -1,3 +1,4 @@
 pub mod Exact
 pub mod Excluding
 pub mod Framing
+pub mod Parts

@@ -134,6 +134,13 @@ impl Metric {
         })
     }
 
+    /// The roads that it is a metric of.
+    pub fn roads(&self) -> &Roads
+        ensures { result.now ≡ roads_of self.now }
+    {
+        &self.roads
+    }
+
     /// The network.
     pub fn network(&self) -> &Network
         ensures { result.now ≡ self.now.road.network }

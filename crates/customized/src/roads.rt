@@ -5,12 +5,14 @@ ghost use Rattle.std.specs.List.Sorted.{IsStrictlyIncreasing};
 ghost use Rattle.edge_graph.specs.NetworkView.{graph_of};
 ghost use Rattle.customized.specs.Framing.{IsFrameOf, limits_below, server_limits};
 ghost use Rattle.head_index.specs.ByHead.{AreByHead};
+ghost use Rattle.metric_make.specs.MetricOf.{IsMetricOn, base_of};
 
 use crate::midpoints::midpoints;
 use cell_frame::Frame;
 use cell_partition::{PartitionError, cells};
 use edge_graph::Network;
 use head_index::HeadIndex;
+use metric_make::{BaseMetric, base};
 use search_graph::WeightDurLen;
 use search_pool::SearchPool;
 use std::alloc::{AllocError, Global};
@@ -24,12 +26,14 @@ pub const SERVER_LIMITS: [u32; 5] = [256, 4096, 65536, 1048576, 16777216];
 /// How many searches that have ended are kept with their memory: as many requests that are answered at one time find one.
 const SPARE_SEARCHES: usize = 16;
 
-/// A road network with the frame of its graph, the arcs of that by their heads, and memory for searches of it. Contracts see the
-/// network and the frame.
+/// A road network with the frame of its graph, the arcs of that by their heads, what its vertices and turns cost by the
+/// profile alone, of which the metrics under traffic rows are made, and memory for searches. Contracts see the network and the
+/// frame.
 pub struct Roads {
     network: Arc<Network>,
     frame: Arc<Frame>,
     heads: Arc<HeadIndex>,
+    base: BaseMetric,
     searches: Arc<SearchPool<WeightDurLen>>,
 }
 
@@ -39,6 +43,7 @@ impl Drop for Roads {
             network: _network,
             frame: _frame,
             heads: _heads,
+            base: _base,
             searches: _searches,
         } = self;
     }
@@ -49,14 +54,12 @@ impl Model for Roads {
 
     ghost Value = { RoadsView };
 
-    ghost use Rattle.std.specs.Prelude.{◌≡◌};
     ghost use Rattle.std.specs.Arc.{arc_value};
-    ghost use Rattle.edge_graph.specs.NetworkView.{graph_of};
-    ghost use Rattle.head_index.specs.ByHead.{AreByHead};
+    ghost use Rattle.customized.specs.Parts.{AreRoads};
 
     ghost view = { λ r. record { network = arc_value r.network; frame = arc_value r.frame } };
 
-    ghost invariant = { λ r. ((arc_value r.frame).graph ≡ graph_of (arc_value r.network)) × AreByHead (graph_of (arc_value r.network)) (arc_value r.heads) };
+    ghost invariant = { λ r. AreRoads (arc_value r.network) (arc_value r.frame) (arc_value r.heads) r.base };
 }
 
 impl Roads {
@@ -71,11 +74,13 @@ impl Roads {
     {
         let frame = frame_of(alloc, &network, limits)?;
         let heads = HeadIndex::of(alloc, network.graph())?;
+        let base = base(alloc, &network)?;
         let searches = SearchPool::with_room(alloc, SPARE_SEARCHES)?;
         Ok(Roads {
             network: Arc::new(alloc, network)?,
             frame: Arc::new(alloc, frame)?,
             heads: Arc::new(alloc, heads)?,
+            base,
             searches: Arc::new(alloc, searches)?,
         })
     }
@@ -114,6 +119,14 @@ impl Roads {
         &self.heads
     }
 
+    /// What the vertices and turns of the network cost by the profile alone.
+    pub fn base(&self) -> &BaseMetric
+        ensures value { result.now ≡ base_of self.now.network }
+        ensures on { IsMetricOn self.now.network (base_of self.now.network).weights }
+    {
+        &self.base
+    }
+
     /// Memory for searches of the graph, to be taken and given back. All copies of these roads share it.
     pub fn searches(&self) -> &SearchPool<WeightDurLen> {
         &self.searches
@@ -127,6 +140,7 @@ impl Roads {
             network: Arc::try_clone(&self.network)?,
             frame: Arc::try_clone(&self.frame)?,
             heads: Arc::try_clone(&self.heads)?,
+            base: self.base.copy()?,
             searches: Arc::try_clone(&self.searches)?,
         })
     }
