@@ -22,6 +22,16 @@ pub record RowsRead (speeds_file turns_file : List ℕ) : Type 0 where
   pub speeds_read : SpeedsRead speeds_file (Ok speeds)
   pub turns_read : TurnsRead turns_file (Ok turns)
 
+-- rows of both
+pub record BothRows : Type 0 where
+  pub speeds : List SpeedRow
+  pub turns : List TurnRow
+
+-- these are the rows of the two files
+pub record AreRowsOf (speeds_file turns_file : List ℕ) (rows : BothRows) : Type 0 where
+  pub speeds_read : SpeedsRead speeds_file (Ok rows.speeds)
+  pub turns_read : TurnsRead turns_file (Ok rows.turns)
+
 -- the turns file has a faulty row, the speeds file none
 pub record TurnsFaulty (speeds_file turns_file : List ℕ) (fault : RowFault) : Type 0 where
   pub speeds : List SpeedRow

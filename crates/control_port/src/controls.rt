@@ -1,22 +1,22 @@
 //! Does what control requests ask for.
 
-ghost use Rattle.std.specs.Prelude.{◌≡◌, IfErr, IfOk, OnErr};
+ghost use Rattle.std.specs.Prelude.{◌≡◌, IfOk, OnErr};
 ghost use Rattle.control_port.specs.Asking.{IsBodyOf};
-ghost use Rattle.control_port.specs.Controlling.{FilesGive, IsBaseOf, IsControlled, IsOn, on_board};
-ghost use Rattle.control_port.specs.Judging.{BaseGives, IsFaultIn};
+ghost use Rattle.control_port.specs.Controlling.{FilesGive, IsControlled, IsOn, on_board};
+ghost use Rattle.control_port.specs.Judging.{BaseGives};
 ghost use Rattle.customized.specs.Exact.{Customized, customized_on};
 ghost use Rattle.metric_make.specs.MetricOf.{IsMetricOn};
 
 use crate::asking::ControlHead;
 use crate::controlled::Controlled;
+use crate::rows::base_of_files;
 use customized::{Metric, Roads};
-use edge_graph::Network;
-use metric_make::{BaseMetric, metric};
+use metric_make::BaseMetric;
 use metric_publish::{Publishing, Refused};
 use std::alloc::{AllocError, Global};
 use std::sync::Arc;
 use std::thread::Threads;
-use traffic_files::{TrafficFault, read_speeds, read_turns};
+use traffic_files::TrafficFault;
 
 /// Does what a control request with its body asks for.
 ///
@@ -64,7 +64,7 @@ pub fn publish_files<R: Threads + Sync, P: Publishing<Metric, R>>(
     ensures busy { OnErr result (P.list desk.new ≡ P.list desk.old) }
     ensures kin_stays { (x : Customized) → P.kin desk.old x → P.kin desk.new x }
 {
-    match base_of_files(alloc, roads.network(), speeds, turns) {
+    match base_of_files(alloc, roads, speeds, turns) {
         Ok(base) => publish_base(rt, alloc, desk, roads, base),
         Err(TrafficFault::Row(fault)) => Ok(Controlled::Refused(fault)),
         Err(TrafficFault::Memory) => Err(AllocError),
@@ -114,22 +114,4 @@ fn publish_base<R: Threads + Sync, P: Publishing<Metric, R>>(
         Err(Refused::Spent(_)) => Ok(Controlled::Spent(u32::MAX)),
         Err(Refused::Memory(_)) => Err(AllocError),
     }
-}
-
-/// What the vertices and turns of a network cost under the rows of two traffic files, of which the speeds file is read
-/// first. `Row` is their first faulty row.
-pub fn base_of_files(
-    alloc: Global,
-    network: &Network,
-    speeds: &[u8],
-    turns: &[u8],
-) -> Result<BaseMetric, TrafficFault>
-    ensures base { IfOk result (IsBaseOf network.now speeds.now turns.now) }
-    ensures on { IfOk result (λ base. IsMetricOn network.now base.weights) }
-    ensures fault { IfErr result (IsFaultIn speeds.now turns.now) }
-{
-    let speed_rows = read_speeds(alloc, speeds)?;
-    let turn_rows = read_turns(alloc, turns)?;
-    let base = metric(alloc, network, &speed_rows, &turn_rows)?;
-    Ok(base)
 }
