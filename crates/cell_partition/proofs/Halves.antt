@@ -10,7 +10,7 @@ use Rattle.cell_partition.specs.declared.spot.Spot.{Spot}
 use Rattle.cell_partition.specs.Spots.{comes_before, wider_axis}
 use Rattle.cell_partition.specs.Bounds.{joined, ends, bounds_of, cell_at}
 use Rattle.cell_partition.specs.Halving.{AreHalves, IsHalved, small, large, AreHalved, parts_above, AreLevels}
-use Rattle.cell_partition.proofs.Parts.{joined-append, ends-append, length-le-joined, between_bounds}
+use Rattle.cell_partition.proofs.Bounds.{joined-append, ends-append, length-le-joined, between_bounds}
 
 abbrev pub IsFull : List Spot → Type 0
 IsFull part = 0 < length part
@@ -96,102 +96,7 @@ spread_few whole parts s h =
 pub rest_whole : (half : ℕ) (xs : List Spot) → take (length xs - half) (drop half xs) ≡ drop half xs
 rest_whole half xs = let size : length (drop half xs) ≡ length xs - half = length-drop half xs in take_all (length xs - half) (drop half xs) (omega (arith, size))
 
--- the first half has been written
-pub written_half : (limit start half : ℕ) (along first_new : List Spot) (before between : List ℕ) → half ≤ length along
-    → (parts : List (List Spot)) × IsHalved limit (take half along) parts × (first_new ≡ joined parts) × (between ≡ before ++ ends start parts) → length first_new ≡ half
-written_half limit start half along first_new before between fits (firsts, one, is, bounds) =
-    ap length is ∙ length_permutation (take half along) (joined firsts) (halved_same limit (take half along) firsts one) ∙ length-take-le half along fits
-
--- as much is left for the second
-pub rest_size : (half : ℕ) (first_new spots : List Spot) → length first_new ≡ half → half ≤ length spots
-    → length (take (length (first_new ++ drop half spots) - half) (drop half (first_new ++ drop half spots))) ≡ length spots - half
-rest_size half first_new spots written fits =
-    let long : length (first_new ++ drop half spots) ≡ length first_new + length (drop half spots) = length-append first_new (drop half spots) in
-    ap length (rest_whole half (first_new ++ drop half spots)) ∙ length-drop half (first_new ++ drop half spots) ∙ (let size : length (drop half spots) ≡ length spots - half = length-drop half spots in omega arith)
-
--- the parts of the two halves are those of the whole
-pub halves_joined : (limit start half : ℕ) (part along spots first_new second_new : List Spot) (before between after : List ℕ)
-    → limit < length part → IsPermutation part along → IsSortedBy (comes_before (wider_axis part)) along → length spots ≡ length part → half ≡ length spots - length spots / 2
-    → (parts : List (List Spot)) × IsHalved limit (take half along) parts × (first_new ≡ joined parts) × (between ≡ before ++ ends start parts)
-    → (parts : List (List Spot)) × IsHalved limit (take (length along - half) (drop half along)) parts × (second_new ≡ joined parts) × (after ≡ between ++ ends (start + half) parts)
-    → (parts : List (List Spot)) × IsHalved limit part parts × (put_mid half (length (first_new ++ drop half spots) - half) (first_new ++ drop half spots) second_new ≡ joined parts) × (after ≡ before ++ ends start parts)
-halves_joined limit start half part along spots first_new second_new before between after more same up long is (firsts, one, first_is, first_ends) (seconds, two, second_is, second_ends) =
-    let back : List Spot = drop half spots in
-    let size : length along ≡ length part = length_permutation part along same in
-    let within : half ≤ length along = omega arith in
-    let front : length (take half along) ≡ half = length-take-le half along within in
-    let written : length first_new ≡ half = written_half limit start half along first_new before between within (firsts, one, first_is, first_ends) in
-    let rest : drop half (first_new ++ back) ≡ back = drop_at first_new back half written in
-    let length_back : length back ≡ length spots - half = length-drop half spots in
-    let length_all : length (first_new ++ back) ≡ length first_new + length back = length-append first_new back in
-    let two' : IsHalved limit (drop half along) seconds = subst (λ (xs : List Spot). IsHalved limit xs seconds) (rest_whole half along) two in
-    let both : take half along ++ drop half along ≡ along = take-append-drop half along in
-    let halves : AreHalves part (take half along) (drop half along) = record {
-      same = subst (λ (xs : List Spot). IsPermutation part xs) (sym both) same;
-      in_order = subst (λ (xs : List Spot). IsSortedBy (comes_before (wider_axis part)) xs) (sym both) up;
-      half = omega arith;
-    } in
-    let none : drop (length (first_new ++ back) - half) (drop half (first_new ++ back)) ≡ [] =
-    ap (drop (length (first_new ++ back) - half)) rest ∙ drop_all (length (first_new ++ back) - half) back (omega arith) in
-    let kept : take half (first_new ++ back) ≡ first_new = take_at first_new back half written in
-    let placed : put_mid half (length (first_new ++ back) - half) (first_new ++ back) second_new ≡ first_new ++ (second_new ++ []) =
-    ap (λ xs. xs ++ (second_new ++ drop (length (first_new ++ back) - half) (drop half (first_new ++ back)))) kept ∙ ap (λ xs. first_new ++ (second_new ++ xs)) none in
-    let total : first_new ++ (second_new ++ []) ≡ joined (firsts ++ seconds) =
-    ap (λ xs. first_new ++ xs) (append-nil second_new) ∙ ap (λ xs. xs ++ second_new) first_is ∙ ap (λ xs. joined firsts ++ xs) second_is ∙ sym (joined-append firsts seconds) in
-    let joined_size : start + half ≡ start + length (joined firsts) = omega (arith, ap length first_is) in
-    let bounds : after ≡ before ++ ends start (firsts ++ seconds) =
-    second_ends
-    ∙ ap (λ xs. xs ++ ends (start + half) seconds) first_ends
-    ∙ append_assoc before (ends start firsts) (ends (start + half) seconds)
-    ∙ ap (λ n. before ++ (ends start firsts ++ ends n seconds)) joined_size
-    ∙ ap (λ xs. before ++ xs) (sym (ends-append start firsts seconds)) in
-    (firsts ++ seconds, large part (take half along) (drop half along) firsts seconds more halves one two', placed ∙ total, bounds)
-
--- the parts so far are halved on, and the others stand behind them
-pub each_kept : (limit : ℕ) (parts next : List (List Spot)) (k : ℕ) (old spots : List Spot) → old ≡ joined parts → AreHalved limit (take k parts) next → spots ≡ joined next ++ joined (drop k parts) → IsPermutation old spots
-each_kept limit parts next k old spots is halved spots_are =
-    let split : joined (take k parts) ++ joined (drop k parts) ≡ old = sym (joined-append (take k parts) (drop k parts)) ∙ ap joined (take-append-drop k parts) ∙ sym is in
-    subst (λ (xs : List Spot). IsPermutation xs spots) split
-    (subst (λ (ys : List Spot). IsPermutation (joined (take k parts) ++ joined (drop k parts)) ys) (sym spots_are)
-    (IsPermutation-append (joined (take k parts)) (joined next) (joined (drop k parts)) (joined (drop k parts)) (each_same limit (take k parts) next halved) (IsPermutation-refl (joined (drop k parts)))))
-
-each_push : (limit : ℕ) (parts : List (List Spot)) (part : List Spot) (next more : List (List Spot)) → AreHalved limit parts next → IsHalved limit part more → AreHalved limit (parts ++ part ∷ []) (next ++ more)
+pub each_push : (limit : ℕ) (parts : List (List Spot)) (part : List Spot) (next more : List (List Spot)) → AreHalved limit parts next → IsHalved limit part more → AreHalved limit (parts ++ part ∷ []) (next ++ more)
 each_push limit [] part next more h one = (more, [], ap (λ xs. xs ++ more) h ∙ sym (append-nil more), one, refl)
 each_push limit (other ∷ parts) part next more (first, rest, is, this, others) one =
     (first, rest ++ more, ap (λ xs. xs ++ more) is ∙ append_assoc first rest more, this, each_push limit parts part rest more others one)
-
--- one more part is halved on in its place
-pub each_more : (limit : ℕ) (parts : List (List Spot)) (bounds : List ℕ) (k start end cell : ℕ) (spots new : List Spot) (begun done : List ℕ)
-    → k < length parts → bounds ≡ bounds_of parts → cell ≡ k + 1 → start ≡ get_or bounds k 0 → end ≡ get_or bounds (k + 1) 0
-    → (next : List (List Spot)) × AreHalved limit (take k parts) next × (spots ≡ joined next ++ joined (drop k parts)) × (begun ≡ bounds_of next)
-    → (more : List (List Spot)) × IsHalved limit (take (end - start) (drop start spots)) more × (new ≡ joined more) × (done ≡ begun ++ ends start more)
-    → (next : List (List Spot)) × AreHalved limit (take cell parts) next × (put_mid start (end - start) spots new ≡ joined next ++ joined (drop cell parts)) × (done ≡ bounds_of next)
-each_more limit parts bounds k start end cell spots new begun done h b at s e (next, so_far, spots_is, begun_is) (more, one, new_is, done_is) =
-    let part : List Spot = cell_at parts k in
-    let left : List (List Spot) = drop (k + 1) parts in
-    let place = between_bounds parts bounds (joined parts) k b refl h in
-    let same : length (joined next) ≡ length (joined (take k parts)) = length_permutation (joined (take k parts)) (joined next) (each_same limit (take k parts) next so_far) in
-    let first : length (joined next) ≡ start = omega (arith, place.before) in
-    let size : end - start ≡ length part = omega (arith, place.size) in
-    let split : drop k parts ≡ part ∷ left = drop_more parts k [] h in
-    let laid : spots ≡ joined next ++ (part ++ joined left) = spots_is ∙ ap (λ (ps : List (List Spot)). joined next ++ joined ps) split in
-    let dropped : drop start spots ≡ part ++ joined left = ap (drop start) laid ∙ drop_at (joined next) (part ++ joined left) start first in
-    let this : take (end - start) (drop start spots) ≡ part = ap (take (end - start)) dropped ∙ take_at part (joined left) (end - start) (sym size) in
-    let one' : IsHalved limit part more = subst (λ (xs : List Spot). IsHalved limit xs more) this one in
-    let taken : take cell parts ≡ take k parts ++ part ∷ [] = ap (λ n. take n parts) at ∙ take_more parts k [] h in
-    let halved : AreHalved limit (take cell parts) (next ++ more) = subst (λ (ps : List (List Spot)). AreHalved limit ps (next ++ more)) (sym taken) (each_push limit (take k parts) part next more so_far one') in
-    let front : take start spots ≡ joined next = ap (take start) laid ∙ take_at (joined next) (part ++ joined left) start first in
-    let post : drop (end - start) (drop start spots) ≡ joined left = ap (drop (end - start)) dropped ∙ drop_at part (joined left) (end - start) (sym size) in
-    let placed : put_mid start (end - start) spots new ≡ joined (next ++ more) ++ joined (drop cell parts) =
-    ap (λ xs. xs ++ (new ++ drop (end - start) (drop start spots))) front
-    ∙ ap (λ xs. joined next ++ (new ++ xs)) post
-    ∙ ap (λ xs. joined next ++ (xs ++ joined left)) new_is
-    ∙ sym (append_assoc (joined next) (joined more) (joined left))
-    ∙ ap (λ xs. xs ++ joined left) (sym (joined-append next more))
-    ∙ ap (λ n. joined (next ++ more) ++ joined (drop n parts)) (sym at) in
-    let ended : done ≡ bounds_of (next ++ more) =
-    done_is
-    ∙ ap (λ xs. xs ++ ends start more) begun_is
-    ∙ ap (λ n. (0 ∷ ends 0 next) ++ ends n more) (sym first)
-    ∙ ap (λ xs. 0 ∷ xs) (sym (ends-append 0 next more ∙ ap (λ n. ends 0 next ++ ends n more) (zero-add (length (joined next))))) in
-    (next ++ more, halved, placed, ended)

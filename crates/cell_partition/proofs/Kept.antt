@@ -15,7 +15,7 @@ use Rattle.cell_partition.specs.Bounds.{joined, ends, bounds_of, parts_at}
 use Rattle.cell_partition.specs.Partition.{Partition, number_of, numbers_from, level_at, IsPartition, IsKept, AreNumbered}
 use Rattle.cell_partition.specs.Halving.{IsHalved, AreHalved, AreLevels, parts_above, vertices_of, IsHalvedBy}
 use Rattle.cell_partition.specs.Levels.{cells_of, IsLevel, partition_of, AreKept}
-use Rattle.cell_partition.proofs.Parts.{joined-append, joined-map, parts_at-bounds_of}
+use Rattle.cell_partition.proofs.Bounds.{joined-append, joined-map, parts_at-bounds_of}
 use Rattle.cell_partition.proofs.Numbers.{has, times, has_contains, number_inside, number_member, number_only, number_here, number_later, number-append_inside, number-append_outside, has_joined_at, cases, or_rest}
 use Rattle.cell_partition.specs.Orders.{AreApart}
 use Rattle.cell_partition.proofs.Orders.{apart_permutation}
@@ -245,13 +245,6 @@ cut_none midpoints = record {
 
 pub cut_start : (midpoints : List (ℤ × ℤ)) (limits : List ℕ) (spots : List Spot) (bounds : List ℕ) (kept : List Level) → limits ≡ [] → spots ≡ spots_of midpoints → bounds ≡ 0 ∷ length midpoints ∷ [] → kept ≡ [] → IsCut midpoints limits spots bounds kept
 cut_start midpoints limits spots bounds kept l s b k = rw (l, s, b, k) (cut_none midpoints)
-
--- what halving on asks for
-pub cut_ready : (midpoints : List (ℤ × ℤ)) (limits : List ℕ) (spots : List Spot) (bounds : List ℕ) (kept : List Level) → IsCut midpoints limits spots bounds kept
-    → (spots ≡ joined (parts_at bounds spots)) × (bounds ≡ bounds_of (parts_at bounds spots))
-cut_ready midpoints limits spots bounds kept cut =
-    let is = found (parts_above (spots_of midpoints) cut.parts) bounds spots cut.bounds_are cut.spots_are in
-    (cut.spots_are ∙ ap joined (sym is), cut.bounds_are ∙ ap bounds_of (sym is))
 
 pub cut_length : (midpoints : List (ℤ × ℤ)) (limits : List ℕ) (spots : List Spot) (bounds : List ℕ) (kept : List Level) → All (λ limit. 1 ≤ limit) limits → IsCut midpoints limits spots bounds kept → length spots ≡ length midpoints
 cut_length midpoints limits spots bounds kept some cut =

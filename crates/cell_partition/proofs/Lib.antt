@@ -1,6 +1,7 @@
-pub mod Parts
+pub mod Bounds
 pub mod Numbers
 pub mod Halves
 pub mod Kept
 pub mod Orders
 pub mod Widths
+pub mod InOrder

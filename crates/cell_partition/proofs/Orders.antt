@@ -86,11 +86,6 @@ pub apart_permutation : (xs ys : List Spot) → IsPermutation xs ys → AreApart
 apart_permutation xs ys same apart vertex =
     omega (arith, apart vertex, sum_by-IsPermutation (λ x. cond (eqb vertex x) 1 0) (vertices xs) (vertices ys) (IsPermutation-map (λ (spot : Spot). spot.vertex) xs ys same))
 
-pub apart_between : (start count : ℕ) (spots : List Spot) → AreApart spots → AreApart (take count (drop start spots))
-apart_between start count spots apart =
-    let behind : AreApart (drop start spots) = (apart_append (take start spots) (drop start spots) (subst AreApart (sym (take-append-drop start spots)) apart)).1 in
-    (apart_append (take count (drop start spots)) (drop count (drop start spots)) (subst AreApart (sym (take-append-drop count (drop start spots))) behind)).0
-
 apart_differ : (spots : List Spot) (i j : ℕ) (d : Spot) → AreApart spots → i < j → j < length spots → (get_or spots i d).vertex ≡ (get_or spots j d).vertex → ⊥
 apart_differ [] i j d apart below inside same = omega arith
 apart_differ (x ∷ spots) i zero d apart below inside same = omega arith

@@ -4,3 +4,4 @@ pub mod Partition
 pub mod Halving
 pub mod Levels
 pub mod Orders
+pub mod Parts

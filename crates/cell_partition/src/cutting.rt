@@ -4,9 +4,10 @@ ghost use Rattle.std.specs.List.Sorted.{IsStrictlyIncreasing};
 ghost use Rattle.cell_partition.specs.Partition.{IsKept};
 ghost use Rattle.cell_partition.specs.Halving.{IsHalvedBy};
 
-use crate::halving::{halve_each, spots_of};
+use crate::halving::Halving;
 use crate::level::Level;
 use crate::partition::Cells;
+use crate::parts::Parts;
 use std::alloc::{AllocError, Global};
 use thiserror::Error;
 
@@ -35,15 +36,17 @@ pub fn cells(
     ensures halved { IfOk result (IsHalvedBy midpoints.now limits.now) }
     ensures kept { IfOk result IsKept }
 {
-    let mut numbered = spots_of(alloc, midpoints)?;
-    let spots = numbered.as_mut_slice();
-    let mut bounds = vec![in alloc; 0, midpoints.len() as u32]?;
+    let mut parts = Parts::whole(alloc, midpoints)?;
     let mut levels = Vec::new(alloc);
     let mut rest = limits.len();
     while rest > 0 {
         rest -= 1;
-        bounds = halve_each(alloc, spots, &bounds, limits[rest])?;
-        let level = Level::of(alloc, spots, Vec::from_slice(alloc, &bounds)?)?;
+        let halving = Halving {
+            alloc,
+            limit: limits[rest],
+        };
+        parts = halving.halved(parts)?;
+        let level = Level::of(alloc, &parts.along, Vec::from_slice(alloc, &parts.bounds)?)?;
         levels.insert(0, level)?;
     }
     Ok(Cells {

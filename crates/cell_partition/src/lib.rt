@@ -3,10 +3,10 @@
 //! It is the first stage of Customizable Route Planning (Delling, Goldberg, Pajor
 //! and Werneck): no weights, only places. Vertices are halved along the wider axis
 //! until parts hold at most the highest limit; these are the cells of the highest
-//! level, and each is halved on for the level below. For each level a part is sorted
-//! once along each axis, and its halves keep both orders. How good the cells are for
-//! queries is not claimed; that they nest and that each vertex has one cell in each
-//! level is. The halving rule is this project's own.
+//! level, and each is halved on for the level below. Before the first cut the vertices
+//! are sorted once along each axis, and each half keeps both orders, from level to level.
+//! How good the cells are for queries is not claimed; that they nest and that each vertex
+//! has one cell in each level is. The halving rule is this project's own.
 #![tactic(auto)]
 
 mod cutting;
@@ -15,6 +15,8 @@ mod level;
 mod numbering;
 mod part;
 mod partition;
+mod parts;
+mod sorting;
 mod spot;
 
 pub use cutting::{PartitionError, cells};

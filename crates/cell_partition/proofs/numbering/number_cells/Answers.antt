@@ -3,7 +3,7 @@ use Rattle.std.specs.List.{list_any}
 use Rattle.std.proofs.lemmas.List.{drop_all}
 use Rattle.cell_partition.specs.Bounds.{joined}
 use Rattle.cell_partition.specs.Partition.{number_of}
-use Rattle.cell_partition.proofs.Parts.{between_bounds, length-bounds}
+use Rattle.cell_partition.proofs.Bounds.{between_bounds, length-bounds}
 use Rattle.cell_partition.proofs.Numbers.{numbered_more}
 use Rattle.cell_partition.proofs.numbering.number_cells.Goals as goal
 

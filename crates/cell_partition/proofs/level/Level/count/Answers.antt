@@ -1,6 +1,6 @@
 use Rattle.std.proofs.Common.{arith}
 use Rattle.cell_partition.specs.Levels.{cells_of}
-use Rattle.cell_partition.proofs.Parts.{length-bounds}
+use Rattle.cell_partition.proofs.Bounds.{length-bounds}
 use Rattle.cell_partition.proofs.level.Level.count.Goals as goal
 
 pub overflow_cast-result : goal.overflow_cast-result

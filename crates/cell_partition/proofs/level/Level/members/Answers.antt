@@ -1,6 +1,6 @@
 use Rattle.std.proofs.Common.{◌∙◌, arith}
 use Rattle.cell_partition.specs.Levels.{cells_of}
-use Rattle.cell_partition.proofs.Parts.{between_bounds, length-bounds}
+use Rattle.cell_partition.proofs.Bounds.{between_bounds, length-bounds}
 use Rattle.cell_partition.proofs.level.Level.members.Goals as goal
 
 pub bounds-bounds-cell : goal.bounds-bounds-cell

@@ -1,6 +1,6 @@
 use Rattle.std.proofs.Common.{◌≡◌, ◌++◌, drop}
 use Rattle.cell_partition.specs.Spots.{spots_from, spots_of}
-use Rattle.cell_partition.proofs.halving.spots_of.Given as goal
+use Rattle.cell_partition.proofs.sorting.spots_of.Given as goal
 
 -- the spots so far and those to come
 abbrev pub invariant-loop-vertex : goal.invariant-loop-vertex
