@@ -1,6 +1,6 @@
 -- What a run to serve begins with, put together from its parts.
 use Rattle.std.proofs.Common.{◌≡◌, inl, inr, ℕ, List, [], ◌∷◌, ◌++◌, Option, None, Some, Result, Ok, Err, IfErr, IfOk, refl, subst, sym}
-use Rattle.control_port.specs.Controlling.{IsBaseOf}
+use Rattle.control_port.specs.Controlling.{AreRowsOf, BothRows}
 use Rattle.command_words.specs.Commands.{Serving}
 use Rattle.customized.specs.Exact.{Customized, customized_on}
 use Rattle.customized.specs.Framing.{RoadsView}
@@ -9,7 +9,7 @@ use Rattle.map_loading.specs.LoadCause.{IsLoadFault}
 use Rattle.map_loading.specs.Loading.{load_of}
 use Rattle.map_loading.specs.declared.loading.LoadFault.{LoadFault}
 use Rattle.map_loading.specs.declared.loading.LoadFault.TheVariants as load
-use Rattle.metric_make.specs.MetricOf.{MetricView}
+use Rattle.metric_make.specs.MetricOf.{MetricView, metric_of}
 use Rattle.metric_publish.specs.History.{entry}
 use Rattle.program_ends.specs.FileReads.{AreRead, FileBytes, IsBare, IsLeft, listed, named, names_of}
 use Rattle.program_ends.specs.ReadLaws.{left_before, left_then, read_then}
@@ -56,11 +56,14 @@ left_turns first one two last words map settings speeds name fault read more lef
     (left_then first two last (both words map settings ++ named words.speeds speeds) (listed words.turns) name fault
     (read_then first one two (both words map settings) (named words.speeds speeds) read more) left)
 
-pub first_metric : (roads : RoadsView) (network : NetworkView) (speeds turns : List ℕ) (base : MetricView) (metric : Customized)
-    → roads.network ≡ network → IsBaseOf network speeds turns base → metric ≡ customized_on roads base → IsFirstMetric roads speeds turns metric
-first_metric roads network speeds turns base metric of made is = record {
+pub first_metric : (roads : RoadsView) (speeds turns : List ℕ) (rows : BothRows) (base : MetricView) (metric : Customized)
+    → AreRowsOf speeds turns rows → base ≡ metric_of roads.network rows.speeds rows.turns → metric ≡ customized_on roads base → IsFirstMetric roads speeds turns metric
+first_metric roads speeds turns rows base metric read made is = record {
   base = base;
-  made = subst (λ (n : NetworkView). IsBaseOf n speeds turns base) (sym of) made;
+  made = record {
+    rows = record { speeds = rows.speeds; turns = rows.turns; speeds_read = read.speeds_read; turns_read = read.turns_read };
+    made = made;
+  };
   metric_is = is;
 }
 

@@ -4,9 +4,8 @@ ghost use Rattle.std.specs.Prelude.{◌≡◌, ◌∷◌, [], ◌++◌, codes, I
 ghost use Rattle.std.specs.Arc.{arc_value};
 ghost use Rattle.std.specs.Fmt.{decimal};
 ghost use Rattle.command_words.specs.Commands.{serving_seen};
-ghost use Rattle.control_port.specs.Controlling.{IsBaseOf, IsOn};
+ghost use Rattle.control_port.specs.Controlling.{AreRowsOf, IsOn};
 ghost use Rattle.map_loading.specs.Loading.{load_of};
-ghost use Rattle.metric_make.specs.MetricOf.{IsMetricOn};
 ghost use Rattle.metric_publish.specs.History.{entry};
 ghost use Rattle.program_ends.specs.FileReads.{IsLeft};
 ghost use Rattle.serve_command.specs.InnerEnds.{IsFirstMetric, IsRowFault, IsStartFault};
@@ -14,11 +13,10 @@ ghost use Rattle.serve_command.specs.Start.{IsOpening, IsStartRead, names_in, ro
 ghost use Rattle.snap_index.specs.Ends.{all_ends};
 
 use command_words::ServeWords;
-use control_port::{base_of_files, file_text, kind_text};
+use control_port::{TrafficRows, base_of_rows, file_text, kind_text, rows_of_files};
 use customized::{Metric, Roads};
 use edge_graph::Network;
 use map_loading::{LoadFault, load};
-use metric_make::BaseMetric;
 use program_ends::{Unread, read_both, read_named};
 use road_base::Text;
 use road_io::Files;
@@ -71,19 +69,13 @@ fn row_refusal(alloc: Global, fault: RowFault) -> Result<Text, AllocError>
     Ok(Text::of(format!(in alloc; "{file} row {row} {kind}\n")?))
 }
 
-// What the vertices and turns of a network cost under the rows of the start.
-fn start_costs(
-    alloc: Global,
-    network: &Network,
-    speeds: &[u8],
-    turns: &[u8],
-) -> Result<BaseMetric, LoadFault>
-    ensures base { IfOk result (IsBaseOf network.now speeds.now turns.now) }
-    ensures on { IfOk result (λ base. IsMetricOn network.now base.weights) }
+// The rows of the start, or why there are none.
+fn start_rows(alloc: Global, speeds: &[u8], turns: &[u8]) -> Result<TrafficRows, LoadFault>
+    ensures rows { IfOk result (λ rows. AreRowsOf speeds.now turns.now rows) }
     ensures fault { IfErr result (IsRowFault speeds.now turns.now) }
 {
-    match base_of_files(alloc, network, speeds, turns) {
-        Ok(base) => Ok(base),
+    match rows_of_files(alloc, speeds, turns) {
+        Ok(rows) => Ok(rows),
         Err(TrafficFault::Row(fault)) => Err(LoadFault::Refused(row_refusal(alloc, fault)?)),
         Err(TrafficFault::Memory) => Err(LoadFault::Memory),
     }
@@ -118,8 +110,9 @@ fn start_of<R: Threads + Sync>(
     ensures on { IfOk result (λ s. IsOn s.roads (arc_value s.metric)) }
     ensures fault { IfErr result (IsRowFault speeds.now turns.now) }
 {
-    let base = start_costs(alloc, &network, speeds, turns)?;
+    let rows = start_rows(alloc, speeds, turns)?;
     let roads = Roads::for_server(alloc, network)?;
+    let base = base_of_rows(alloc, &roads, rows)?;
     let grid = Grid::of(alloc, roads.network())?;
     let metric = Metric::make(rt, alloc, &roads, base)?;
     let metric = shared(alloc, metric)?;
