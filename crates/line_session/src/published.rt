@@ -8,7 +8,6 @@ ghost use Rattle.line_session.specs.Publication.{IsReplyLine, opening};
 use control_port::{BodyRoom, publish_files};
 use customized::{Metric, Roads};
 use edge_graph::Network;
-use metric_make::base;
 use metric_publish::LocalBoard;
 use reply_core::{ReplyFault, line_answer};
 use road_base::Text;
@@ -53,7 +52,7 @@ impl Published {
         ensures { IfOk result (λ p. p ≡ opening network) }
     {
         let roads = Roads::for_server(alloc, network)?;
-        let base = base(alloc, roads.network())?;
+        let base = roads.base().copy()?;
         let grid = Grid::of(alloc, roads.network())?;
         let metric = Metric::make(rt, alloc, &roads, base)?;
         let board = LocalBoard::of(alloc, Arc::new(alloc, metric)?, 0)?;

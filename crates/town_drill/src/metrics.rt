@@ -120,6 +120,6 @@ pub(crate) fn metric_of(
     ensures { IfOk result (λ m. m ≡ customized_on roads.now (metric_of roads.now.network (speed_rows n number) [])) }
 {
     let rows = speed_rows(alloc, n, number)?;
-    let base = metric(alloc, roads.network(), &rows, &[])?;
+    let base = metric(alloc, roads.network(), roads.base(), &rows, &[])?;
     Metric::make(rt, alloc, roads, base)
 }
