@@ -8,7 +8,6 @@ ghost use Rattle.cell_frame.specs.Borders.{IsCell, at_cell};
 use cell_frame::Cell;
 use cost_texts::{row_told, vertices_told};
 use customized::{Metric, Roads, Under};
-use metric_make::base;
 use small_towns::{CAR, bend, network_of, to_and_fro};
 use std::alloc::{AllocError, Global};
 use std::process::Abort;
@@ -70,7 +69,7 @@ pub fn boxed_metric(
     alloc: Global,
     roads: &Roads,
 ) -> Result<Box<Metric>, AllocError> {
-    let base = base(alloc, roads.network())?;
+    let base = roads.base().copy()?;
     let metric = Metric::make(rt, alloc, roads, base)?;
     Ok(Box::new(alloc, metric)?)
 }

@@ -7,7 +7,6 @@ use crate::cells::{boxed_metric, boxed_roads, told};
 use crate::remaking::boxed_remade;
 use cost_texts::cost_told;
 use customized::{Metric, Roads, Under};
-use metric_make::base;
 use std::alloc::{AllocError, Global};
 use std::process::Abort;
 use std::thread::Threads;
@@ -96,7 +95,7 @@ fn metric_of_avoiding(
     roads: &Roads,
 ) -> Result<Box<Metric>, AllocError> {
     assert_eq!(rt; roads.network().profile().excludable().len(), 1);
-    let avoiding = base(alloc, roads.network())?.avoid(alloc, roads.network(), 0)?;
+    let avoiding = roads.base().avoid(alloc, roads.network(), 0)?;
     let metric = Metric::make(rt, alloc, roads, avoiding)?;
     Ok(Box::new(alloc, metric)?)
 }

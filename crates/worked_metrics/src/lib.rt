@@ -12,3 +12,5 @@ mod metrics;
 mod refusals;
 #[cfg(test)]
 mod remaking;
+#[cfg(test)]
+mod under_rows;

@@ -3,6 +3,7 @@
 ghost use Rattle.std.specs.Prelude.{◌≡◌, length};
 ghost use Rattle.edge_graph.specs.NetworkView.{graph_of};
 
+use crate::cells::boxed_roads;
 use control_port::base_of_files;
 use cost_texts::cost_told;
 use edge_graph::Network;
@@ -116,13 +117,11 @@ fn assert_under_rows(
     want: &str,
 ) -> Result<(), AllocError> {
     let map = bend(alloc, "")?;
-    let Ok(network) = network_of(alloc, map.as_str(), settings) else {
+    let roads = boxed_roads(alloc, map.as_str(), settings, &[2])?;
+    let Ok(metric) = base_of_files(alloc, &roads, speeds.as_bytes(), turns.as_bytes()) else {
         return Err(AllocError);
     };
-    let Ok(metric) = base_of_files(alloc, &network, speeds.as_bytes(), turns.as_bytes()) else {
-        return Err(AllocError);
-    };
-    let got = told(alloc, &network, &metric)?;
+    let got = told(alloc, roads.network(), &metric)?;
     assert_eq!(rt; got.as_str(), want);
     Ok(())
 }

@@ -18,7 +18,7 @@ pub fn boxed_remade(
     speeds: &[u8],
     turns: &[u8],
 ) -> Result<Box<Remade>, AllocError> {
-    let Ok(base) = base_of_files(alloc, old.network(), speeds, turns) else {
+    let Ok(base) = base_of_files(alloc, old.roads(), speeds, turns) else {
         return Err(AllocError);
     };
     let remade = Metric::remake(rt, alloc, old, base)?;

@@ -288,7 +288,7 @@ fn held_on(
     let Ok(rows) = read_speeds(alloc, speeds) else {
         return Err(AllocError);
     };
-    let base = metric(alloc, roads.network(), &rows, &[])?;
+    let base = metric(alloc, roads.network(), roads.base(), &rows, &[])?;
     let metric = Metric::make(rt, alloc, roads, base)?;
     held_of(alloc, Arc::new(alloc, metric)?, number)
 }

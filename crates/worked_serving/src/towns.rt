@@ -10,7 +10,6 @@ ghost use Rattle.snap_index.specs.Ends.{all_ends};
 
 use customized::{Metric, Roads};
 use edge_graph::Network;
-use metric_make::base;
 use metric_publish::{Kindred, LocalBoard};
 use opl_read::read;
 use road_base::Object;
@@ -68,7 +67,7 @@ pub fn first_metric(
 ) -> Result<Arc<Metric>, AllocError>
     ensures { IfOk result (λ metric. IsOn roads.now (arc_value metric)) }
 {
-    let base = base(alloc, roads.network())?;
+    let base = roads.base().copy()?;
     Ok(Arc::new(alloc, Metric::make(rt, alloc, roads, base)?)?)
 }
 
