@@ -5,7 +5,7 @@ ghost use Rattle.std.specs.Prelude.{◌≡◌, ℕ, ◌+◌, ◌*◌, ◌^◌, �
 ghost use Rattle.std.specs.List.{slice_get};
 ghost use Rattle.std.specs.Option.{ForSome};
 ghost use Rattle.edge_graph.specs.NetworkView.{vertices_of};
-ghost use Rattle.metric_make.specs.LastRows.{AreLastSpeeds, AreMarked, pair_eq};
+ghost use Rattle.metric_make.specs.LastRows.{AreSpeedsTold};
 ghost use Rattle.metric_make.specs.MetricOf.{AreWithinUnit, IsShort, cost_under, vertex_cost, with_copies};
 ghost use Rattle.metric_make.specs.TrafficRows.{is_way, speed_for};
 ghost use Rattle.road_segments.specs.Vertex.{Vertex};
@@ -13,7 +13,7 @@ ghost use Rattle.search_graph.specs.RoadCosts.{road_cost_ops};
 ghost use Rattle.traffic_files.specs.Ranges.{AreSpeedsInRange, IsSpeedInRange};
 
 use crate::copies::with_copies;
-use crate::speed_rows::{LastSpeeds, last_speeds, matching_speed, unmatched_speeds};
+use crate::speed_rows::{LastSpeeds, last_speeds, matching_speed};
 use crate::vertices::cost_of;
 use cost_lists::CostList;
 use edge_graph::Network;
@@ -31,12 +31,11 @@ pub(crate) struct VertexCosts {
 // The row for a permitted vertex, which is matched from now on.
 fn row_for(network: &Network, rows: &[SpeedRow], last: &mut LastSpeeds, v: u32) -> Option<SpeedRow>
     requires vertex { v < 2 * length network.now.segments }
-    requires rows { AreLastSpeeds rows.now last.old }
+    requires told { AreSpeedsTold rows.now (λ q. is_way (take v (vertices_of network.now)) q.0 q.1) last.old }
     ensures row { (x : Vertex) → slice_get (vertices_of network.now) v ≡ Some x → result ≡ speed_for rows.now x.tail x.head }
-    ensures rows { AreLastSpeeds rows.now last.new }
-    ensures matched { (x : Vertex) → slice_get (vertices_of network.now) v ≡ Some x → x.permitted ≡ true → AreMarked pair_eq (λ q. is_way (take v (vertices_of network.now)) q.0 q.1) last.old → AreMarked pair_eq (λ q. is_way (take (v + 1) (vertices_of network.now)) q.0 q.1) last.new }
+    ensures told { (x : Vertex) → slice_get (vertices_of network.now) v ≡ Some x → x.permitted ≡ true → AreSpeedsTold rows.now (λ q. is_way (take (v + 1) (vertices_of network.now)) q.0 q.1) last.new }
 {
-    if last.is_empty() {
+    if rows.is_empty() {
         return None;
     }
     matching_speed(rows, last, network.tail(v), network.head(v))
@@ -70,13 +69,11 @@ fn cost(
     requires profile { option_map (vertex_cost network.now.profile.by_distance []) (slice_get (vertices_of network.now) v) ≡ Some by_profile }
     requires unit { ForSome by_profile (λ x. road_cost_ops.units x 1) }
     requires short { ForSome by_profile IsShort }
-    requires rows { AreLastSpeeds rows.now last.old }
-    requires matched { AreMarked pair_eq (λ q. is_way (take v (vertices_of network.now)) q.0 q.1) last.old }
+    requires told { AreSpeedsTold rows.now (λ q. is_way (take v (vertices_of network.now)) q.0 q.1) last.old }
     ensures value { option_map (vertex_cost network.now.profile.by_distance rows.now) (slice_get (vertices_of network.now) v) ≡ Some result }
     ensures unit { ForSome result (λ x. road_cost_ops.units x 1) }
     ensures short { ForSome result IsShort }
-    ensures rows { AreLastSpeeds rows.now last.new }
-    ensures matched { AreMarked pair_eq (λ q. is_way (take (v + 1) (vertices_of network.now)) q.0 q.1) last.new }
+    ensures told { AreSpeedsTold rows.now (λ q. is_way (take (v + 1) (vertices_of network.now)) q.0 q.1) last.new }
 {
     let cost = by_profile?;
     match row_for(network, rows, last, v) {
@@ -96,13 +93,11 @@ fn costs_by(
     requires profile { profile.now.vertex ≡ with_copies network.now (map (vertex_cost network.now.profile.by_distance []) (vertices_of network.now)) }
     requires within { AreWithinUnit profile.now }
     requires in_range { AreSpeedsInRange rows.now }
-    requires rows { AreLastSpeeds rows.now last.old }
-    requires matched { AreMarked pair_eq (λ q. false) last.old }
+    requires told { AreSpeedsTold rows.now (λ q. false) last.old }
     ensures value { IfOk result (λ costs. costs ≡ map (vertex_cost network.now.profile.by_distance rows.now) (vertices_of network.now)) }
     ensures unit { IfOk result (λ costs. All (λ o. ForSome o (λ x. road_cost_ops.units x 1)) costs) }
     ensures short { IfOk result (λ costs. All (λ o. ForSome o IsShort) costs) }
-    ensures rows { OnOk result (AreLastSpeeds rows.now last.new) }
-    ensures matched { OnOk result (AreMarked pair_eq (λ q. is_way (vertices_of network.now) q.0 q.1) last.new) }
+    ensures told { OnOk result (AreSpeedsTold rows.now (λ q. is_way (vertices_of network.now) q.0 q.1) last.new) }
 {
     let mut costs = CostList::with_capacity(alloc, network.graph().vertices() as usize)?;
     for v in 0..2 * network.segments() {
@@ -128,7 +123,7 @@ pub(crate) fn vertices_under(
 {
     let mut last = last_speeds(alloc, rows)?;
     let ordinary = costs_by(alloc, network, profile, rows, &mut last)?;
-    let unmatched = unmatched_speeds(rows, &last);
+    let unmatched = last.unmatched;
     let costs = with_copies(network, ordinary)?;
     Ok(VertexCosts { costs, unmatched })
 }

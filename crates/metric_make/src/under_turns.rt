@@ -4,14 +4,14 @@
 ghost use Rattle.std.specs.Prelude.{◌≡◌, ℕ, ◌*◌, ◌<◌, ◌++◌, ◌∷◌, [], List, IfOk, OnOk, Some, None, All, length, map, false, not, count_by};
 ghost use Rattle.std.specs.List.{slice_get};
 ghost use Rattle.edge_graph.specs.NetworkView.{graph_of, vertices_of};
-ghost use Rattle.metric_make.specs.LastRows.{AreLastTurns, AreMarked, triple_eq};
+ghost use Rattle.metric_make.specs.LastRows.{AreTurnsTold};
 ghost use Rattle.metric_make.specs.MetricOf.{arc_cost, turn_cost, turn_cost_of, turn_cost_under};
 ghost use Rattle.metric_make.specs.TrafficRows.{is_turn_over};
 ghost use Rattle.metric_make.specs.TurnParts.{row_at};
 ghost use Rattle.search_graph.specs.RoadCosts.{road_cost_ops};
 
 use crate::copies::{turn_at, with_arcs_out_of_copies};
-use crate::turn_rows::{LastTurns, last_turns, matching_turn, unmatched_turns};
+use crate::turn_rows::{LastTurns, last_turns, matching_turn};
 use crate::turns::turn_cost_of;
 use cost_lists::FullCostList;
 use edge_graph::Network;
@@ -36,14 +36,10 @@ fn row_for(
 ) -> Option<TurnRow>
     requires from { from < 2 * length network.now.segments }
     requires to { to < 2 * length network.now.segments }
-    requires rows { AreLastTurns rows.now last.old }
+    requires told { (before : List (ℕ × ℕ)) × AreTurnsTold rows.now (λ q. is_turn_over (vertices_of network.now) before q.0 q.1 q.2) last.old }
     ensures row { result ≡ row_at rows.now (slice_get (vertices_of network.now) from) (slice_get (vertices_of network.now) to) }
-    ensures rows { AreLastTurns rows.now last.new }
-    ensures matched { (before : List (ℕ × ℕ)) → AreMarked triple_eq (λ q. is_turn_over (vertices_of network.now) before q.0 q.1 q.2) last.old → AreMarked triple_eq (λ q. is_turn_over (vertices_of network.now) (before ++ (from, to) ∷ []) q.0 q.1 q.2) last.new }
+    ensures told { (before : List (ℕ × ℕ)) → AreTurnsTold rows.now (λ q. is_turn_over (vertices_of network.now) before q.0 q.1 q.2) last.old → AreTurnsTold rows.now (λ q. is_turn_over (vertices_of network.now) (before ++ (from, to) ∷ []) q.0 q.1 q.2) last.new }
 {
-    if last.is_empty() {
-        return None;
-    }
     let (tail, via) = (network.tail(from), network.head(from));
     matching_turn(rows, last, tail, via, network.head(to))
 }
@@ -70,12 +66,10 @@ fn costs_by(
 ) -> Result<FullCostList<WeightDurLen>, AllocError>
     requires profile { profile.now.arc ≡ map (arc_cost network.now []) (graph_of network.now).arcs }
     requires unit { All (λ a. road_cost_ops.units a 1) profile.now.arc }
-    requires rows { AreLastTurns rows.now last.old }
-    requires matched { AreMarked triple_eq (λ q. false) last.old }
+    requires told { AreTurnsTold rows.now (λ q. false) last.old }
     ensures value { IfOk result (λ costs. costs ≡ map (turn_cost network.now rows.now) network.now.turns) }
     ensures unit { IfOk result (λ costs. All (λ a. road_cost_ops.units a 1) costs) }
-    ensures rows { OnOk result (AreLastTurns rows.now last.new) }
-    ensures matched { OnOk result (AreMarked triple_eq (λ q. is_turn_over (vertices_of network.now) network.now.turns q.0 q.1 q.2) last.new) }
+    ensures told { OnOk result (AreTurnsTold rows.now (λ q. is_turn_over (vertices_of network.now) network.now.turns q.0 q.1 q.2) last.new) }
 {
     let by_distance = network.profile().by_distance();
     let graph = network.graph();
@@ -103,7 +97,7 @@ pub(crate) fn arcs_under(
 {
     let mut last = last_turns(alloc, rows)?;
     let turns = costs_by(alloc, network, profile, rows, &mut last)?;
-    let unmatched = unmatched_turns(rows, &last);
+    let unmatched = last.unmatched;
     let costs = with_arcs_out_of_copies(network, turns)?;
     Ok(TurnCosts { costs, unmatched })
 }

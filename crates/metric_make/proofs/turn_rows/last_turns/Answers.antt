@@ -1,13 +1,30 @@
-use Rattle.std.proofs.Common.{◌≡◌, ℤ, cond, false, None, Some, get_or, pos, ◌∙◌, refl, ap, rules, FitsSigned, w64}
+-- A row more is the last one for its nodes, and one more for them.
+use Rattle.std.proofs.Common.{◌≡◌, ℤ, ◌≤◌, cond, None, Some, List, get_or, length, take, pos, ◌∙◌, ap, arith, rules, FitsSigned, w64}
+use Rattle.std.specs.Prelude.{count_by}
 use Rattle.std.specs.HashMap.{get}
-use Rattle.std.specs.Ordering.{int_eq}
-use Rattle.std.specs.Prelude.{◌&&◌}
+use Rattle.std.specs.List.{slice_get}
 use Rattle.std.proofs.lemmas.Int.{to_z-of_z}
+use Rattle.std.proofs.lemmas.List.{length-take, take_all}
+use Rattle.std.proofs.lemmas.List.Sums.{count_by-le-length}
 use Rattle.std.proofs.lemmas.Option.{slice_get-get_or}
-use Rattle.metric_make.specs.LastRows.{triple_eq}
-use Rattle.metric_make.proofs.LastRowLemmas.{AreMarked-push, row_in-push}
+use Rattle.metric_make.specs.LastRows.{added, triple_eq, waiting}
+use Rattle.metric_make.specs.TrafficRows.{last_where}
+use Rattle.metric_make.proofs.LastRowLemmas.{counted-push, last-push, told-begun, triple_eq-itself, triple_eq-same}
 use Rattle.traffic_files.specs.declared.rows.TurnRow.{TurnRow}
 use Rattle.metric_make.proofs.turn_rows.last_turns.Goals as goal
+
+pub add_row-requires-clause-few : goal.add_row-requires-clause-few
+add_row-requires-clause-few c =
+    let rows = c.args.rows.now in
+    let i = c.loop-i.i in
+    let none : TurnRow = record { from = pos 0; via = pos 0; to = pos 0; penalty = 0; weight = None } in
+    let row : TurnRow = get_or rows i none in
+    let from_fits : FitsSigned w64 (get_or rows i none).from = search rules in
+    let via_fits : FitsSigned w64 (get_or rows i none).via = search rules in
+    let to_fits : FitsSigned w64 (get_or rows i none).to = search rules in
+    let bound : waiting (get triple_eq c.loop-i.entries (row.from, row.via, row.to)) ≤ c.loop-i.i =
+    omega (arith, c.loop-i.invariant.counted (row.from, row.via, row.to), count_by-le-length (λ r. triple_eq (r.from, r.via, r.to) (row.from, row.via, row.to)) (take i rows), length-take i rows) in
+    simp (to_z-of_z, from_fits, via_fits, to_fits) bound
 
 pub loop-i-preserved : goal.loop-i-preserved
 loop-i-preserved c =
@@ -18,10 +35,19 @@ loop-i-preserved c =
     let from_fits : FitsSigned w64 (get_or rows i none).from = search rules in
     let via_fits : FitsSigned w64 (get_or rows i none).via = search rules in
     let to_fits : FitsSigned w64 (get_or rows i none).to = search rules in
-    let updates : (q : ℤ × ℤ × ℤ) → get triple_eq c.insert.new.self q ≡ cond (triple_eq (row.from, row.via, row.to) q) (Some (record { row = i; matched = false })) (get triple_eq c.loop-i.last q) =
-    λ q. simp (to_z-of_z, from_fits, via_fits, to_fits) at (c.in_ok-insert.ensures.updates.0 q) ∙ ap (λ e. cond (triple_eq (row.from, row.via, row.to) q) (Some e) (get triple_eq c.loop-i.last q)) c.unmatched.ensures in
+    let updates : (q : ℤ × ℤ × ℤ) → get triple_eq c.add_row.new.entries q ≡ cond (triple_eq (row.from, row.via, row.to) q) (Some (added i (get triple_eq c.loop-i.entries (row.from, row.via, row.to)))) (get triple_eq c.loop-i.entries q) =
+    λ q. simp (to_z-of_z, from_fits, via_fits, to_fits) at (c.in_ok-add_row.ensures q) in
+    let here : slice_get rows i ≡ Some row = slice_get-get_or rows i none (omega arith) in
     record {
-      rows = λ from via to. row_in-push rows i row (λ r. (int_eq r.from from && int_eq r.via via) && int_eq r.to to) (get triple_eq c.loop-i.last (from, via, to)) (get triple_eq c.insert.new.self (from, via, to)) (triple_eq (row.from, row.via, row.to) (from, via, to))
-          (slice_get-get_or rows i none c.loop-i-test.true) refl (updates (from, via, to)) (c.loop-i.invariant.rows from via to);
-      unmatched = AreMarked-push triple_eq c.loop-i.last c.insert.new.self (row.from, row.via, row.to) i updates c.loop-i.invariant.unmatched;
+      last = last-push triple_eq triple_eq-same triple_eq-itself (λ r. (r.from, r.via, r.to)) rows c.loop-i.entries c.add_row.new.entries i row here updates c.loop-i.invariant.last;
+      counted = counted-push triple_eq triple_eq-same triple_eq-itself (λ r. (r.from, r.via, r.to)) rows c.loop-i.entries c.add_row.new.entries i row here updates c.loop-i.invariant.counted;
     }
+
+pub returns : goal.returns
+returns c =
+    let rows = c.args.rows.now in
+    let all : c.from.result ≡ length c.args.rows.now = c.from.ensures ∙ c.in_ok-count.ensures in
+    let whole : take c.loop-i.i rows ≡ rows = take_all c.loop-i.i rows (omega (arith, c.loop-i-test.false, c.in_ok-count.ensures)) in
+    told-begun triple_eq triple_eq-same triple_eq-itself (λ r. (r.from, r.via, r.to)) rows c.loop-i.entries c.from.result all
+    (λ q. c.loop-i.invariant.last q ∙ ap (λ (l : List TurnRow). last_where (λ r. triple_eq (r.from, r.via, r.to) q) l) whole)
+    (λ q. c.loop-i.invariant.counted q ∙ ap (λ (l : List TurnRow). count_by (λ r. triple_eq (r.from, r.via, r.to) q) l) whole)

@@ -13,7 +13,7 @@ use Rattle.road_segments.specs.Vertex.{Vertex}
 use Rattle.search_graph.specs.RoadCosts.{road_cost_ops}
 use Rattle.search_graph.specs.declared.costs.WeightDurLen.{WeightDurLen}
 use Rattle.metric_make.specs.CopyLaws.{length-with_copies}
-use Rattle.metric_make.specs.LastRows.{AreMarked, pair_eq}
+use Rattle.metric_make.specs.LastRows.{AreSpeedsTold}
 use Rattle.metric_make.specs.MetricOf.{IsShort, vertex_cost}
 use Rattle.metric_make.specs.TrafficRows.{is_way}
 use Rattle.metric_make.proofs.UnderLemmas.{profile-read}
@@ -46,8 +46,7 @@ loop-v-preserved c =
       paid = c.in_ok-push.ensures.pushed ∙ ap (λ (l : List (Option WeightDurLen)). l ++ c.cost.result ∷ []) c.loop-v.invariant.paid ∙ sym (take-get (map f vs) v c.cost.result own);
       unit = rw c.in_ok-push.ensures.pushed (All-push (λ o. ForSome o (λ x. road_cost_ops.units x 1)) c.loop-v.costs c.cost.result c.loop-v.invariant.unit c.cost.ensures.unit);
       short = rw c.in_ok-push.ensures.pushed (All-push (λ o. ForSome o IsShort) c.loop-v.costs c.cost.result c.loop-v.invariant.short c.cost.ensures.short);
-      rows = c.cost.ensures.rows;
-      matched = c.cost.ensures.matched;
+      told = c.cost.ensures.told;
     }
 
 pub returns-clause-value : goal.returns-clause-value
@@ -57,8 +56,8 @@ returns-clause-value c =
     let all : length (map f vs) ≤ c.loop-v.v = omega (arith, length-map vs f, length-vertices c.args.network.now.segments, c.segments-v-end.ensures.value, c.loop-v-test.false) in
     c.loop-v.invariant.paid ∙ take_all c.loop-v.v (map f vs) all
 
-pub returns-clause-matched : goal.returns-clause-matched
-returns-clause-matched c =
+pub returns-clause-told : goal.returns-clause-told
+returns-clause-told c =
     let vs = vertices_of c.args.network.now in
     let all : take c.loop-v.v vs ≡ vs = take_all c.loop-v.v vs (omega (arith, length-vertices c.args.network.now.segments, c.segments-v-end.ensures.value, c.loop-v-test.false)) in
-    subst (λ (l : List Vertex). AreMarked pair_eq (λ q. is_way l q.0 q.1) c.loop-v.last) all c.loop-v.invariant.matched
+    subst (λ (l : List Vertex). AreSpeedsTold c.args.rows.now (λ q. is_way l q.0 q.1) c.loop-v.last) all c.loop-v.invariant.told

@@ -1,7 +1,7 @@
 use Rattle.std.proofs.Common.{◌≡◌, All, map, take}
 use Rattle.std.specs.Option.{ForSome}
 use Rattle.edge_graph.specs.NetworkView.{vertices_of}
-use Rattle.metric_make.specs.LastRows.{AreLastSpeeds, AreMarked, pair_eq}
+use Rattle.metric_make.specs.LastRows.{AreSpeedsTold}
 use Rattle.metric_make.specs.MetricOf.{IsShort, vertex_cost}
 use Rattle.metric_make.specs.TrafficRows.{is_way}
 use Rattle.search_graph.specs.RoadCosts.{road_cost_ops}
@@ -13,6 +13,5 @@ invariant-loop-v l = record {
   paid : l.costs ≡ take l.v (map (vertex_cost l.network.profile.by_distance l.rows) (vertices_of l.network));
   unit : All (λ o. ForSome o (λ x. road_cost_ops.units x 1)) l.costs;
   short : All (λ o. ForSome o IsShort) l.costs;
-  rows : AreLastSpeeds l.rows l.last;
-  matched : AreMarked pair_eq (λ q. is_way (take l.v (vertices_of l.network)) q.0 q.1) l.last;
+  told : AreSpeedsTold l.rows (λ q. is_way (take l.v (vertices_of l.network)) q.0 q.1) l.last;
 }

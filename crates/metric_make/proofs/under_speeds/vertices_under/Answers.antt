@@ -7,7 +7,6 @@ use Rattle.road_segments.specs.Laws.{length-vertices}
 use Rattle.search_graph.specs.RoadCosts.{road_cost_ops}
 use Rattle.metric_make.specs.CopyLaws.{All-with_copies}
 use Rattle.metric_make.specs.MetricOf.{IsShort, vertex_cost}
-use Rattle.metric_make.specs.TrafficRows.{is_way}
 use Rattle.metric_make.proofs.under_speeds.vertices_under.Goals as goal
 
 -- there is a cost for each vertex of the network
@@ -26,4 +25,4 @@ returns-clause-short c =
     rw c.in_ok-costs.ensures (All-with_copies c.args.network.now (λ o. ForSome o IsShort) (λ x e. absurd (none-some x e)) c.in_ok-ordinary.ordinary c.in_ok-ordinary.ensures.short)
 
 pub returns-clause-unmatched : goal.returns-clause-unmatched
-returns-clause-unmatched c = c.unmatched_speeds-unmatched.ensures (λ q. is_way (vertices_of c.args.network.now) q.0 q.1) c.in_ok-ordinary.ensures.matched
+returns-clause-unmatched c = c.in_ok-ordinary.ensures.told.total

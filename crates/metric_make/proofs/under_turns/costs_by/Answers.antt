@@ -9,7 +9,7 @@ use Rattle.search_graph.specs.declared.costs.WeightDurLen.{WeightDurLen}
 use Rattle.road_segments.specs.Laws.{length-vertices}
 use Rattle.edge_graph.specs.GraphLaws.{turns-in-graph}
 use Rattle.edge_graph.specs.NetworkView.{graph_of, vertices_of}
-use Rattle.metric_make.specs.LastRows.{AreMarked, triple_eq}
+use Rattle.metric_make.specs.LastRows.{AreTurnsTold}
 use Rattle.metric_make.specs.MetricOf.{arc_cost, turn_cost, turn_cost_of, turn_cost_under}
 use Rattle.metric_make.specs.TrafficRows.{is_turn_over}
 use Rattle.metric_make.proofs.CostLemmas.{turn-step}
@@ -49,14 +49,16 @@ loop-i-preserved c =
       rest = turn-step (turn_cost network c.args.rows.now) turns c.loop-i.i from to c.loop-i.costs c.push.new.self c.cost_under.result _
           at cost c.in_ok-push.ensures.pushed c.loop-i.invariant.rest;
       unit = rw c.in_ok-push.ensures.pushed (All-push (λ a. road_cost_ops.units a 1) c.loop-i.costs c.cost_under.result c.loop-i.invariant.unit c.cost_under.ensures.unit);
-      rows = c.row_for-row.ensures.rows;
-      matched =
-          subst (λ (l : List (ℕ × ℕ)). AreMarked triple_eq (λ q. is_turn_over vs l q.0 q.1 q.2) c.row_for-row.new.last) (sym (take-push {A = ℕ × ℕ} turns c.loop-i.i (from, to) at))
-          (c.row_for-row.ensures.matched (take c.loop-i.i turns) c.loop-i.invariant.matched);
+      told =
+          subst (λ (l : List (ℕ × ℕ)). AreTurnsTold c.args.rows.now (λ q. is_turn_over vs l q.0 q.1 q.2) c.row_for-row.new.last) (sym (take-push {A = ℕ × ℕ} turns c.loop-i.i (from, to) at))
+          (c.row_for-row.ensures.told (take c.loop-i.i turns) c.loop-i.invariant.told);
     }
 
-pub returns-clause-matched : goal.returns-clause-matched
-returns-clause-matched c =
+pub returns-clause-told : goal.returns-clause-told
+returns-clause-told c =
     let turns = c.args.network.now.turns in
     let all : take c.loop-i.i c.args.network.now.turns ≡ c.args.network.now.turns = take_all {A = ℕ × ℕ} c.loop-i.i c.args.network.now.turns (omega (arith, c.loop-i-test.false, c.turns-i-end.ensures.value)) in
-    subst (λ (l : List (ℕ × ℕ)). AreMarked triple_eq (λ q. is_turn_over (vertices_of c.args.network.now) l q.0 q.1 q.2) c.loop-i.last) all c.loop-i.invariant.matched
+    subst (λ (l : List (ℕ × ℕ)). AreTurnsTold c.args.rows.now (λ q. is_turn_over (vertices_of c.args.network.now) l q.0 q.1 q.2) c.loop-i.last) all c.loop-i.invariant.told
+
+pub row_for-row-requires-clause-told : goal.row_for-row-requires-clause-told
+row_for-row-requires-clause-told c = (take c.loop-i.i c.args.network.now.turns, c.loop-i.invariant.told)
