@@ -21,6 +21,7 @@ use road_base::Place;
 use road_places::{Route, starts, targets};
 use search_graph::{Start, Target, WeightDurLen};
 use std::alloc::{AllocError, Global};
+use step_search::Search;
 
 /// Where a walk from a place may start: each is a vertex of the network and of the frame, and costs at most one unit.
 pub(crate) fn starts_from(
@@ -70,22 +71,37 @@ pub(crate) fn over_graph(
     requires targets { (t : _) → Contains targets.now t → (t.vertex < under.now.frame.graph.vertices) × road_cost_ops.units t.cost 1 }
     ensures { IfOk result (IsCheapest road_cost_ops (graph_of under.now.road.network) under.now.road.weights starts.now targets.now) }
 {
+    let searches = under.searches();
+    let mut search = searches.take(alloc);
+    let found = found_by(alloc, under, starts, targets, &mut search);
+    searches.give(search);
+    found
+}
+
+// The same in the memory of a search.
+fn found_by(
+    alloc: Global,
+    under: &Under<'_>,
+    starts: &[Start<WeightDurLen>],
+    targets: &[Target<WeightDurLen>],
+    search: &mut Search<WeightDurLen>,
+) -> Result<Option<Found<WeightDurLen>>, AllocError>
+    requires starts { (s : _) → Contains starts.now s → (s.vertex < under.now.frame.graph.vertices) × road_cost_ops.units s.cost 1 }
+    requires targets { (t : _) → Contains targets.now t → (t.vertex < under.now.frame.graph.vertices) × road_cost_ops.units t.cost 1 }
+    ensures { IfOk result (IsCheapest road_cost_ops (graph_of under.now.road.network) under.now.road.weights starts.now targets.now) }
+{
     let frame = under.frame();
     let base = under.base();
     let cliques = under.cliques();
-    let searches = under.searches();
-    let mut search = searches.take(alloc);
-    let found = cheapest_from(
+    match cheapest_from(
         alloc,
         frame,
         base.weights(),
         cliques,
         starts,
         targets,
-        &mut search,
-    );
-    searches.give(search);
-    match found {
+        search,
+    ) {
         Ok(found) => Ok(found),
         Err(SearchFault::Memory) => Err(AllocError),
     }

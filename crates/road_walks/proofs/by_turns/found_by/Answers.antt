@@ -7,7 +7,7 @@ use Rattle.path_unpack.specs.Cheapest.{IsCheapest}
 use Rattle.cell_frame.specs.Borders.{Framed}
 use Rattle.cell_frame.specs.Cliqued.{AreExact}
 use Rattle.edge_graph.specs.NetworkView.{graph_of}
-use Rattle.road_walks.proofs.by_turns.over_graph.Goals as goal
+use Rattle.road_walks.proofs.by_turns.found_by.Goals as goal
 
 -- the costs are small for the frame's graph, which is the network's
 pub cheapest_from-requires-clause-weights : goal.cheapest_from-requires-clause-weights
