@@ -6,7 +6,7 @@
 //!
 //! The search is Dijkstra's (E. W. Dijkstra, "A note on two problems in connexion with graphs", 1959), which
 //! `step_search` has proved over any steps; here its steps are the arcs of a graph. A query's time and memory
-//! follow the pages of vertices that it touches, with 4 bytes for each 16 vertices of the graph beside them.
+//! follow the vertices that it touches, with 4 bytes for each vertex of the graph beside them.
 #![tactic(auto)]
 
 mod along;

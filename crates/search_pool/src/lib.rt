@@ -1,6 +1,6 @@
 //! Memory of searches that have ended, in which others begin.
 //!
-//! A search takes memory for what it touches, a list of pages for the vertices of its graph among it. A server that makes one for
+//! A search takes memory for what it touches, a table of the vertices of its graph among it. A server that makes one for
 //! each request lays all this anew each time; with a [`SearchPool`] it takes one that has ended, begins anew in its memory
 //! (`Search::restart`), and gives it back.
 #![tactic(auto)]
