@@ -2,7 +2,8 @@
 //! page is made when one of its vertices is first labelled.
 
 ghost use Rattle.std.specs.Prelude.{◌≡◌, ◌⊎◌, ℕ, [], true, false, Some, None, IfSome, IfNone, OnOk};
-ghost use Rattle.search_labels.specs.Labelled.{label_of, settled_of, changed};
+ghost use Rattle.std.specs.Bool.{OnTrue, OnFalse};
+ghost use Rattle.search_labels.specs.Labelled.{label_of, settled_of, changed, LabelWithin, Improves};
 ghost use Rattle.search_labels.specs.Worded.{read_label};
 
 use crate::pages::Pages;
@@ -96,6 +97,18 @@ impl<C: Cost> Labels<C> {
                 cost,
                 self.others.as_slice(),
             )),
+        }
+    }
+
+    /// Whether `v` has a label that costs no more than `cost`. Where both have ranks, these are compared.
+    #[inline(always)]
+    pub fn is_within(&self, v: u32, cost: C) -> bool
+        ensures yes { OnTrue result (LabelWithin C.ops (label_of self.now) v cost) }
+        ensures no { OnFalse result (Improves C.ops (label_of self.now) v cost) }
+    {
+        match self.label(v) {
+            Some(label) => !cost.cmp(&label.cost).is_lt(),
+            None => false,
         }
     }
 
