@@ -1,3 +1,3 @@
-mod Paged
 mod Rewritten
+mod Slotted
 mod Wording

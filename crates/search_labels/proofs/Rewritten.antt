@@ -2,7 +2,7 @@
 use Rattle.std.proofs.Common.{◌≡◌, ◌⊎◌, ℕ, inl, inr, Bool, true, false, cond, nat_eq, List, Option, Some, None, IfSome, IfNone, refl, sym, ◌∙◌, ap}
 use Rattle.search_labels.specs.Labelled.{label_in, settled_in, label_of, settled_of, changed}
 use Rattle.search_labels.specs.ChangedLaws.{same_place, changed-here, changed-there}
-use Rattle.search_labels.specs.Paged.{slot_at}
+use Rattle.search_labels.specs.Slotted.{slot_at}
 use Rattle.search_labels.specs.declared.labels.Label.{Label}
 use Rattle.search_labels.specs.declared.labels.Slot.{Slot}
 use Rattle.search_labels.specs.declared.labels.Slot.TheVariants.{Labelled, Settled}
@@ -23,45 +23,36 @@ changed_same f v y e u = elim (same_place v u) [
   | inr k ↦ changed-there f v y u k
 ]
 
--- pages that come and keep all slots, of which that of v is then written
-module _ {C : Type 0} (old more written : List (List (Slot C))) (same : slot_at more ≡ slot_at old) (v : ℕ) (slot : Slot C) (change : slot_at written ≡ changed (slot_at more) v slot) where
-  written_is : slot_at written ≡ changed (slot_at old) v slot
-  written_is = change ∙ ap (λ (f : ℕ → Slot C). changed f v slot) same
+-- the slot of v is written
+module _ {C : Type 0} (old new : List (Slot C)) (v : ℕ) (slot : Slot C) (change : slot_at new ≡ changed (slot_at old) v slot) where
+  pub label_written : label_of new ≡ changed (label_of old) v (label_in slot)
+  label_written = λ i u. read_changed label_in (slot_at old) (slot_at new) v slot change u i
 
-  pub label_written : label_of written ≡ changed (label_of old) v (label_in slot)
-  label_written = λ i u. read_changed label_in (slot_at old) (slot_at written) v slot written_is u i
+  pub settled_written : settled_of new ≡ changed (settled_of old) v (settled_in slot)
+  settled_written = λ i u. read_changed settled_in (slot_at old) (slot_at new) v slot change u i
 
-  pub settled_written : settled_of written ≡ changed (settled_of old) v (settled_in slot)
-  settled_written = λ i u. read_changed settled_in (slot_at old) (slot_at written) v slot written_is u i
-
-  pub label_stays : label_of old v ≡ label_in slot → label_of written ≡ label_of old
+  pub label_stays : label_of old v ≡ label_in slot → label_of new ≡ label_of old
   label_stays e = label_written ∙ (λ i u. changed_same (label_of old) v (label_in slot) e u i)
 
-  pub settled_stays : settled_of old v ≡ settled_in slot → settled_of written ≡ settled_of old
+  pub settled_stays : settled_of old v ≡ settled_in slot → settled_of new ≡ settled_of old
   settled_stays e = settled_written ∙ (λ i u. changed_same (settled_of old) v (settled_in slot) e u i)
 
--- the slot of v is settled where it has a label and isn't settled: the pages are more before, which have the slots of old, and new after
-module _ {C : Type 0} (old more new : List (List (Slot C))) (same : slot_at more ≡ slot_at old) (v : ℕ) where
+-- the slot of v is settled where it has a label and isn't settled
+module _ {C : Type 0} (old new : List (Slot C)) (v : ℕ) where
   abbrev pub IsSettled : Option (Label C) → Type 0
-  IsSettled o = IfSome o (λ l. (slot_at more v ≡ Labelled l.node l.cost) × (slot_at new ≡ changed (slot_at more) v (Settled l.node l.cost)))
+  IsSettled o = IfSome o (λ l. (slot_at old v ≡ Labelled l.node l.cost) × (slot_at new ≡ changed (slot_at old) v (Settled l.node l.cost)))
 
   abbrev pub IsLeft : Option (Label C) → Type 0
-  IsLeft o = IfNone o ((slot_at new ≡ slot_at more) × ((settled_in (slot_at more v) ≡ true) ⊎ (label_in (slot_at more v) ≡ None)))
-
-  here : slot_at old v ≡ slot_at more v
-  here = ap (λ (f : ℕ → Slot C). f v) (sym same)
+  IsLeft o = IfNone o ((slot_at new ≡ slot_at old) × ((settled_in (slot_at old v) ≡ true) ⊎ (label_in (slot_at old v) ≡ None)))
 
   pub settling_label : (o : Option (Label C)) → IsSettled o → IsLeft o → label_of new ≡ label_of old
-  settling_label (Some l) s n = label_stays old more new same v (Settled l.node l.cost) s.1 (ap label_in (here ∙ s.0))
-  settling_label None s n = ap (λ (f : ℕ → Slot C). λ (u : ℕ). label_in (f u)) (n.0 ∙ same)
+  settling_label (Some l) s n = label_stays old new v (Settled l.node l.cost) s.1 (ap label_in s.0)
+  settling_label None s n = ap (λ (f : ℕ → Slot C). λ (u : ℕ). label_in (f u)) n.0
 
   pub settling_some : (o : Option (Label C)) → IsSettled o → IfSome o (λ l. (label_of old v ≡ Some l) × (settled_of old v ≡ false) × (settled_of new ≡ changed (settled_of old) v true))
-  settling_some (Some l) s = (ap label_in (here ∙ s.0), ap settled_in (here ∙ s.0), settled_written old more new same v (Settled l.node l.cost) s.1)
+  settling_some (Some l) s = (ap label_in s.0, ap settled_in s.0, settled_written old new v (Settled l.node l.cost) s.1)
   settling_some None s = s
 
   pub settling_none : (o : Option (Label C)) → IsLeft o → IfNone o ((settled_of new ≡ settled_of old) × ((settled_of old v ≡ true) ⊎ (label_of old v ≡ None)))
   settling_none (Some l) n = n
-  settling_none None n = (
-    ap (λ (f : ℕ → Slot C). λ (u : ℕ). settled_in (f u)) (n.0 ∙ same),
-    elim n.1 [ inl e ↦ inl (ap settled_in here ∙ e) | inr e ↦ inr (ap label_in here ∙ e) ],
-  )
+  settling_none None n = (ap (λ (f : ℕ → Slot C). λ (u : ℕ). settled_in (f u)) n.0, n.1)

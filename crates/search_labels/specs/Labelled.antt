@@ -1,8 +1,8 @@
--- What is known of each vertex, as two functions of it: its label, if it has one, and whether it is settled. They are read of the pages of slots that the labels are.
+-- What is known of each vertex, as two functions of it: its label, if it has one, and whether it is settled. They are read of the slots that the labels are.
 use Rattle.std.specs.Prelude.{◌≡◌, ℕ, Bool, true, false, cond, nat_eq, List, Option, Some, None}
 use Rattle.std.specs.declared.cmp.Ordering.TheVariants.{Less}
 use Rattle.search_graph.specs.Costs.{CostOps, NoDearer}
-use Rattle.search_labels.specs.Paged.{slot_at}
+use Rattle.search_labels.specs.Slotted.{slot_at}
 use Rattle.search_labels.specs.declared.labels.Label.{Label}
 use Rattle.search_labels.specs.declared.labels.Slot.{Slot}
 use Rattle.search_labels.specs.declared.labels.Slot.TheVariants.{Untouched, Labelled, Settled}
@@ -20,11 +20,11 @@ settled_in (Labelled node cost) = false
 settled_in (Settled node cost) = true
 
 -- the label of the vertex v
-abbrev pub label_of : {C : Type 0} → List (List (Slot C)) → ℕ → Option (Label C)
+abbrev pub label_of : {C : Type 0} → List (Slot C) → ℕ → Option (Label C)
 label_of s v = label_in (slot_at s v)
 
 -- whether the vertex v is settled
-abbrev pub settled_of : {C : Type 0} → List (List (Slot C)) → ℕ → Bool
+abbrev pub settled_of : {C : Type 0} → List (Slot C) → ℕ → Bool
 settled_of s v = settled_in (slot_at s v)
 
 -- f, but y at v

@@ -1,4 +1,4 @@
 pub mod Labelled
 pub mod ChangedLaws
-pub mod Paged
+pub mod Slotted
 pub mod Worded

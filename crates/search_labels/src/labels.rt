@@ -1,13 +1,13 @@
-//! The labels of the vertices that a search has come to. They stand on pages of neighbouring vertices, and a
-//! page is made when one of its vertices is first labelled.
+//! The labels of the vertices that a search has come to. They stand in slots, and a slot is made when its vertex is first
+//! labelled.
 
 ghost use Rattle.std.specs.Prelude.{◌≡◌, ◌⊎◌, ℕ, [], true, false, Some, None, IfSome, IfNone, OnOk};
 ghost use Rattle.std.specs.Bool.{OnTrue, OnFalse};
 ghost use Rattle.search_labels.specs.Labelled.{label_of, settled_of, changed, LabelWithin, Improves};
 ghost use Rattle.search_labels.specs.Worded.{read_label};
 
-use crate::pages::Pages;
-use crate::words::{cost_of, word_of};
+use crate::slots::Slots;
+use crate::words::{cost_of, is_within, word_of};
 use search_graph::Cost;
 use std::alloc::{AllocError, Global};
 use std::marker::Model;
@@ -34,7 +34,7 @@ const _: () = prove!(size_of::<Slot<u64>>() == 16);
 /// The labels by vertex. In place of a cost a slot has its rank, or its place among those that have
 /// none.
 pub struct Labels<C: Cost> {
-    pages: Pages<u64>,
+    slots: Slots<u64>,
     // the costs without a rank, in the order in which they were put
     others: Vec<C>,
 }
@@ -42,7 +42,7 @@ pub struct Labels<C: Cost> {
 impl<C: Cost> Drop for Labels<C> {
     fn drop(self) {
         let Labels {
-            pages: _pages,
+            slots: _slots,
             others: _others,
         } = self;
     }
@@ -51,13 +51,13 @@ impl<C: Cost> Drop for Labels<C> {
 impl<C: Cost> Model for Labels<C> {
     ghost use Rattle.std.specs.Prelude.{List};
     ghost use Rattle.search_labels.specs.declared.labels.Slot.{Slot};
-    ghost use Rattle.search_labels.specs.Worded.{AreWorded, read_pages};
+    ghost use Rattle.search_labels.specs.Worded.{AreWorded, read_slots};
 
-    ghost Value = { List (List (Slot C)) };
+    ghost Value = { List (Slot C) };
 
-    ghost view = { λ s. read_pages C.unranked s.others.items s.pages };
+    ghost view = { λ s. read_slots C.unranked s.others.items s.slots };
 
-    ghost invariant = { λ s. AreWorded s.others.items s.pages };
+    ghost invariant = { λ s. AreWorded C.ranked C.unranked s.others.items s.slots };
 }
 
 impl<C: Cost> Labels<C> {
@@ -66,7 +66,7 @@ impl<C: Cost> Labels<C> {
         ensures { result ≡ [] }
     {
         Labels {
-            pages: Pages::new(alloc),
+            slots: Slots::new(alloc),
             others: Vec::new(alloc),
         }
     }
@@ -76,7 +76,7 @@ impl<C: Cost> Labels<C> {
         ensures label { (v : ℕ) → label_of self.new v ≡ None }
         ensures settled { (v : ℕ) → settled_of self.new v ≡ false }
     {
-        self.pages.clear();
+        self.slots.clear();
         self.others.clear();
     }
 
@@ -85,7 +85,7 @@ impl<C: Cost> Labels<C> {
     pub fn label(&self, v: u32) -> Option<Label<C>>
         ensures { result ≡ label_of self.now v }
     {
-        match self.pages.read(v) {
+        match self.slots.read(v) {
             Slot::Untouched => None,
             Slot::Labelled { node, cost } => Some(labelled(
                 node as usize,
@@ -106,9 +106,10 @@ impl<C: Cost> Labels<C> {
         ensures yes { OnTrue result (LabelWithin C.ops (label_of self.now) v cost) }
         ensures no { OnFalse result (Improves C.ops (label_of self.now) v cost) }
     {
-        match self.label(v) {
-            Some(label) => !cost.cmp(&label.cost).is_lt(),
-            None => false,
+        match self.slots.read(v) {
+            Slot::Untouched => false,
+            Slot::Labelled { cost: word, .. } => is_within(word, cost, self.others.as_slice()),
+            Slot::Settled { cost: word, .. } => is_within(word, cost, self.others.as_slice()),
         }
     }
 
@@ -116,7 +117,7 @@ impl<C: Cost> Labels<C> {
     pub fn is_settled(&self, v: u32) -> bool
         ensures { result ≡ settled_of self.now v }
     {
-        match self.pages.read(v) {
+        match self.slots.read(v) {
             Slot::Untouched => false,
             Slot::Labelled { .. } => false,
             Slot::Settled { .. } => true,
@@ -125,6 +126,7 @@ impl<C: Cost> Labels<C> {
 
     /// Gives `v`, which isn't settled, a label in place of the one that it had. A node past 2^32 - 1 is
     /// answered by the error, as where memory runs out.
+    #[inline(always)]
     pub fn put(&mut self, v: u32, label: Label<C>) -> Result<(), AllocError>
         requires { settled_of self.old v ≡ false }
         ensures label { OnOk result (label_of self.new ≡ changed (label_of self.old) v (Some label)) }
@@ -133,9 +135,8 @@ impl<C: Cost> Labels<C> {
         let Ok(node) = u32::try_from(label.node) else {
             return Err(AllocError);
         };
-        self.pages.ensure(v)?;
         let cost = word_of(label.cost, &mut self.others)?;
-        self.pages.write(v, Slot::Labelled { node, cost });
+        self.slots.put(v, Slot::Labelled { node, cost })?;
         Ok(())
     }
 
@@ -147,7 +148,7 @@ impl<C: Cost> Labels<C> {
         ensures some { IfSome result (λ l. (label_of self.old v ≡ Some l) × (settled_of self.old v ≡ false) × (settled_of self.new ≡ changed (settled_of self.old) v true)) }
         ensures none { IfNone result ((settled_of self.new ≡ settled_of self.old) × ((settled_of self.old v ≡ true) ⊎ (label_of self.old v ≡ None))) }
     {
-        let label = self.pages.settle(v)?;
+        let label = self.slots.settle(v)?;
         Some(labelled(label.node, label.cost, self.others.as_slice()))
     }
 }
