@@ -8,6 +8,7 @@ use Rattle.search_graph.specs.declared.ends.Start.{Start}
 use Rattle.step_search.specs.Spaces.{Space, IsSpace}
 use Rattle.step_search.specs.Paths.{AreStarts}
 use Rattle.search_labels.specs.Labelled.{changed, label_of, settled_of}
+use Rattle.row_labels.specs.Rowed.{value_of}
 use Rattle.search_labels.specs.ChangedLaws.{same_place, changed-here, changed-there}
 use Rattle.step_search.specs.Progress.{HasNode, IsNode, IsTree, Expanded, NodesExpanded, StartsIn, IsFront, AreBounds}
 use Rattle.step_search.specs.Stepping.{IsFresh, IsTaken, PutsNode, Begins, FewerOpen, node_of, one_if_open, open_below, start_node}
@@ -60,7 +61,7 @@ module _ {C : Type 0} {ops : CostOps C} (laws : CostLaws ops) (S : Space C) (sta
         }
 
     -- once a vertex is settled the search is still under way
-    pub settled_under_way : Expanded ops S (label_of new.labels) v l.cost → AreBounds ops S (label_of new.labels) new.rows.rows → IsUnderWay ops S starts new
+    pub settled_under_way : Expanded ops S (label_of new.labels) v l.cost → AreBounds ops S (label_of new.labels) (value_of new.rows.rows) → IsUnderWay ops S starts new
     settled_under_way opened rows = record {
       space = taken.space;
       fit = fit;
@@ -88,7 +89,7 @@ module _ {C : Type 0} {ops : CostOps C} (laws : CostLaws ops) (S : Space C) (sta
     }
 
     -- once the search has begun at one start more it has begun at all of these
-    pub begun_more : AreBounds ops S (label_of new.labels) new.rows.rows → IsBegun ops S starts (done ++ s ∷ []) new
+    pub begun_more : AreBounds ops S (label_of new.labels) (value_of new.rows.rows) → IsBegun ops S starts (done ++ s ∷ []) new
     begun_more rows = elim begins.grows [
       | inl h ↦ record {
         space = begun.space;
@@ -149,5 +150,5 @@ module _ {C : Type 0} (ops : CostOps C) (S : Space C) (starts : List (Start C)) 
     };
     expanded = record { each = λ i n h. absurd (no_node i n h) };
     starts_in = record { node = λ s h m. absurd (no_start s h) };
-    rows = AreBounds-none ops S (label_of search.labels) search.rows.rows fresh.rows;
+    rows = AreBounds-none ops S (label_of search.labels) (value_of search.rows.rows) fresh.rows;
   }

@@ -8,8 +8,8 @@ use Rattle.search_graph.specs.declared.ends.Start.{Start}
 use Rattle.search_graph.specs.OrderLaws.{le_trans}
 use Rattle.step_search.specs.Spaces.{Space}
 use Rattle.step_search.specs.Paths.{IsBeyond, IsPathTo, IsLeastPath, NoPathTo}
-use Rattle.search_labels.specs.Labelled.{label_of, settled_of}
-use Rattle.step_search.specs.Progress.{IsTrail, LabelWithin}
+use Rattle.search_labels.specs.Labelled.{label_of, settled_of, LabelWithin}
+use Rattle.step_search.specs.Progress.{IsTrail}
 use Rattle.step_search.specs.UnderWay.{IsUnderWay, IsDone}
 use Rattle.search_labels.specs.declared.labels.Label.{Label}
 use Rattle.step_search.specs.declared.dijkstra.Search.{Search}

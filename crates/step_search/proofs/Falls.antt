@@ -4,7 +4,8 @@ use Rattle.std.proofs.lemmas.Option.{same_Some}
 use Rattle.search_graph.specs.Costs.{CostOps, CostLaws, NoDearer}
 use Rattle.search_graph.specs.OrderLaws.{le_refl, le_trans}
 use Rattle.step_search.specs.Spaces.{Space}
-use Rattle.step_search.specs.Progress.{LabelWithin, LabelsFall, SettledWithin, Expanded, NodesExpanded, IsFront}
+use Rattle.step_search.specs.Progress.{LabelsFall, SettledWithin, Expanded, NodesExpanded, IsFront}
+use Rattle.search_labels.specs.Labelled.{LabelWithin}
 use Rattle.search_labels.specs.declared.labels.Label.{Label}
 use Rattle.step_search.specs.declared.dijkstra.Node.{Node}
 

@@ -8,7 +8,8 @@ use Rattle.search_graph.specs.OrderLaws.{le_trans, plus_le, plus_le_back, plus_g
 use Rattle.search_graph.specs.ChainLaws.{Chain-push, Chain-valid, Chain-grows, Chain-from_zero, Chain-to_more}
 use Rattle.step_search.specs.Spaces.{Space, HasHop, StepBy, Path, IsSpace, IsLeastCost}
 use Rattle.step_search.specs.Paths.{AreStarts, IsPathTo}
-use Rattle.step_search.specs.Progress.{ComesFrom, IsTree, LabelWithin, Expanded, NodesExpanded, StartsIn, IsFront}
+use Rattle.step_search.specs.Progress.{ComesFrom, IsTree, Expanded, NodesExpanded, StartsIn, IsFront}
+use Rattle.search_labels.specs.Labelled.{LabelWithin}
 use Rattle.search_labels.specs.declared.labels.Label.{Label}
 use Rattle.step_search.specs.declared.dijkstra.Node.{Node}
 use Rattle.step_search.proofs.Falls.{by_truth, LabelWithin-more}

@@ -7,9 +7,9 @@ use Rattle.search_graph.specs.declared.ends.Start.{Start}
 use Rattle.search_graph.specs.OrderLaws.{le_refl, le_trans}
 use Rattle.step_search.specs.Spaces.{Space}
 use Rattle.search_queue.specs.Queued.{TakesLeast}
-use Rattle.search_labels.specs.Labelled.{changed}
+use Rattle.search_labels.specs.Labelled.{changed, LabelWithin}
 use Rattle.search_labels.specs.ChangedLaws.{same_place, changed-here, changed-there}
-use Rattle.step_search.specs.Progress.{HasNode, ComesFrom, IsNode, IsTree, IsLabel, LabelWithin, SettledWithin, Expanded, NodesExpanded, StartsIn, IsFront}
+use Rattle.step_search.specs.Progress.{HasNode, ComesFrom, IsNode, IsTree, IsLabel, SettledWithin, Expanded, NodesExpanded, StartsIn, IsFront}
 use Rattle.step_search.specs.Stepping.{node_of}
 use Rattle.search_labels.specs.declared.labels.Label.{Label}
 use Rattle.step_search.specs.declared.dijkstra.Node.{Node}

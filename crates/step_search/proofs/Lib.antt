@@ -4,7 +4,6 @@ mod Bounded
 mod Falls
 mod Far
 mod Grown
-mod Laid
 mod Offered
 mod Settled
 mod Taken

@@ -1,18 +1,15 @@
 -- What an offered label leaves: the front of the search, with labels that have only fallen.
 use Rattle.std.proofs.Common.{◌≡◌, ℕ, ◌+◌, ◌^◌, inl, inr, Bool, true, false, nat_eq, Option, Some, None, IfSome, List, refl, sym, ◌∙◌, ap, subst, true≢false, arith}
-use Rattle.std.specs.Bool.{OnFalse}
 use Rattle.std.specs.List.{Contains, slice_get}
-use Rattle.std.specs.Ordering.{is_lt}
-use Rattle.std.specs.declared.cmp.Ordering.{Ordering}
 use Rattle.std.proofs.lemmas.Option.{same_Some}
 use Rattle.search_graph.specs.Costs.{CostOps, CostLaws, NoDearer}
-use Rattle.search_graph.specs.OrderLaws.{le_refl, le_trans, le_from_less, le_from_not_less, not_both, plus_grows}
+use Rattle.search_graph.specs.OrderLaws.{le_refl, le_trans, le_from_less, not_both, plus_grows}
 use Rattle.step_search.specs.Spaces.{Space, HasHop}
 use Rattle.search_queue.specs.Queued.{Adds}
-use Rattle.search_labels.specs.Labelled.{changed, label_of, settled_of}
+use Rattle.search_labels.specs.Labelled.{changed, label_of, settled_of, LabelWithin, Improves}
 use Rattle.search_labels.specs.ChangedLaws.{same_place, changed-here, changed-there}
-use Rattle.step_search.specs.Progress.{LabelWithin, LabelsFall, SettledWithin, IsLabel, IsFront}
-use Rattle.step_search.specs.Stepping.{Improves, Offers, IsAtWork, OnlyFalls}
+use Rattle.step_search.specs.Progress.{LabelsFall, SettledWithin, IsLabel, IsFront}
+use Rattle.step_search.specs.Stepping.{Offers, IsAtWork, OnlyFalls}
 use Rattle.step_search.specs.Stepping.Offers.{left, put}
 use Rattle.search_labels.specs.declared.labels.Label.{Label}
 use Rattle.step_search.specs.declared.dijkstra.Node.{Node}
@@ -20,17 +17,7 @@ use Rattle.step_search.specs.declared.dijkstra.Search.{Search}
 use Rattle.step_search.specs.declared.hops.Hop.{Hop}
 use Rattle.step_search.proofs.Falls.{by_truth, LabelWithin-falls, LabelsFall-same, LabelsFall-trans, SettledWithin-falls}
 
-OnFalse_from : (b : Bool) (P : Type 0) → (b ≡ false → P) → OnFalse b P
-OnFalse_from true P f = tt
-OnFalse_from false P f = f refl
-
 module _ {C : Type 0} {ops : CostOps C} (laws : CostLaws ops) where
-  -- a cost that isn't less than the label's finds the label within it
-  pub within_unless_less : (cmp : C → C → Ordering) → ops.cmp ≡ cmp → (label : ℕ → Option (Label C)) (v : ℕ) (c : C) (l : Label C) (b : Bool) →
-      label v ≡ Some l → b ≡ is_lt (cmp c l.cost) → OnFalse b (LabelWithin ops label v c)
-  within_unless_less cmp same label v c l b h e =
-      OnFalse_from b (LabelWithin ops label v c) (λ n. (l, h, le_from_not_less laws c l.cost (ap (λ (f : C → C → Ordering). is_lt (f c l.cost)) same ∙ sym e ∙ n)))
-
   -- what improves on a label that is within it would be less than itself
   pub unsettled_if_improved : (label : ℕ → Option (Label C)) (settled : ℕ → Bool) (v : ℕ) (c : C) →
       (settled v ≡ true → LabelWithin ops label v c) → Improves ops label v c → settled v ≡ false

@@ -7,6 +7,7 @@ use Rattle.search_graph.specs.OrderLaws.{le_trans}
 use Rattle.step_search.specs.Spaces.{Space}
 use Rattle.search_queue.specs.Queued.{TakesLeast}
 use Rattle.search_labels.specs.Labelled.{changed, label_of, settled_of}
+use Rattle.row_labels.specs.Rowed.{value_of}
 use Rattle.step_search.specs.Progress.{IsFront, IsTree, NodesExpanded, StartsIn, AreBounds}
 use Rattle.step_search.specs.Stepping.{Skips, IsNearest, IsTaken}
 use Rattle.step_search.specs.UnderWay.{IsUnderWay}
@@ -60,8 +61,8 @@ module _ {C : Type 0} {ops : CostOps C} (laws : CostLaws ops) (S : Space C) (sta
   pub still_starts : StartsIn S starts mid.tree.items
   still_starts = subst (λ (t : List (Node C)). StartsIn S starts t) (sym tree) under_way.starts_in
 
-  pub still_rows : mid.rows ≡ old.rows → AreBounds ops S (label_of mid.labels) mid.rows.rows
-  still_rows rows = subst (λ (x : ℕ → Option (Label C)). AreBounds ops S x mid.rows.rows) (sym labels) (subst (λ x. AreBounds ops S (label_of old.labels) x) (sym (ap (λ x. x.rows) rows)) under_way.rows)
+  pub still_rows : mid.rows ≡ old.rows → AreBounds ops S (label_of mid.labels) (value_of mid.rows.rows)
+  still_rows rows = subst (λ (x : ℕ → Option (Label C)). AreBounds ops S x (value_of mid.rows.rows)) (sym labels) (subst (λ x. AreBounds ops S (label_of old.labels) (value_of x.rows)) (sym rows) under_way.rows)
 
   -- the search that has skipped entries is still under way
   pub skipped_under_way : Skips (label_of old.labels) (settled_of old.labels) old.queue mid.queue → settled_of mid.labels ≡ settled_of old.labels → mid.rows ≡ old.rows → IsUnderWay ops S starts mid

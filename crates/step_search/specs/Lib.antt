@@ -1,6 +1,5 @@
 pub mod Spaces
 pub mod Paths
-pub mod Rowed
 pub mod Linked
 pub mod Progress
 pub mod UnderWay

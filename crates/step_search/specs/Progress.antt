@@ -4,7 +4,7 @@ use Rattle.std.specs.List.{Contains, slice_get}
 use Rattle.search_graph.specs.Costs.{CostOps, NoDearer}
 use Rattle.search_graph.specs.declared.ends.Start.{Start}
 use Rattle.step_search.specs.Spaces.{Space, HasHop, StepBy}
-use Rattle.step_search.specs.Rowed.{value_of}
+use Rattle.search_labels.specs.Labelled.{LabelWithin}
 use Rattle.search_labels.specs.declared.labels.Label.{Label}
 use Rattle.step_search.specs.declared.dijkstra.Node.{Node}
 
@@ -40,10 +40,6 @@ IsTrail {C} tree at (v ∷ vs) = (i : ℕ) × (n : Node C) × (at ≡ Some i) ×
 abbrev pub IsLabel : {C : Type 0} → CostOps C → Space C → List (Node C) → ℕ → Label C → Type 0
 IsLabel {C} ops S tree v l = (m : Node C) × (slice_get tree l.node ≡ Some m) × StepBy ops S m.vertex v m.cost l.cost
 
--- v has a label that costs no more than c
-abbrev pub LabelWithin : {C : Type 0} → CostOps C → (ℕ → Option (Label C)) → ℕ → C → Type 0
-LabelWithin {C} ops label v c = (l : Label C) × (label v ≡ Some l) × NoDearer ops l.cost c
-
 -- the labels of settled vertices cost no more than c
 abbrev pub SettledWithin : {C : Type 0} → CostOps C → (ℕ → Option (Label C)) → (ℕ → Bool) → C → Type 0
 SettledWithin {C} ops label settled c = (v : ℕ) (l : Label C) → settled v ≡ true → label v ≡ Some l → NoDearer ops l.cost c
@@ -75,5 +71,5 @@ pub record StartsIn {C : Type 0} (S : Space C) (starts : List (Start C)) (tree :
   pub node : (s : Start C) → Contains starts s → S.May s.vertex → HasNode tree s.vertex s.cost
 
 -- what is kept of each row bounds the labels of its heads
-pub record AreBounds {C : Type 0} (ops : CostOps C) (S : Space C) (label : ℕ → Option (Label C)) (rows : List (List (List (Option C)))) : Type 0 where
-  pub each : (u j w : ℕ) (d : C) → slice_get (S.heads u) j ≡ Some w → value_of rows (S.row u) j ≡ Some d → LabelWithin ops label w d
+pub record AreBounds {C : Type 0} (ops : CostOps C) (S : Space C) (label : ℕ → Option (Label C)) (rows : ℕ × ℕ → ℕ → Option C) : Type 0 where
+  pub each : (u j w : ℕ) (d : C) → slice_get (S.heads u) j ≡ Some w → rows (S.row u) j ≡ Some d → LabelWithin ops label w d

@@ -1,14 +1,13 @@
 -- Private to this crate: what the private functions of the search do, one step each.
 use Rattle.std.specs.Prelude.{◌≡◌, ℕ, zero, suc, ◌+◌, ◌<◌, ◌^◌, ◌⊎◌, Bool, true, false, List, [], ◌∷◌, ◌++◌, Option, Some, None}
 use Rattle.std.specs.List.{Contains, slice_get}
-use Rattle.std.specs.declared.cmp.Ordering.TheVariants.{Less}
 use Rattle.search_graph.specs.Costs.{CostOps}
 use Rattle.search_graph.specs.declared.ends.Start.{Start}
 use Rattle.step_search.specs.Spaces.{Space, IsSpace}
 use Rattle.search_queue.specs.Queued.{Adds, TakesLeast}
-use Rattle.search_labels.specs.Labelled.{label_of, settled_of, changed}
-use Rattle.step_search.specs.Rowed.{value_of}
-use Rattle.step_search.specs.Progress.{LabelWithin, LabelsFall, SettledWithin, Expanded, IsFront}
+use Rattle.search_labels.specs.Labelled.{label_of, settled_of, changed, LabelWithin, Improves}
+use Rattle.row_labels.specs.Rowed.{value_of}
+use Rattle.step_search.specs.Progress.{LabelsFall, SettledWithin, Expanded, IsFront}
 use Rattle.search_labels.specs.declared.labels.Label.{Label}
 use Rattle.step_search.specs.declared.dijkstra.Node.{Node}
 use Rattle.step_search.specs.declared.dijkstra.Search.{Search}
@@ -24,10 +23,6 @@ pub record IsFresh {C : Type 0} (search : Search C) : Type 0 where
   pub unsettled : NoneSettled (settled_of search.labels)
   pub queue : search.queue ≡ []
   pub rows : (row : ℕ × ℕ) (j : ℕ) → value_of search.rows.rows row j ≡ None
-
--- c is less than what the label of v costs, if it has one
-abbrev pub Improves : {C : Type 0} → CostOps C → (ℕ → Option (Label C)) → ℕ → C → Type 0
-Improves {C} ops label v c = (l : Label C) → label v ≡ Some l → ops.cmp c l.cost ≡ Less
 
 -- the label l, offered to v, is put and queued where it improves
 pub data Offers {C : Type 0} (ops : CostOps C) (old new : ℕ → Option (Label C)) (settled : ℕ → Bool) (before after : List (C × ℕ)) (v : ℕ) (l : Label C) : Type 0 where

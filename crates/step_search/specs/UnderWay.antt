@@ -5,6 +5,7 @@ use Rattle.search_graph.specs.declared.ends.Start.{Start}
 use Rattle.step_search.specs.Spaces.{Space, IsSpace}
 use Rattle.step_search.specs.Paths.{AreStarts, IsBeyond, NoPathTo}
 use Rattle.search_labels.specs.Labelled.{label_of, settled_of}
+use Rattle.row_labels.specs.Rowed.{value_of}
 use Rattle.step_search.specs.Progress.{IsTree, IsFront, NodesExpanded, StartsIn, AreBounds}
 use Rattle.step_search.specs.declared.dijkstra.Search.{Search}
 
@@ -16,7 +17,7 @@ pub record IsBegun {C : Type 0} (ops : CostOps C) (S : Space C) (starts begun : 
   pub front : IsFront ops S search.tree.items (label_of search.labels) (settled_of search.labels) search.queue
   pub expanded : NodesExpanded ops S search.tree.items (label_of search.labels)
   pub starts_in : StartsIn S begun search.tree.items
-  pub rows : AreBounds ops S (label_of search.labels) search.rows.rows
+  pub rows : AreBounds ops S (label_of search.labels) (value_of search.rows.rows)
 
 -- a search that has begun at all its starts, and stands between two of its steps
 abbrev pub IsUnderWay : {C : Type 0} → CostOps C → Space C → List (Start C) → Search C → Type 0

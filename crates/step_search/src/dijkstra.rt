@@ -6,13 +6,14 @@ ghost use Rattle.std.specs.List.{Contains, slice_get};
 ghost use Rattle.step_search.specs.Spaces.{IsSpace};
 ghost use Rattle.step_search.specs.Paths.{AreStarts, IsAnswer, IsBeyond, IsLeastPathCost, NoPathTo};
 ghost use Rattle.search_labels.specs.Labelled.{label_of, settled_of};
+ghost use Rattle.row_labels.specs.Rowed.{value_of};
 ghost use Rattle.step_search.specs.Progress.{IsBackward, IsFront, IsTrail, AreBounds};
 ghost use Rattle.step_search.specs.Stepping.{Begins, IsFresh, NoneSettled};
 ghost use Rattle.step_search.specs.UnderWay.{IsUnderWay, IsDone};
 
 use crate::hops::Steps;
 use crate::links::Link;
-use crate::rows::RowLabels;
+use row_labels::RowLabels;
 use search_graph::{Cost, Start};
 use search_labels::Labels;
 use search_queue::Queue;
@@ -80,8 +81,7 @@ impl<C: Cost> Search<C> {
     }
 
     /// Begins anew, in the memory that the search has, at each start where a path may begin, or gives the error
-    /// where memory runs out. It takes time for the pages and rows that were touched since it last began; the values
-    /// along rows take new memory.
+    /// where memory runs out. It takes time for the vertices and rows that were touched since it last began.
     ///
     /// It may be called after any error.
     pub fn restart<T: Steps<C>>(&mut self, steps: &T, starts: &[Start<C>]) -> Result<(), AllocError>
@@ -198,7 +198,7 @@ impl<C: Cost> Search<C> {
         ensures done { OnOk result (IsDone C.ops (T.space steps.now) starts.now self.new until) }
     {
         while !self.labels.is_settled(until) {
-            if self.is_within(until, known) {
+            if self.labels.is_within(until, known) {
                 return Ok(());
             }
             if self.settle_next(steps, starts)?.is_none() {
@@ -278,10 +278,10 @@ impl<C: Cost> Search<C> {
         requires units { C.ops.units start.cost 1 }
         requires front { IsFront C.ops (T.space steps.now) self.old.tree.items (label_of self.old.labels) (settled_of self.old.labels) self.old.queue }
         requires unsettled { NoneSettled (settled_of self.old.labels) }
-        requires rows { AreBounds C.ops (T.space steps.now) (label_of self.old.labels) self.old.rows.rows }
+        requires rows { AreBounds C.ops (T.space steps.now) (label_of self.old.labels) (value_of self.old.rows.rows) }
         ensures front { OnOk result (IsFront C.ops (T.space steps.now) self.new.tree.items (label_of self.new.labels) (settled_of self.new.labels) self.new.queue) }
         ensures begins { OnOk result (Begins C.ops (T.space steps.now) self.old self.new start) }
-        ensures rows { OnOk result (AreBounds C.ops (T.space steps.now) (label_of self.new.labels) self.new.rows.rows) }
+        ensures rows { OnOk result (AreBounds C.ops (T.space steps.now) (label_of self.new.labels) (value_of self.new.rows.rows)) }
     {
         if !steps.may_begin(start.vertex) {
             return Ok(());

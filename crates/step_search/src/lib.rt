@@ -3,9 +3,9 @@
 //!
 //! A search goes from several starts, each with a cost of its own, and answers for each target a path of the
 //! least cost, and none exactly where there is none. It goes on until its target is settled, or nothing is left.
-//! Its work and its memory follow what it touches: labels stand on pages of neighbouring vertices (`search_labels`),
-//! and the nearest vertex comes from a queue by ranks (`search_queue`). Where rows are gone along, it keeps what the
-//! offers along each of them have cost, side by side, in the memory of these rows' places.
+//! Its work follows what it touches: each vertex that it comes to has a label (`search_labels`), and the nearest vertex
+//! comes from a queue by ranks (`search_queue`). Where rows are gone along, what the offers along each of them have
+//! cost is kept side by side (`row_labels`).
 //!
 //! `least` answers a list of targets at once. The parts of `Search` serve who wants to go target by target, or
 //! to begin anew in the same memory.
@@ -18,7 +18,6 @@
 mod dijkstra;
 mod hops;
 mod links;
-mod rows;
 mod settling;
 
 pub use dijkstra::{Reached, Search, least};

@@ -1,13 +1,13 @@
 //! The settling of vertices: the nearest one is taken from the queue, and labels are offered along the hops out of it.
 
 ghost use Rattle.std.specs.Prelude.{◌≡◌, ℕ, ◌<◌, ◌^◌, [], true, false, length, Some, IfSome, IfNone, IfOk, OnOk};
-ghost use Rattle.std.specs.Bool.{OnTrue, OnFalse};
 ghost use Rattle.std.specs.List.{Contains, slice_get};
 ghost use Rattle.step_search.specs.Spaces.{HasHop};
-ghost use Rattle.search_labels.specs.Labelled.{label_of, settled_of, changed};
+ghost use Rattle.search_labels.specs.Labelled.{label_of, settled_of, changed, LabelWithin};
+ghost use Rattle.row_labels.specs.Rowed.{value_of};
 ghost use Rattle.search_queue.specs.Queued.{Adds};
-ghost use Rattle.step_search.specs.Progress.{LabelWithin, Expanded, IsFront, AreBounds};
-ghost use Rattle.step_search.specs.Stepping.{FewerOpen, Improves, IsAtWork, IsNearest, IsTaken, Offers, OnlyFalls, PutsNode, Skips};
+ghost use Rattle.step_search.specs.Progress.{Expanded, IsFront, AreBounds};
+ghost use Rattle.step_search.specs.Stepping.{FewerOpen, IsAtWork, IsNearest, IsTaken, Offers, OnlyFalls, PutsNode, Skips};
 ghost use Rattle.step_search.specs.UnderWay.{IsUnderWay};
 
 use crate::dijkstra::{Node, Search};
@@ -83,11 +83,11 @@ impl<C: Cost> Search<C> {
     ) -> Result<(), AllocError>
         requires ready { T.ready steps.now }
         requires taken { IsTaken C.ops (T.space steps.now) self.old v label }
-        requires rows { AreBounds C.ops (T.space steps.now) (label_of self.old.labels) self.old.rows.rows }
+        requires rows { AreBounds C.ops (T.space steps.now) (label_of self.old.labels) (value_of self.old.rows.rows) }
         ensures front { OnOk result (IsFront C.ops (T.space steps.now) self.new.tree.items (label_of self.new.labels) (settled_of self.new.labels) self.new.queue) }
         ensures puts { OnOk result (PutsNode C.ops self.old self.new v label) }
         ensures expanded { OnOk result (Expanded C.ops (T.space steps.now) (label_of self.new.labels) v label.cost) }
-        ensures rows { OnOk result (AreBounds C.ops (T.space steps.now) (label_of self.new.labels) self.new.rows.rows) }
+        ensures rows { OnOk result (AreBounds C.ops (T.space steps.now) (label_of self.new.labels) (value_of self.new.rows.rows)) }
     {
         let at = self.tree.len();
         let node = Node {
@@ -109,11 +109,11 @@ impl<C: Cost> Search<C> {
     ) -> Result<(), AllocError>
         requires ready { T.ready steps.now }
         requires at_work { IsAtWork C.ops (T.space steps.now) self.old at node }
-        requires rows { AreBounds C.ops (T.space steps.now) (label_of self.old.labels) self.old.rows.rows }
+        requires rows { AreBounds C.ops (T.space steps.now) (label_of self.old.labels) (value_of self.old.rows.rows) }
         ensures at_work { OnOk result (IsAtWork C.ops (T.space steps.now) self.new at node) }
         ensures falls { OnOk result (OnlyFalls C.ops self.old self.new) }
         ensures expanded { OnOk result (Expanded C.ops (T.space steps.now) (label_of self.new.labels) node.vertex node.cost) }
-        ensures rows { OnOk result (AreBounds C.ops (T.space steps.now) (label_of self.new.labels) self.new.rows.rows) }
+        ensures rows { OnOk result (AreBounds C.ops (T.space steps.now) (label_of self.new.labels) (value_of self.new.rows.rows)) }
     {
         let row = steps.row(node.vertex);
         self.expand_arcs(steps, at, node, row)?;
@@ -155,13 +155,13 @@ impl<C: Cost> Search<C> {
     ) -> Result<(), AllocError>
         requires ready { T.ready steps.now }
         requires at_work { IsAtWork C.ops (T.space steps.now) self.old at node }
-        requires rows { AreBounds C.ops (T.space steps.now) (label_of self.old.labels) self.old.rows.rows }
+        requires rows { AreBounds C.ops (T.space steps.now) (label_of self.old.labels) (value_of self.old.rows.rows) }
         requires row { row ≡ (T.space steps.now).row node.vertex }
         requires same { (u : ℕ) → (T.space steps.now).row u ≡ (T.space steps.now).row node.vertex → (T.space steps.now).heads u ≡ (T.space steps.now).heads node.vertex }
         ensures at_work { OnOk result (IsAtWork C.ops (T.space steps.now) self.new at node) }
         ensures falls { OnOk result (OnlyFalls C.ops self.old self.new) }
         ensures found { OnOk result ((j w : ℕ) (s : _) → slice_get ((T.space steps.now).heads node.vertex) j ≡ Some w → (T.space steps.now).Costs node.vertex j s → LabelWithin C.ops (label_of self.new.labels) w (C.ops.plus node.cost s)) }
-        ensures rows { OnOk result (AreBounds C.ops (T.space steps.now) (label_of self.new.labels) self.new.rows.rows) }
+        ensures rows { OnOk result (AreBounds C.ops (T.space steps.now) (label_of self.new.labels) (value_of self.new.rows.rows)) }
     {
         let costs = steps.costs_named(node.vertex, row);
         if costs.is_empty() {
@@ -243,7 +243,7 @@ impl<C: Cost> Search<C> {
             cost: paid.plus(hop.cost),
             node: at,
         };
-        if !self.improves(hop.head, label.cost) {
+        if self.labels.is_within(hop.head, label.cost) {
             return Ok(());
         }
         self.put(hop.head, label)?;
@@ -263,25 +263,6 @@ impl<C: Cost> Search<C> {
         self.labels.put(v, label)?;
         self.queue.push(label.cost, v)?;
         Ok(())
-    }
-
-    // Whether the vertex has a label that costs no more than `cost`.
-    pub(crate) fn is_within(&self, v: u32, cost: C) -> bool
-        ensures yes { OnTrue result (LabelWithin C.ops (label_of self.now.labels) v cost) }
-    {
-        !self.improves(v, cost)
-    }
-
-    // Whether `cost` is less than what the vertex's label costs, or it has none.
-    #[inline(always)]
-    fn improves(&self, v: u32, cost: C) -> bool
-        ensures yes { OnTrue result (Improves C.ops (label_of self.now.labels) v cost) }
-        ensures no { OnFalse result (LabelWithin C.ops (label_of self.now.labels) v cost) }
-    {
-        match self.labels.label(v) {
-            Some(label) => cost.cmp(&label.cost).is_lt(),
-            None => true,
-        }
     }
 }
 

@@ -1,6 +1,7 @@
 -- The arcs and the row are all hops out of the node.
 use Rattle.std.proofs.Common.{inl, inr, sym, subst}
 use Rattle.search_labels.specs.Labelled.{label_of}
+use Rattle.row_labels.specs.Rowed.{value_of}
 use Rattle.step_search.specs.Progress.{AreBounds}
 use Rattle.step_search.proofs.Bounded.{AreBounds-falls}
 use Rattle.step_search.proofs.Falls.{LabelWithin-falls}
@@ -9,8 +10,8 @@ use Rattle.step_search.proofs.dijkstra.Search.expand.Goals as goal
 
 pub expand_row-requires-clause-rows : goal.expand_row-requires-clause-rows
 expand_row-requires-clause-rows g c =
-    subst (λ x. AreBounds g.C.Cost.ops (g.T.Steps.space c.args.steps.now) (label_of c.expand_arcs.new.self.labels) x.rows) (sym c.in_ok-expand_arcs.ensures.rows)
-    (AreBounds-falls g.met.C.Cost.laws (g.T.Steps.space c.args.steps.now) (label_of c.args.self.now.labels) (label_of c.expand_arcs.new.self.labels) c.in_ok-expand_arcs.ensures.falls.falls c.args.self.now.rows.rows c.requires.rows)
+    subst (λ x. AreBounds g.C.Cost.ops (g.T.Steps.space c.args.steps.now) (label_of c.expand_arcs.new.self.labels) (value_of x.rows)) (sym c.in_ok-expand_arcs.ensures.rows)
+    (AreBounds-falls g.met.C.Cost.laws (g.T.Steps.space c.args.steps.now) (label_of c.args.self.now.labels) (label_of c.expand_arcs.new.self.labels) c.in_ok-expand_arcs.ensures.falls.falls (value_of c.args.self.now.rows.rows) c.requires.rows)
 
 pub returns-clause-falls : goal.returns-clause-falls
 returns-clause-falls g c =

@@ -3,6 +3,7 @@ use Rattle.std.proofs.Common.{◌≡◌, ℕ, ◌<◌, List, length, Some, refl,
 use Rattle.std.specs.List.{slice_get}
 use Rattle.std.proofs.lemmas.Option.{slice_get_within}
 use Rattle.search_labels.specs.Labelled.{label_of}
+use Rattle.row_labels.specs.Rowed.{value_of}
 use Rattle.step_search.specs.Progress.{AreBounds}
 use Rattle.step_search.proofs.Offered.{OnlyFalls-refl}
 use Rattle.step_search.proofs.Bounded.{AreBounds-lowered, row_found, row_fits, no_cost}
@@ -33,16 +34,16 @@ returns-clause-found g c j w s h k =
     let S = g.T.Steps.space c.args.steps.now in
     let lt : j < length c.heads_named-heads.result.now = slice_get_within c.heads_named-heads.result.now j w (subst (λ (xs : List ℕ). slice_get xs j ≡ Some w) (sym c.heads_named-heads.ensures) h) in
     row_found g.met.C.Cost.laws S (label_of c.args.self.now.labels) (label_of c.offer_improved.new.self.labels) c.in_ok-offer_improved.ensures.falls.falls c.args.node.vertex c.args.row c.requires.row c.requires.same
-    c.args.self.now.rows.rows c.lower.new.self.rows c.args.node.cost c.costs_named-costs.result (length c.heads_named-heads.result.now) c.lower.new.self.improved.items c.in_ok-lower.ensures
+    (value_of c.args.self.now.rows.rows) (value_of c.lower.new.self.rows) c.args.node.cost c.costs_named-costs.result (length c.heads_named-heads.result.now) c.lower.new.self.improved.items c.in_ok-lower.ensures
     (λ i x t b e q. c.in_ok-offer_improved.ensures.found i x t b (subst (λ (xs : List ℕ). slice_get xs i ≡ Some x) (sym c.heads_named-heads.ensures) e) q)
     c.requires.rows j w s lt h (c.costs_named-costs.ensures.all j s k)
 
 pub returns-clause-rows : goal.returns-clause-rows
 returns-clause-rows g c =
     let S = g.T.Steps.space c.args.steps.now in
-    let bounds : AreBounds g.C.Cost.ops S (label_of c.offer_improved.new.self.labels) c.lower.new.self.rows =
+    let bounds : AreBounds g.C.Cost.ops S (label_of c.offer_improved.new.self.labels) (value_of c.lower.new.self.rows) =
     AreBounds-lowered g.met.C.Cost.laws S (label_of c.args.self.now.labels) (label_of c.offer_improved.new.self.labels) c.in_ok-offer_improved.ensures.falls.falls c.args.node.vertex c.args.row c.requires.row c.requires.same
-    c.args.self.now.rows.rows c.lower.new.self.rows c.args.node.cost c.costs_named-costs.result (length c.heads_named-heads.result.now) c.lower.new.self.improved.items c.in_ok-lower.ensures
+    (value_of c.args.self.now.rows.rows) (value_of c.lower.new.self.rows) c.args.node.cost c.costs_named-costs.result (length c.heads_named-heads.result.now) c.lower.new.self.improved.items c.in_ok-lower.ensures
     (λ i x t b e q. c.in_ok-offer_improved.ensures.found i x t b (subst (λ (xs : List ℕ). slice_get xs i ≡ Some x) (sym c.heads_named-heads.ensures) e) q)
     c.requires.rows in
-    subst (λ x. AreBounds g.C.Cost.ops S (label_of c.offer_improved.new.self.labels) x.rows) (sym c.in_ok-offer_improved.ensures.rows) bounds
+    subst (λ x. AreBounds g.C.Cost.ops S (label_of c.offer_improved.new.self.labels) (value_of x.rows)) (sym c.in_ok-offer_improved.ensures.rows) bounds

@@ -1,8 +1,7 @@
 -- Each improved place so far finds the label of its head within what it offers.
 use Rattle.std.proofs.Common.{◌≡◌, ℕ, ◌<◌, Some}
 use Rattle.std.specs.List.{slice_get}
-use Rattle.search_labels.specs.Labelled.{label_of}
-use Rattle.step_search.specs.Progress.{LabelWithin}
+use Rattle.search_labels.specs.Labelled.{label_of, LabelWithin}
 use Rattle.step_search.specs.Stepping.{IsAtWork, OnlyFalls}
 use Rattle.step_search.proofs.dijkstra.Search.offer_improved.Given as goal
 
