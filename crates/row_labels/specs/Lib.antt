@@ -1,0 +1,4 @@
+pub mod Rowed
+pub mod Blocks
+pub mod Worded
+pub mod Lowered
