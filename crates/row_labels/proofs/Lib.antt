@@ -1,0 +1,4 @@
+mod Apart
+mod Lowering
+mod Touching
+mod Wording

@@ -146,6 +146,7 @@ fn ensure_block<C: Cost>(
     ensures kept { OnOk result ((row : ℕ × ℕ) (j : ℕ) (d : C) → value_in words.new (span_of blocks.new row) j ≡ Some d → value_in words.old (span_of blocks.old row) j ≡ Some d) }
     ensures there { IfOk result (λ first. (span_of blocks.new name).first ≡ first) }
     ensures room { OnOk result (count ≤ (span_of blocks.new name).count) }
+    ensures small { IfOk result (λ first. first + count < 2 ^ 64) }
 {
     let span = blocks.span(name);
     if count <= span.count as usize {
@@ -166,6 +167,7 @@ fn append_block<C: Cost>(
     ensures kept { OnOk result ((row : ℕ × ℕ) (j : ℕ) (d : C) → value_in words.new (span_of blocks.new row) j ≡ Some d → value_in words.old (span_of blocks.old row) j ≡ Some d) }
     ensures there { IfOk result (λ first. (span_of blocks.new name).first ≡ first) }
     ensures room { OnOk result (count ≤ (span_of blocks.new name).count) }
+    ensures small { IfOk result (λ first. first + count < 2 ^ 64) }
 {
     let Ok(first) = u32::try_from(words.len()) else {
         return Err(AllocError);
@@ -193,6 +195,7 @@ fn lower_values<C: Cost>(
     requires rank { offers.now.rank ≡ C.ranked offers.now.paid }
     requires long { offers.now.count ≤ length offers.now.costs.now }
     requires room { first + offers.now.count ≤ length words.old }
+    requires small { first + offers.now.count < 2 ^ 64 }
     requires none { improved.old.items ≡ [] }
     ensures lowers { OnOk result (Lowers C.ops first words.old words.new offers.now.paid offers.now.costs.now offers.now.count improved.new.items) }
     ensures long { length words.new ≡ length words.old }
@@ -217,6 +220,7 @@ fn lower_place<C: Cost>(
     requires place { place < offers.now.count }
     requires long { offers.now.count ≤ length offers.now.costs.now }
     requires room { first + offers.now.count ≤ length words.old }
+    requires small { first + offers.now.count < 2 ^ 64 }
     ensures lowers { OnOk result (LowersAt C.ops first words.old words.new offers.now.paid offers.now.costs.now place improved.old.items improved.new.items) }
     ensures long { length words.new ≡ length words.old }
 {
