@@ -1,12 +1,11 @@
 -- What a row's values are while the blocks are apart: a new block changes those of no other row, and neither do offers along a row.
-use Rattle.std.proofs.Common.{◌≡◌, ◌≢◌, ℕ, zero, suc, [], ◌∷◌, ◌+◌, ◌<◌, ◌≤◌, ◌⊎◌, inl, inr, Option, Some, None, List, ◌++◌, length, replicate, nat_lt, if◌then◌else◌, refl, sym, ◌∙◌, ap, subst, arith, length-append, get_or}
+use Rattle.std.proofs.Common.{◌≡◌, ◌≢◌, ℕ, zero, suc, [], ◌∷◌, ◌+◌, ◌<◌, ◌≤◌, ◌⊎◌, inl, inr, Option, Some, None, List, ◌++◌, length, replicate, refl, sym, ◌∙◌, ap, subst, arith, length-append}
 use Rattle.std.proofs.lemmas.Bool.{cases_eq, cases_lt}
 use Rattle.std.proofs.lemmas.Bool.Decides.{nat_tests}
-use Rattle.std.proofs.lemmas.List.{get_or_past, get_or_append_left, length-replicate, get_or-append_right, get_or-replicate}
+use Rattle.std.proofs.lemmas.List.{get_or_past, length-replicate, get_or-replicate}
 use Rattle.std.proofs.lemmas.Option.{none-some}
-use Rattle.std.specs.List.{Contains, slice_get}
-use Rattle.search_graph.specs.Costs.{CostOps, NoDearer}
-use Rattle.row_labels.specs.Rowed.{span_of, value_in, value_of, IsImproved, LowersRow}
+use Rattle.search_graph.specs.Costs.{CostOps}
+use Rattle.row_labels.specs.Rowed.{span_of, value_in, IsImproved, LowersRow}
 use Rattle.row_labels.specs.Blocks.{AreApart, InSpan}
 use Rattle.row_labels.specs.Lowered.{value_on, Lowers}
 use Rattle.row_labels.specs.declared.blocks.Span.{Span}
@@ -35,7 +34,7 @@ module _ {C : Type 0} (values : List (Option C)) (span : Span) (j : ℕ) where
 
 -- places that come have no value
 value_on-more : {C : Type 0} (values : List (Option C)) (n i : ℕ) → value_on (values ++ replicate n None) i ≡ value_on values i
-value_on-more [] n i = elim (cases_lt i n) [ inl lt ↦ get_or-replicate n i None None lt | inr le ↦ get_or_past (replicate n None) i None (omega (arith, length-replicate n None, le)) ]
+value_on-more {C} [] n i = elim (cases_lt i n) [ inl lt ↦ get_or-replicate n i None None lt | inr le ↦ get_or_past (replicate n None) i None (let long = length-replicate {A = Option C} n None in omega (arith, long, le)) ]
 value_on-more (x ∷ values) n zero = refl
 value_on-more (x ∷ values) n (suc i) = value_on-more values n i
 

@@ -1,11 +1,11 @@
 -- One row gets a span, and its name is among the touched ones.
-use Rattle.std.proofs.Common.{◌≡◌, ◌≢◌, ℕ, ◌<◌, ◌⊎◌, inl, inr, List, [], ◌∷◌, ◌++◌, length, get_or, sym, ◌∙◌, ap, subst, get_or-set_same, get_or-set_other}
+use Rattle.std.proofs.Common.{◌≡◌, ◌≢◌, ℕ, ◌<◌, inl, inr, List, [], ◌∷◌, ◌++◌, length, get_or, sym, ◌∙◌, ap, subst, get_or-set_same, get_or-set_other}
 use Rattle.std.proofs.Math.ListN.{set}
 use Rattle.std.proofs.lemmas.Bool.{cases_eq}
 use Rattle.std.proofs.lemmas.List.{get_or_default}
 use Rattle.std.specs.List.{Contains}
 use Rattle.list_lemmas.proofs.Gets.{Contains_get, Contains_push, get_pushed}
-use Rattle.row_labels.specs.Rowed.{no_span, spans_of, span_on, span_of}
+use Rattle.row_labels.specs.Rowed.{spans_of, span_on, span_of}
 use Rattle.row_labels.specs.Blocks.{AreTouched}
 use Rattle.row_labels.specs.declared.blocks.Span.{Span}
 

@@ -1,5 +1,5 @@
 -- What words stand for when others are put behind the others, and one word or more is written.
-use Rattle.std.proofs.Common.{◌≡◌, ℕ, zero, suc, ◌+◌, ◌-◌, ◌<◌, ◌≤◌, ◌^◌, ◌⊎◌, inl, inr, List, [], ◌∷◌, ◌++◌, length, map, replicate, take, take_all, Option, Some, None, All, Result, Ok, Err, is_ok, if◌then◌else◌, OnOk, arith, refl, sym, ◌∙◌, ap, subst, length-append, set}
+use Rattle.std.proofs.Common.{◌≡◌, ℕ, zero, suc, ◌+◌, ◌-◌, ◌<◌, ◌≤◌, ◌^◌, ◌⊎◌, inl, inr, List, [], ◌∷◌, ◌++◌, length, replicate, take, take_all, Option, Some, None, All, Result, Ok, Err, is_ok, OnOk, if◌then◌else◌, arith, refl, sym, ◌∙◌, ap, subst, length-append, set}
 use Rattle.std.specs.List.{slice_get}
 use Rattle.std.proofs.lemmas.Bool.Decides.{nat_tests}
 use Rattle.std.proofs.lemmas.Bool.{cases_lt}

@@ -1,7 +1,7 @@
 //! A list of costs, of which each may be missing, in a word each. Most words are ranks, which tell without a look at costs how
 //! a sum of two compares.
 
-ghost use Rattle.std.specs.Prelude.{◌≡◌, ℕ, ◌+◌, ◌^◌, ◌<◌, ◌++◌, List, [], length, replicate, set, Some, None, IfOk, OnOk, OnErr};
+ghost use Rattle.std.specs.Prelude.{◌≡◌, ◌+◌, ◌^◌, ◌<◌, ◌++◌, List, [], length, replicate, set, Some, None, IfOk, OnOk, OnErr};
 ghost use Rattle.std.specs.Bool.{OnTrue};
 ghost use Rattle.std.specs.List.{slice_get};
 ghost use Rattle.row_labels.specs.Worded.{value_at, IsPlaced, IsRankOrPlace, IsWithinRank};

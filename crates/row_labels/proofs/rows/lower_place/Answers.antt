@@ -1,5 +1,5 @@
 -- A place is passed over by its rank, or has an offer.
-use Rattle.std.proofs.Common.{◌≡◌, ◌+◌, Some, sym, ◌∙◌, ap, subst}
+use Rattle.std.proofs.Common.{◌≡◌, ◌+◌, Some, ◌∙◌, ap, subst}
 use Rattle.std.specs.List.{slice_get}
 use Rattle.row_labels.specs.Lowered.{IsOffered}
 use Rattle.row_labels.specs.Lowered.LowersAt.{offered}

@@ -1,5 +1,5 @@
 -- The words that come are those of no cost.
-use Rattle.std.proofs.Common.{◌+◌, ap, ◌∙◌}
+use Rattle.std.proofs.Common.{◌+◌, ap}
 use Rattle.row_labels.proofs.Wording.{list-extended}
 use Rattle.row_labels.proofs.words.Words.extend.Goals as goal
 
