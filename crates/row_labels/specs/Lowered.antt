@@ -3,15 +3,10 @@ use Rattle.std.specs.Prelude.{◌≡◌, ◌⊎◌, ℕ, ◌+◌, ◌<◌, List,
 use Rattle.std.specs.List.{Contains, slice_get}
 use Rattle.search_graph.specs.Costs.{CostOps, NoDearer}
 use Rattle.row_labels.specs.Rowed.{IsImproved}
-use Rattle.row_labels.specs.Worded.{IsWithinRank}
 
 -- the value at a place of the list
 abbrev pub value_on : {C : Type 0} → List (Option C) → ℕ → Option C
 value_on values i = slice_index_or values i None
-
--- the rank of what is paid and that of a cost are together no less than the rank of the value at place i
-abbrev pub IsOver : {C : Type 0} → (C → Option ℕ) → List (Option C) → ℕ → Option ℕ → C → Type 0
-IsOver ranked values i paid cost = (r n : ℕ) × (paid ≡ Some r) × (ranked cost ≡ Some n) × IsWithinRank ranked values i (r + n)
 
 -- an offer at place i of the list: its value costs no more, or the offer becomes the value, and the place of the row is improved
 pub data IsOffered {C : Type 0} (ops : CostOps C) (old new : List (Option C)) (i : ℕ) (offer : C) (place : ℕ) (before after : List ℕ) : Type 0 where

@@ -1,11 +1,10 @@
 //! The rows, and offers along them.
 
-ghost use Rattle.std.specs.Prelude.{◌≡◌, ℕ, ◌+◌, ◌<◌, ◌≤◌, ◌^◌, [], length, IfOk, IfSome, Some, None, OnOk};
-ghost use Rattle.std.specs.Bool.{OnTrue};
+ghost use Rattle.std.specs.Prelude.{◌≡◌, ℕ, ◌+◌, ◌<◌, ◌≤◌, ◌^◌, [], length, IfOk, Some, None, OnOk};
 ghost use Rattle.std.specs.List.{slice_get};
 ghost use Rattle.row_labels.specs.Rowed.{span_of, value_in, value_of, LowersRow};
 ghost use Rattle.row_labels.specs.Blocks.{AreApart};
-ghost use Rattle.row_labels.specs.Lowered.{IsOver, IsOffered, LowersAt, Lowers};
+ghost use Rattle.row_labels.specs.Lowered.{IsOffered, LowersAt, Lowers};
 
 use crate::blocks::{Blocks, Span};
 use crate::words::Words;
@@ -56,12 +55,10 @@ impl<C: Cost> Drop for RowLabels<C> {
     }
 }
 
-// What is offered along the first `count` places of a row: what is paid before it, with its rank if it has one, and what each
-// place costs.
+// What is offered along the first `count` places of a row: what is paid before it, and what each place costs.
 #[derive(Drop)]
 struct Offers<'a, C: Cost> {
     paid: C,
-    rank: Option<u64>,
     costs: &'a CostRow<'a, C>,
     count: usize,
 }
@@ -104,7 +101,6 @@ impl<C: Cost> RowLabels<C> {
         let count = count.min(costs.len());
         let offers = Offers {
             paid,
-            rank: paid.rank(),
             costs,
             count,
         };
@@ -122,7 +118,6 @@ impl<C: Cost> Rows<C> {
         improved: &mut Vec<usize>,
     ) -> Result<(), AllocError>
         requires fits { (j : ℕ) (s : _) → j < offers.now.count → slice_get offers.now.costs.now j ≡ Some (Some s) → C.ops.units (C.ops.plus offers.now.paid s) (2 ^ 31) }
-        requires rank { offers.now.rank ≡ C.ranked offers.now.paid }
         requires long { offers.now.count ≤ length offers.now.costs.now }
         requires none { improved.old.items ≡ [] }
         ensures { OnOk result (LowersRow C.ops (value_of self.old) (value_of self.new) name offers.now.paid offers.now.costs.now offers.now.count improved.new.items) }
@@ -192,7 +187,6 @@ fn lower_values<C: Cost>(
     improved: &mut Vec<usize>,
 ) -> Result<(), AllocError>
     requires fits { (j : ℕ) (s : _) → j < offers.now.count → slice_get offers.now.costs.now j ≡ Some (Some s) → C.ops.units (C.ops.plus offers.now.paid s) (2 ^ 31) }
-    requires rank { offers.now.rank ≡ C.ranked offers.now.paid }
     requires long { offers.now.count ≤ length offers.now.costs.now }
     requires room { first + offers.now.count ≤ length words.old }
     requires small { first + offers.now.count < 2 ^ 64 }
@@ -216,7 +210,6 @@ fn lower_place<C: Cost>(
     improved: &mut Vec<usize>,
 ) -> Result<(), AllocError>
     requires fits { (j : ℕ) (s : _) → j < offers.now.count → slice_get offers.now.costs.now j ≡ Some (Some s) → C.ops.units (C.ops.plus offers.now.paid s) (2 ^ 31) }
-    requires rank { offers.now.rank ≡ C.ranked offers.now.paid }
     requires place { place < offers.now.count }
     requires long { offers.now.count ≤ length offers.now.costs.now }
     requires room { first + offers.now.count ≤ length words.old }
@@ -227,9 +220,6 @@ fn lower_place<C: Cost>(
     let Some(cost) = offers.costs.get(place) else {
         return Ok(());
     };
-    if is_over(words, first + place, offers.rank, cost) {
-        return Ok(());
-    }
     lower_value(
         words,
         first + place,
@@ -237,22 +227,6 @@ fn lower_place<C: Cost>(
         place,
         improved,
     )
-}
-
-// Whether the rank of what is paid and that of a cost are together no less than the rank of a value.
-#[inline(always)]
-fn is_over<C: Cost>(words: &Words<C>, at: usize, paid: Option<u64>, cost: C) -> bool
-    requires place { at < length words.now }
-    requires rank { IfSome paid (λ r. r < 2 ^ 63) }
-    ensures { OnTrue result (IsOver C.ranked words.now at paid cost) }
-{
-    let Some(paid) = paid else {
-        return false;
-    };
-    match cost.rank() {
-        None => false,
-        Some(rank) => words.is_within(at, paid + rank),
-    }
 }
 
 // Makes an offer the value at a place of the words where it is less or there is none; the place of the row is improved then.

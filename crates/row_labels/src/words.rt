@@ -1,10 +1,8 @@
-//! A list of costs, of which each may be missing, in a word each. Most words are ranks, which tell without a look at costs how
-//! a sum of two compares.
+//! A list of costs, of which each may be missing, in a word each.
 
 ghost use Rattle.std.specs.Prelude.{◌≡◌, ◌+◌, ◌^◌, ◌<◌, ◌++◌, List, [], length, replicate, set, Some, None, IfOk, OnOk, OnErr};
-ghost use Rattle.std.specs.Bool.{OnTrue};
 ghost use Rattle.std.specs.List.{slice_get};
-ghost use Rattle.row_labels.specs.Worded.{value_at, IsPlaced, IsRankOrPlace, IsWithinRank};
+ghost use Rattle.row_labels.specs.Worded.{value_at, IsPlaced};
 
 use search_graph::Cost;
 use std::alloc::{AllocError, Global};
@@ -43,7 +41,7 @@ impl<C: Cost> Model for Words<C> {
 
     ghost view = { λ s. values_of C.unranked s.others.items s.words.items };
 
-    ghost invariant = { λ s. AreWorded C.ranked C.unranked s.others.items s.words.items };
+    ghost invariant = { λ s. AreWorded s.others.items s.words.items };
 }
 
 // What a word stands for.
@@ -86,16 +84,6 @@ impl<C: Cost> Words<C> {
         value(self.words[i], self.others.as_slice())
     }
 
-    /// Whether the cost at place `i` has a rank, which is no more than this one. It looks at no cost.
-    #[inline(always)]
-    pub fn is_within(&self, i: usize, rank: u64) -> bool
-        requires { i < length self.now }
-        ensures { OnTrue result (IsWithinRank C.ranked self.now i rank) }
-    {
-        let word = self.words[i];
-        word < PLACES && word <= rank
-    }
-
     /// Puts a cost in place of what is at `i`.
     pub fn put(&mut self, i: usize, cost: C) -> Result<(), AllocError>
         requires { i < length self.old }
@@ -132,7 +120,6 @@ fn word_of<C: Cost>(cost: C, others: &mut Vec<C>) -> Result<u64, AllocError>
     requires few { length others.old.items < 2 ^ 63 }
     ensures value { IfOk result (λ word. value_at C.unranked others.new.items word ≡ Some cost) }
     ensures placed { IfOk result (λ word. IsPlaced others.new.items word) }
-    ensures ranked { IfOk result (λ word. IsRankOrPlace C.ranked C.unranked word) }
     ensures few { length others.new.items < 2 ^ 63 }
     ensures grown { (more : List C) × (others.new.items ≡ others.old.items ++ more) }
 {
@@ -148,7 +135,6 @@ fn add_other<C: Cost>(cost: C, others: &mut Vec<C>) -> Result<u64, AllocError>
     requires few { length others.old.items < 2 ^ 63 }
     ensures value { IfOk result (λ word. value_at C.unranked others.new.items word ≡ Some cost) }
     ensures placed { IfOk result (λ word. IsPlaced others.new.items word) }
-    ensures ranked { IfOk result (λ word. IsRankOrPlace C.ranked C.unranked word) }
     ensures few { length others.new.items < 2 ^ 63 }
     ensures grown { (more : List C) × (others.new.items ≡ others.old.items ++ more) }
 {

@@ -1,7 +1,7 @@
 -- What slots with words stand for, where one is written and costs are put behind the others.
 use Rattle.std.proofs.Common.{◌≡◌, ◌⊎◌, ℕ, ◌+◌, ◌-◌, ◌<◌, ◌≤◌, ◌^◌, inl, inr, Bool, true, false, not, true≢false, List, ◌++◌, length, length-append, Option, Some, None, IfSome, IfNone, arith, refl, sym, ◌∙◌, ap, subst, get_or}
 use Rattle.std.specs.Bool.{OnTrue, OnFalse}
-use Rattle.std.specs.Ordering.{is_gt, is_lt, nat_cmp}
+use Rattle.std.specs.Ordering.{is_lt}
 use Rattle.std.specs.declared.cmp.Ordering.{Ordering}
 use Rattle.std.specs.declared.cmp.Ordering.TheVariants.{Less, Equal, Greater}
 use Rattle.std.proofs.lemmas.Bool.Decides.{nat_tests}
@@ -10,11 +10,10 @@ use Rattle.std.proofs.lemmas.Option.{same_Some}
 use Rattle.std.proofs.Math.ListN.{get_or-append, get_or-map}
 use Rattle.search_graph.specs.Costs.{CostOps, CostLaws, NoDearer}
 use Rattle.search_graph.specs.OrderLaws.{le_from_not_less}
-use Rattle.search_graph.specs.Ranks.{AreRanks}
 use Rattle.search_labels.specs.Labelled.{label_in, settled_in, label_of, changed, LabelWithin}
 use Rattle.search_labels.specs.ChangedLaws.{same_place, changed-here, changed-there}
 use Rattle.search_labels.specs.Slotted.{slot_at}
-use Rattle.search_labels.specs.Worded.{cost_at, read_slot, read_slots, IsWord, AreWorded}
+use Rattle.search_labels.specs.Worded.{cost_at, read_slot, read_slots, AreWorded}
 use Rattle.search_labels.specs.declared.labels.Label.{Label}
 use Rattle.search_labels.specs.declared.labels.Slot.{Slot}
 use Rattle.search_labels.specs.declared.labels.Slot.TheVariants.{Untouched, Labelled, Settled}
@@ -76,9 +75,9 @@ module _ {C : Type 0} (f : ℕ → C) (others : List C) (old : List (Slot ℕ)) 
   label_read v slot e = ap label_in (sym (slots_same v) ∙ ap (read_slot f others) e)
 
   -- they do so still where others have grown
-  slots_stay : {ranked : C → Option ℕ} (more grown : List C) → AreWorded ranked f others old → grown ≡ others ++ more → (u : ℕ) → read_slot f grown (slot_at old u) ≡ slot_at now u
+  slots_stay : (more grown : List C) → AreWorded others old → grown ≡ others ++ more → (u : ℕ) → read_slot f grown (slot_at old u) ≡ slot_at now u
   slots_stay more grown are g u =
-      ap (λ (xs : List C). read_slot f xs (slot_at old u)) g ∙ read_slot-grown f others more (slot_at old u) (λ l e. (are.each u l e).named) ∙ slots_same u
+      ap (λ (xs : List C). read_slot f xs (slot_at old u)) g ∙ read_slot-grown f others more (slot_at old u) (λ l e. (are.each u l e)) ∙ slots_same u
 
   -- one slot is written among these others
   slot_written : (grown : List C) (written : List (Slot ℕ)) (v : ℕ) (slot : Slot ℕ) → ((u : ℕ) → read_slot f grown (slot_at old u) ≡ slot_at now u) → slot_at written ≡ changed (slot_at old) v slot →
@@ -107,7 +106,7 @@ module _ {C : Type 0} (f : ℕ → C) (others : List C) (old : List (Slot ℕ)) 
   )
 
   -- a label is put
-  pub label_put : {ranked : C → Option ℕ} (more grown : List C) (written : List (Slot ℕ)) (v word node : ℕ) (label : Label C) → AreWorded ranked f others old → grown ≡ others ++ more →
+  pub label_put : (more grown : List C) (written : List (Slot ℕ)) (v word node : ℕ) (label : Label C) → AreWorded others old → grown ≡ others ++ more →
       slot_at written ≡ changed (slot_at old) v (Labelled node word) → cost_at f grown word ≡ label.cost → node ≡ label.node →
       slot_at (read_slots f grown written) ≡ changed (slot_at now) v (Labelled label.node label.cost)
   label_put more grown written v word node label are g change cost same_node =
@@ -115,24 +114,23 @@ module _ {C : Type 0} (f : ℕ → C) (others : List C) (old : List (Slot ℕ)) 
       ∙ ap (λ c. changed (slot_at now) v (Labelled node c)) cost ∙ ap (λ n. changed (slot_at now) v (Labelled n label.cost)) same_node
 
 -- words name costs still
-module _ {C : Type 0} {ranked : C → Option ℕ} {f : ℕ → C} (others : List C) (old : List (Slot ℕ)) (are : AreWorded ranked f others old) where
-  pub AreWorded-same : (new : List (Slot ℕ)) → slot_at new ≡ slot_at old → AreWorded ranked f others new
+module _ {C : Type 0} (others : List C) (old : List (Slot ℕ)) (are : AreWorded others old) where
+  pub AreWorded-same : (new : List (Slot ℕ)) → slot_at new ≡ slot_at old → AreWorded others new
   AreWorded-same new same = record {
     few = are.few;
     each = λ v l e. are.each v l (ap (λ (k : ℕ → Slot ℕ). label_in (k v)) (sym same) ∙ e);
   }
 
-  pub AreWorded-grown : (more grown : List C) → grown ≡ others ++ more → length grown < 2 ^ 63 → AreWorded ranked f grown old
+  pub AreWorded-grown : (more grown : List C) → grown ≡ others ++ more → length grown < 2 ^ 63 → AreWorded grown old
   AreWorded-grown more grown g few = record {
     few = few;
     each = λ v l e.
-        let word = are.each v l e in
-        let lt = word.named in
+        let lt = are.each v l e in
         let size : length grown ≡ length others + length more = ap length g ∙ length-append others more in
-        record { named = omega arith; rank = word.rank };
+        omega arith;
   }
 
-  pub AreWorded-written : (new : List (Slot ℕ)) (v : ℕ) (slot : Slot ℕ) → slot_at new ≡ changed (slot_at old) v slot → ((l : Label ℕ) → label_in slot ≡ Some l → IsWord ranked f (length others) l.cost) → AreWorded ranked f others new
+  pub AreWorded-written : (new : List (Slot ℕ)) (v : ℕ) (slot : Slot ℕ) → slot_at new ≡ changed (slot_at old) v slot → ((l : Label ℕ) → label_in slot ≡ Some l → (l.cost < 2 ^ 63 + length others)) → AreWorded others new
   AreWorded-written new v slot change names = record {
     few = are.few;
     each = λ u l e.
@@ -144,13 +142,13 @@ module _ {C : Type 0} {ranked : C → Option ℕ} {f : ℕ → C} (others : List
   }
 
   pub AreWorded-settled : (new : List (Slot ℕ)) (v : ℕ) (o : Option (Label ℕ)) → IfSome o (λ l. (slot_at old v ≡ Labelled l.node l.cost) × (slot_at new ≡ changed (slot_at old) v (Settled l.node l.cost))) →
-      IfNone o ((slot_at new ≡ slot_at old) × ((settled_in (slot_at old v) ≡ true) ⊎ (label_in (slot_at old v) ≡ None))) → AreWorded ranked f others new
+      IfNone o ((slot_at new ≡ slot_at old) × ((settled_in (slot_at old v) ≡ true) ⊎ (label_in (slot_at old v) ≡ None))) → AreWorded others new
   AreWorded-settled new v (Some l) s n = AreWorded-written new v (Settled l.node l.cost) s.1 (λ m e. are.each v m (ap label_in s.0 ∙ e))
   AreWorded-settled new v None s n = AreWorded-same new n.0
 
   -- a label is put whose word names a cost among those that have grown
   pub AreWorded-put : (more grown : List C) (written : List (Slot ℕ)) (v word node : ℕ) → grown ≡ others ++ more → length grown < 2 ^ 63 →
-      slot_at written ≡ changed (slot_at old) v (Labelled node word) → IsWord ranked f (length grown) word → AreWorded ranked f grown written
+      slot_at written ≡ changed (slot_at old) v (Labelled node word) → word < 2 ^ 63 + length grown → AreWorded grown written
   AreWorded-put more grown written v word node g few change named =
       let before = AreWorded-grown more grown g few in
       record {
@@ -158,18 +156,10 @@ module _ {C : Type 0} {ranked : C → Option ℕ} {f : ℕ → C} (others : List
         each = λ u l e.
             let is : label_in (changed (slot_at old) v (Labelled node word) u) ≡ Some l = ap (λ (k : ℕ → Slot ℕ). label_in (k u)) (sym change) ∙ e in
             elim (same_place v u) [
-              | inl k ↦ subst (λ (m : Label ℕ). IsWord ranked f (length grown) m.cost) (same_Some _ l (ap label_in (sym (changed-here (slot_at old) v (Labelled node word) u k)) ∙ is)) named
+              | inl k ↦ subst (λ (m : Label ℕ). m.cost < 2 ^ 63 + length grown) (same_Some _ l (ap label_in (sym (changed-here (slot_at old) v (Labelled node word) u k)) ∙ is)) named
               | inr k ↦ before.each u l (ap label_in (sym (changed-there (slot_at old) v (Labelled node word) u k)) ∙ is)
             ];
       }
-
--- ranks are in the order of their costs
-module _ {C : Type 0} {ops : CostOps C} {ranked : C → Option ℕ} {unranked : ℕ → C} (ranks : AreRanks ops ranked unranked) (r s : ℕ) (c : C) (is : ranked (unranked r) ≡ Some r) (has : ranked c ≡ Some s) where
-  pub within_rank : r ≤ s → NoDearer ops (unranked r) c
-  within_rank le = ap is_gt (ranks.ordered (unranked r) c r s is has) ∙ (let not : is_gt (nat_cmp r s) ≡ false = grind (arith, nat_tests) in not)
-
-  pub less_rank : s < r → ops.cmp c (unranked r) ≡ Less
-  less_rank lt = ranks.ordered c (unranked r) s r has is ∙ (let less : nat_cmp s r ≡ Less = grind (arith, nat_tests) in less)
 
 Less_from : (r : Ordering) → is_lt r ≡ true → r ≡ Less
 Less_from Less h = refl

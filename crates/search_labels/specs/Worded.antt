@@ -1,5 +1,5 @@
 -- Private to this crate: labels whose costs stand in words of 64 bits, most by their ranks, the others by their places.
-use Rattle.std.specs.Prelude.{◌≡◌, ℕ, ◌-◌, ◌+◌, ◌^◌, ◌<◌, List, Option, Some, map, length, nat_lt, if◌then◌else◌, slice_index_or}
+use Rattle.std.specs.Prelude.{◌≡◌, ℕ, ◌-◌, ◌+◌, ◌^◌, ◌<◌, List, Some, map, length, nat_lt, if◌then◌else◌, slice_index_or}
 use Rattle.search_labels.specs.Labelled.{label_in}
 use Rattle.search_labels.specs.Slotted.{slot_at}
 use Rattle.search_labels.specs.declared.labels.Label.{Label}
@@ -24,12 +24,7 @@ read_slot unranked others (Settled node word) = Settled node (cost_at unranked o
 abbrev pub read_slots : {C : Type 0} → (ℕ → C) → List C → List (Slot ℕ) → List (Slot C)
 read_slots unranked others slots = map (read_slot unranked others) slots
 
--- a word names a cost where so many stand among the others, and below 2^63 it is the rank of that cost
-pub record IsWord {C : Type 0} (ranked : C → Option ℕ) (unranked : ℕ → C) (count : ℕ) (word : ℕ) : Type 0 where
-  pub named : word < 2 ^ 63 + count
-  pub rank : word < 2 ^ 63 → ranked (unranked word) ≡ Some word
-
 -- each word names a cost, which it does still when others grow, and there are fewer others than places
-pub record AreWorded {C : Type 0} (ranked : C → Option ℕ) (unranked : ℕ → C) (others : List C) (slots : List (Slot ℕ)) : Type 0 where
+pub record AreWorded {C : Type 0} (others : List C) (slots : List (Slot ℕ)) : Type 0 where
   pub few : length others < 2 ^ 63
-  pub each : (v : ℕ) (l : Label ℕ) → label_in (slot_at slots v) ≡ Some l → IsWord ranked unranked (length others) l.cost
+  pub each : (v : ℕ) (l : Label ℕ) → label_in (slot_at slots v) ≡ Some l → l.cost < 2 ^ 63 + length others

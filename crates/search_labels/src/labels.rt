@@ -57,7 +57,7 @@ impl<C: Cost> Model for Labels<C> {
 
     ghost view = { λ s. read_slots C.unranked s.others.items s.slots };
 
-    ghost invariant = { λ s. AreWorded C.ranked C.unranked s.others.items s.slots };
+    ghost invariant = { λ s. AreWorded s.others.items s.slots };
 }
 
 impl<C: Cost> Labels<C> {
@@ -100,7 +100,7 @@ impl<C: Cost> Labels<C> {
         }
     }
 
-    /// Whether `v` has a label that costs no more than `cost`. Where both have ranks, these are compared.
+    /// Whether `v` has a label that costs no more than `cost`.
     #[inline(always)]
     pub fn is_within(&self, v: u32, cost: C) -> bool
         ensures yes { OnTrue result (LabelWithin C.ops (label_of self.now) v cost) }

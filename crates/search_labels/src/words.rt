@@ -1,10 +1,10 @@
 //! Words in place of costs: most costs have a rank, and those that have none stand in a list beside.
 
-ghost use Rattle.std.specs.Prelude.{◌≡◌, ◌+◌, ◌^◌, ◌<◌, ◌++◌, List, Some, length, IfOk};
+ghost use Rattle.std.specs.Prelude.{◌≡◌, ◌+◌, ◌^◌, ◌<◌, ◌++◌, List, length, IfOk};
 ghost use Rattle.std.specs.Bool.{OnTrue, OnFalse};
 ghost use Rattle.std.specs.declared.cmp.Ordering.TheVariants.{Less};
 ghost use Rattle.search_graph.specs.Costs.{NoDearer};
-ghost use Rattle.search_labels.specs.Worded.{cost_at, IsWord};
+ghost use Rattle.search_labels.specs.Worded.{cost_at};
 
 use search_graph::Cost;
 use std::alloc::AllocError;
@@ -29,31 +29,13 @@ pub fn cost_of<C: Cost>(word: u64, others: &[C]) -> C
     }
 }
 
-/// Whether what a word stands for is no more than `cost`. Most often both have ranks, which are compared.
+/// Whether what a word stands for is no more than `cost`.
 #[inline(always)]
 pub fn is_within<C: Cost>(word: u64, cost: C, others: &[C]) -> bool
-    requires { IsWord C.ranked C.unranked (length others.now) word }
     ensures yes { OnTrue result (NoDearer C.ops (cost_at C.unranked others.now word) cost) }
     ensures no { OnFalse result (C.ops.cmp cost (cost_at C.unranked others.now word) ≡ Less) }
 {
-    if word < PLACES {
-        is_rank_within(word, cost)
-    } else {
-        is_no_dearer(cost_of(word, others), cost)
-    }
-}
-
-// Whether the cost of a rank is no more than `cost`.
-#[inline(always)]
-fn is_rank_within<C: Cost>(word: u64, cost: C) -> bool
-    requires { C.ranked (C.unranked word) ≡ Some word }
-    ensures yes { OnTrue result (NoDearer C.ops (C.unranked word) cost) }
-    ensures no { OnFalse result (C.ops.cmp cost (C.unranked word) ≡ Less) }
-{
-    match cost.rank() {
-        Some(rank) => word <= rank,
-        None => is_no_dearer(C::of_rank(word), cost),
-    }
+    is_no_dearer(cost_of(word, others), cost)
 }
 
 // Whether `a` is no more than `b`.
@@ -70,7 +52,7 @@ fn is_no_dearer<C: Cost>(a: C, b: C) -> bool
 pub fn word_of<C: Cost>(cost: C, others: &mut Vec<C>) -> Result<u64, AllocError>
     requires few { length others.old.items < 2 ^ 63 }
     ensures value { IfOk result (λ word. cost_at C.unranked others.new.items word ≡ cost) }
-    ensures named { IfOk result (λ word. IsWord C.ranked C.unranked (length others.new.items) word) }
+    ensures named { IfOk result (λ word. word < 2 ^ 63 + length others.new.items) }
     ensures few { length others.new.items < 2 ^ 63 }
     ensures grown { (more : List C) × (others.new.items ≡ others.old.items ++ more) }
 {
@@ -85,7 +67,7 @@ pub fn word_of<C: Cost>(cost: C, others: &mut Vec<C>) -> Result<u64, AllocError>
 fn add_other<C: Cost>(cost: C, others: &mut Vec<C>) -> Result<u64, AllocError>
     requires few { length others.old.items < 2 ^ 63 }
     ensures value { IfOk result (λ word. cost_at C.unranked others.new.items word ≡ cost) }
-    ensures named { IfOk result (λ word. IsWord C.ranked C.unranked (length others.new.items) word) }
+    ensures named { IfOk result (λ word. word < 2 ^ 63 + length others.new.items) }
     ensures few { length others.new.items < 2 ^ 63 }
     ensures grown { (more : List C) × (others.new.items ≡ others.old.items ++ more) }
 {

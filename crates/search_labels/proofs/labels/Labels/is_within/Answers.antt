@@ -1,20 +1,12 @@
 -- The cost that the word of the slot stands for is that of the label.
-use Rattle.std.proofs.Common.{length, sym, ap, subst}
+use Rattle.std.proofs.Common.{sym, subst}
 use Rattle.std.specs.Bool.{OnTrue}
 use Rattle.search_graph.specs.Costs.{NoDearer}
-use Rattle.search_labels.specs.Labelled.{label_in, label_of}
-use Rattle.search_labels.specs.Worded.{cost_at, read_label, IsWord}
+use Rattle.search_labels.specs.Labelled.{label_of}
+use Rattle.search_labels.specs.Worded.{cost_at, read_label}
 use Rattle.search_labels.specs.declared.labels.Slot.TheVariants.{Labelled, Settled}
 use Rattle.search_labels.proofs.Wording.{label_read, OnTrue-LabelWithin}
 use Rattle.search_labels.proofs.labels.Labels.is_within.Goals as goal
-
-pub is_within-requires : goal.is_within-requires
-is_within-requires g c =
-    subst (λ others. IsWord g.C.Cost.ranked g.C.Cost.unranked (length others) c.in-Labelled.word) (sym c.as_slice.ensures.value) (c.self.invariant.each c.args.v _ (ap label_in (sym c.in-Labelled.ensures)))
-
-pub is_within-requires-in-Settled : goal.is_within-requires-in-Settled
-is_within-requires-in-Settled g c =
-    subst (λ others. IsWord g.C.Cost.ranked g.C.Cost.unranked (length others) c.in-Settled.word) (sym c.as_slice-in-Settled.ensures.value) (c.self.invariant.each c.args.v _ (ap label_in (sym c.in-Settled.ensures)))
 
 pub returns-in-Labelled-clause-yes : goal.returns-in-Labelled-clause-yes
 returns-in-Labelled-clause-yes g c =
