@@ -11,7 +11,7 @@ use std::process::Abort;
 
 /// The last that are short, the first that aren't, one of the weight of its length, one of its own, and none.
 const COSTS: &str =
-    "7/7/12 - 2147483647/2147483647/2147483647 2147483648/2147483648/0 0/0/2147483648 12/7/12 9/7/12 18446744073709551615/18446744073709551615/18446744073709551615 0/0/0";
+    "7/7/12 - 1073741823/1073741823/2147483647 1073741824/1073741824/0 0/0/2147483648 12/7/12 9/7/12 18446744073709551615/18446744073709551615/18446744073709551615 0/0/0";
 
 // The cost that a text tells, None for `-`.
 fn cost(text: &str) -> Result<Option<WeightDurLen>, AllocError> {
@@ -86,7 +86,7 @@ fn assert_parts(
 ) -> Result<(), AllocError> {
     assert!(rt; list.len() == 9);
     let want =
-        "5: 2147483648/2147483648/0 0/0/2147483648 12/7/12 9/7/12 18446744073709551615/18446744073709551615/18446744073709551615 ";
+        "5: 1073741824/1073741824/0 0/0/2147483648 12/7/12 9/7/12 18446744073709551615/18446744073709551615/18446744073709551615 ";
     let told = part_told(alloc, list, 3, 8)?;
     assert_eq!(rt; told.as_str(), want);
     let none = part_told(alloc, list, 3, 3)?;
