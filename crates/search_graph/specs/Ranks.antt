@@ -10,3 +10,7 @@ pub record AreRanks {C : Type 0} (ops : CostOps C) (ranked : C → Option ℕ) (
   pub back : (a : C) (r : ℕ) → ranked a ≡ Some r → unranked r ≡ a
   pub ordered : (a b : C) (r s : ℕ) → ranked a ≡ Some r → ranked b ≡ Some s → ops.cmp a b ≡ nat_cmp r s
   pub sums : (a b c : C) (r s t : ℕ) → ranked a ≡ Some r → ranked b ≡ Some s → ranked c ≡ Some t → ops.cmp (ops.plus a b) c ≡ nat_cmp (r + s) t
+
+-- What narrows to a word below `most` has that word as its rank.
+abbrev pub AreOwnRanks : {C : Type 0} → (C → Option ℕ) → (C → Option ℕ) → ℕ → Type 0
+AreOwnRanks {C} narrowed ranked most = (a : C) (w : ℕ) → narrowed a ≡ Some w → w < most → ranked a ≡ Some w

@@ -1,6 +1,6 @@
--- `WeightDurLen` in a word: a duration below 2^31 in front of a length below 2^31, and before both a bit that says whether the
--- weight is the length. And as a rank, where the weight is the duration: the same two numbers with a bit between them, which the
--- sum of two lengths may take.
+-- `WeightDurLen` in a word: a duration below 2^30 in front of a length below 2^31 with a free bit between them, and before both a
+-- bit that says whether the weight is the length. And as a rank, where the weight is the duration: the same two numbers, the
+-- duration below 2^31. The sum of two lengths may take the bit between them.
 use Rattle.std.specs.Prelude.{◌≡◌, ℕ, ◌+◌, ◌*◌, ◌/◌, ◌%◌, ◌^◌, ◌<◌, ◌&&◌, ◌==◌, ◌⊎◌, Bool, Option, None, Some, nat_lt, refl, if◌then◌else◌}
 use Rattle.std.proofs.Common.{◌≤◌, inl, inr, ◌∙◌, arith, sym, ap}
 use Rattle.std.proofs.lemmas.Bool.Decides.{nat_tests}
@@ -8,24 +8,28 @@ use Rattle.std.specs.Ordering.{ordering_then, nat_cmp}
 use Rattle.std.specs.declared.cmp.Ordering.{Ordering}
 use Rattle.std.specs.declared.cmp.Ordering.TheVariants.{Less, Equal, Greater}
 use Rattle.search_graph.specs.declared.costs.WeightDurLen.{WeightDurLen}
-use Rattle.search_graph.specs.Ranks.{AreRanks}
+use Rattle.search_graph.specs.Ranks.{AreRanks, AreOwnRanks}
 use Rattle.search_graph.specs.RoadCosts.{parts-same, road_cost_ops}
 use Rattle.cost_lists.specs.Words.{IsLossless}
 
 -- duration and length fit into a word
+abbrev pub is_narrow_cost : WeightDurLen → Bool
+is_narrow_cost a = nat_lt a.duration (2 ^ 30) && nat_lt a.length (2 ^ 31)
+
+-- they fit into a rank
 abbrev pub is_short_cost : WeightDurLen → Bool
 is_short_cost a = nat_lt a.duration (2 ^ 31) && nat_lt a.length (2 ^ 31)
 
 abbrev pub road_cost_narrowed : WeightDurLen → Option ℕ
-road_cost_narrowed a = if is_short_cost a then
-    (if a.weight == a.duration then Some (a.duration * 2 ^ 31 + a.length)
-    else (if a.weight == a.length then Some (2 ^ 62 + (a.duration * 2 ^ 31 + a.length)) else None))
+road_cost_narrowed a = if is_narrow_cost a then
+    (if a.weight == a.duration then Some (a.duration * 2 ^ 32 + a.length)
+    else (if a.weight == a.length then Some (2 ^ 62 + (a.duration * 2 ^ 32 + a.length)) else None))
     else None
 
 abbrev pub road_cost_widened : ℕ → WeightDurLen
 road_cost_widened word = record {
-  weight = if nat_lt word (2 ^ 62) then word / 2 ^ 31 % 2 ^ 31 else word % 2 ^ 31;
-  duration = word / 2 ^ 31 % 2 ^ 31;
+  weight = if nat_lt word (2 ^ 62) then word / 2 ^ 32 % 2 ^ 30 else word % 2 ^ 31;
+  duration = word / 2 ^ 32 % 2 ^ 30;
   length = word % 2 ^ 31;
 }
 
@@ -40,21 +44,21 @@ road_cost_unranked rank = record {
   length = rank % 2 ^ 32;
 }
 
--- two numbers below 2^31 make a word below 2^62, and come back from it
-word-below : (d l : ℕ) → d < 2 ^ 31 → l < 2 ^ 31 → d * 2 ^ 31 + l < 2 ^ 62
+-- a number below 2^30 and one below 2^31 make a word below 2^62, and come back from it
+word-below : (d l : ℕ) → d < 2 ^ 30 → l < 2 ^ 31 → d * 2 ^ 32 + l < 2 ^ 62
 word-below d l h k = omega arith
 
-word-front : (d l : ℕ) → d < 2 ^ 31 → l < 2 ^ 31 → (d * 2 ^ 31 + l) / 2 ^ 31 % 2 ^ 31 ≡ d
+word-front : (d l : ℕ) → d < 2 ^ 30 → l < 2 ^ 31 → (d * 2 ^ 32 + l) / 2 ^ 32 % 2 ^ 30 ≡ d
 word-front d l h k = omega arith
 
-word-back : (d l : ℕ) → l < 2 ^ 31 → (d * 2 ^ 31 + l) % 2 ^ 31 ≡ l
+word-back : (d l : ℕ) → l < 2 ^ 31 → (d * 2 ^ 32 + l) % 2 ^ 31 ≡ l
 word-back d l k = omega arith
 
 -- so they do from one that has the bit before them
-word-front-far : (d l : ℕ) → d < 2 ^ 31 → l < 2 ^ 31 → (2 ^ 62 + (d * 2 ^ 31 + l)) / 2 ^ 31 % 2 ^ 31 ≡ d
+word-front-far : (d l : ℕ) → d < 2 ^ 30 → l < 2 ^ 31 → (2 ^ 62 + (d * 2 ^ 32 + l)) / 2 ^ 32 % 2 ^ 30 ≡ d
 word-front-far d l h k = omega arith
 
-word-back-far : (d l : ℕ) → l < 2 ^ 31 → (2 ^ 62 + (d * 2 ^ 31 + l)) % 2 ^ 31 ≡ l
+word-back-far : (d l : ℕ) → l < 2 ^ 31 → (2 ^ 62 + (d * 2 ^ 32 + l)) % 2 ^ 31 ≡ l
 word-back-far d l k = omega arith
 
 far-enough : (n : ℕ) → 2 ^ 62 ≤ 2 ^ 62 + n
@@ -62,11 +66,11 @@ far-enough n = omega arith
 
 -- what makes a word
 record IsWordOf (w d l word : ℕ) : Type 0 where
-  duration : d < 2 ^ 31
+  duration : d < 2 ^ 30
   length : l < 2 ^ 31
-  weight : ((w ≡ d) × (word ≡ d * 2 ^ 31 + l)) ⊎ ((w ≡ l) × (word ≡ 2 ^ 62 + (d * 2 ^ 31 + l)))
+  weight : ((w ≡ d) × (word ≡ d * 2 ^ 32 + l)) ⊎ ((w ≡ l) × (word ≡ 2 ^ 62 + (d * 2 ^ 32 + l)))
 
-word-parts : (w d l word : ℕ) → (if nat_lt d (2 ^ 31) && nat_lt l (2 ^ 31) then (if w == d then Some (d * 2 ^ 31 + l) else (if w == l then Some (2 ^ 62 + (d * 2 ^ 31 + l)) else None)) else None) ≡ Some word → IsWordOf w d l word
+word-parts : (w d l word : ℕ) → (if nat_lt d (2 ^ 30) && nat_lt l (2 ^ 31) then (if w == d then Some (d * 2 ^ 32 + l) else (if w == l then Some (2 ^ 62 + (d * 2 ^ 32 + l)) else None)) else None) ≡ Some word → IsWordOf w d l word
 word-parts w d l word e = grind (arith, nat_tests, IsWordOf)
 
 rank-parts : (w d l r : ℕ) → (if (w == d) && (nat_lt d (2 ^ 31) && nat_lt l (2 ^ 31)) then Some (d * 2 ^ 32 + l) else None) ≡ Some r → (w ≡ d) × (d < 2 ^ 31) × (l < 2 ^ 31) × (d * 2 ^ 32 + l ≡ r)
@@ -79,15 +83,15 @@ chosen-near word x y h = grind (arith, nat_tests)
 chosen-far : (word x y : ℕ) → 2 ^ 62 ≤ word → (if nat_lt word (2 ^ 62) then x else y) ≡ y
 chosen-far word x y h = grind (arith, nat_tests)
 
-widened-near : (a : WeightDurLen) → a.duration < 2 ^ 31 → a.length < 2 ^ 31 → a.weight ≡ a.duration → road_cost_widened (a.duration * 2 ^ 31 + a.length) ≡ a
+widened-near : (a : WeightDurLen) → a.duration < 2 ^ 30 → a.length < 2 ^ 31 → a.weight ≡ a.duration → road_cost_widened (a.duration * 2 ^ 32 + a.length) ≡ a
 widened-near a h k e =
     let d = word-front a.duration a.length h k in
     parts-same (chosen-near _ _ _ (word-below a.duration a.length h k) ∙ d ∙ sym e) d (word-back a.duration a.length k)
 
-widened-far : (a : WeightDurLen) → a.duration < 2 ^ 31 → a.length < 2 ^ 31 → a.weight ≡ a.length → road_cost_widened (2 ^ 62 + (a.duration * 2 ^ 31 + a.length)) ≡ a
+widened-far : (a : WeightDurLen) → a.duration < 2 ^ 30 → a.length < 2 ^ 31 → a.weight ≡ a.length → road_cost_widened (2 ^ 62 + (a.duration * 2 ^ 32 + a.length)) ≡ a
 widened-far a h k e =
     let l = word-back-far a.duration a.length k in
-    parts-same (chosen-far _ _ _ (far-enough (a.duration * 2 ^ 31 + a.length)) ∙ l ∙ sym e) (word-front-far a.duration a.length h k) l
+    parts-same (chosen-far _ _ _ (far-enough (a.duration * 2 ^ 32 + a.length)) ∙ l ∙ sym e) (word-front-far a.duration a.length h k) l
 
 widened-from : (a : WeightDurLen) (word : ℕ) → IsWordOf a.weight a.duration a.length word → road_cost_widened word ≡ a
 widened-from a word p = elim p.weight [
@@ -167,3 +171,19 @@ road_cost_ranks = record {
   ordered = λ a b r s e f. ranks-ordered a b r s (rank-of a r e) (rank-of b s f);
   sums = λ a b c r s t e f g. ranks-summed a b c r s t (rank-of a r e) (rank-of b s f) (rank-of c t g);
 }
+
+-- a word below 2^62 is one of a cost whose weight is the duration, and so its rank
+near-parts : (w d l word : ℕ) → IsWordOf w d l word → word < 2 ^ 62 → (w ≡ d) × (word ≡ d * 2 ^ 32 + l)
+near-parts w d l word p h = elim p.weight [
+  | inl e ↦ e
+  | inr e ↦ let far = e.1 in omega (arith, h, far)
+]
+
+near-rank : (w d l word : ℕ) → d < 2 ^ 30 → l < 2 ^ 31 → w ≡ d → word ≡ d * 2 ^ 32 + l → (if (w == d) && (nat_lt d (2 ^ 31) && nat_lt l (2 ^ 31)) then Some (d * 2 ^ 32 + l) else None) ≡ Some word
+near-rank w d l word h k e is = grind (arith, nat_tests)
+
+own-rank : (w d l word : ℕ) → IsWordOf w d l word → word < 2 ^ 62 → (if (w == d) && (nat_lt d (2 ^ 31) && nat_lt l (2 ^ 31)) then Some (d * 2 ^ 32 + l) else None) ≡ Some word
+own-rank w d l word p h = let near = near-parts w d l word p h in near-rank w d l word p.duration p.length near.0 near.1
+
+pub road_cost_own_ranks : AreOwnRanks road_cost_narrowed road_cost_ranked (2 ^ 62)
+road_cost_own_ranks = λ a word e h. own-rank a.weight a.duration a.length word (word-parts a.weight a.duration a.length word e) h

@@ -1,10 +1,11 @@
 //! Costs that can be added and compared.
 
-ghost use Rattle.std.specs.Prelude.{◌≡◌, ℕ, ◌+◌, ◌*◌, ◌^◌, Option, true, refl};
+ghost use Rattle.std.specs.Prelude.{◌≡◌, ℕ, ◌+◌, ◌*◌, ◌^◌, ◌<◌, ◌≤◌, Option, refl};
+ghost use Rattle.std.proofs.Common.{lit≤};
 ghost use Rattle.search_graph.specs.Costs.{CostOps, CostLaws};
-ghost use Rattle.search_graph.specs.Ranks.{AreRanks};
+ghost use Rattle.search_graph.specs.Ranks.{AreRanks, AreOwnRanks};
 ghost use Rattle.search_graph.specs.RoadCosts.{road_cost_ops, road_cost_laws};
-ghost use Rattle.search_graph.specs.Shortened.{road_cost_narrowed, road_cost_widened, is_short_cost, road_cost_lossless, road_cost_ranked, road_cost_unranked, road_cost_ranks};
+ghost use Rattle.search_graph.specs.Shortened.{road_cost_narrowed, road_cost_widened, is_narrow_cost, is_short_cost, road_cost_lossless, road_cost_ranked, road_cost_unranked, road_cost_ranks, road_cost_own_ranks};
 
 use cost_lists::Narrow;
 
@@ -18,6 +19,11 @@ pub trait Cost: Narrow + Ord {
 
     /// The cost of nothing.
     const ZERO: Self;
+
+    ghost RANKS: { ℕ };
+
+    /// A word of `Narrow` below this one is the rank of its cost. It is at most 2^62.
+    const RANKS: u64;
 
     /// Tells a proof that this value is valid. It does nothing.
     fn known(&self)
@@ -54,6 +60,10 @@ pub trait Cost: Narrow + Ord {
     ghost same_order: { ops.cmp ≡ Self.cmp };
 
     ghost ranks: { AreRanks ops ranked unranked };
+
+    ghost few_ranks: { RANKS ≤ 2 ^ 62 };
+
+    ghost own_ranks: { AreOwnRanks Self.narrowed ranked RANKS };
 }
 
 /// A weight, which says what is cheap, beside the duration in deciseconds and the length in decimetres that it is paid for.
@@ -81,6 +91,10 @@ impl Cost for WeightDurLen {
         length: 0,
     };
 
+    ghost RANKS = { 4611686018427387904 };
+
+    const RANKS: u64 = 4611686018427387904;
+
     ghost laws = { road_cost_laws };
 
     ghost zero_is = { refl };
@@ -92,6 +106,10 @@ impl Cost for WeightDurLen {
     ghost unranked = { road_cost_unranked };
 
     ghost ranks = { road_cost_ranks };
+
+    ghost few_ranks = { lit≤ tt };
+
+    ghost own_ranks = { road_cost_own_ranks };
 
     fn known(&self) {}
 
@@ -114,7 +132,7 @@ impl Cost for WeightDurLen {
     #[inline(always)]
     fn rank(self) -> Option<u64> {
         if self.weight == self.duration && is_short(self) {
-            Some(self.duration * RANK + self.length)
+            Some(number_of(self))
         } else {
             None
         }
@@ -131,17 +149,21 @@ impl Cost for WeightDurLen {
     }
 }
 
-// What one decisecond more adds to a rank: twice as much as a length may be, so that the lengths of two ranks add up below it.
+// What one decisecond more adds to a word or a rank: twice as much as a length may be, so that the lengths of two ranks add up
+// below it.
 const RANK: u64 = 4294967296;
 
-// Of a word's parts, the lengths, and so many durations: 2^31 decimetres, five times round the Earth, and 2^31 deciseconds, some
-// seven years.
+// So many lengths a word or a rank may have, and so many durations a rank: 2^31 decimetres, five times round the Earth, and 2^31
+// deciseconds, some seven years.
 const PART: u64 = 2147483648;
+
+// So many durations a word may have: 2^30 deciseconds, some three years and five months.
+const WORD_DURATIONS: u64 = 1073741824;
 
 // What a word has more whose weight is the length: 2^62.
 const BY_LENGTH: u64 = 4611686018427387904;
 
-// Whether duration and length fit into a word.
+// Whether duration and length fit into a rank.
 #[inline(always)]
 fn is_short(cost: WeightDurLen) -> bool
     ensures { result ≡ is_short_cost cost }
@@ -149,16 +171,26 @@ fn is_short(cost: WeightDurLen) -> bool
     cost.duration < PART && cost.length < PART
 }
 
-// The duration in front of the length.
+// Whether duration and length fit into a word.
 #[inline(always)]
-fn word_of(cost: WeightDurLen) -> u64
-    requires { is_short_cost cost ≡ true }
-    ensures { result ≡ cost.duration * 2 ^ 31 + cost.length }
+fn is_narrow(cost: WeightDurLen) -> bool
+    ensures { result ≡ is_narrow_cost cost }
 {
-    cost.duration * PART + cost.length
+    cost.duration < WORD_DURATIONS && cost.length < PART
 }
 
-/// A duration below 2^31 deciseconds with a length below 2^31 decimetres, where the weight is one of the two.
+// The duration in front of the length, with a free bit between them.
+#[inline(always)]
+fn number_of(cost: WeightDurLen) -> u64
+    requires duration { cost.duration < 2 ^ 31 }
+    requires length { cost.length < 2 ^ 31 }
+    ensures { result ≡ cost.duration * 2 ^ 32 + cost.length }
+{
+    cost.duration * RANK + cost.length
+}
+
+/// A duration below 2^30 deciseconds with a length below 2^31 decimetres, where the weight is one of the two. Where it is the
+/// duration, the word is the rank.
 impl Narrow for WeightDurLen {
     ghost narrowed = { road_cost_narrowed };
 
@@ -168,13 +200,13 @@ impl Narrow for WeightDurLen {
 
     #[inline(always)]
     fn narrow(self) -> Option<u64> {
-        if !is_short(self) {
+        if !is_narrow(self) {
             return None;
         }
         if self.weight == self.duration {
-            Some(word_of(self))
+            Some(number_of(self))
         } else if self.weight == self.length {
-            Some(BY_LENGTH + word_of(self))
+            Some(BY_LENGTH + number_of(self))
         } else {
             None
         }
@@ -182,7 +214,7 @@ impl Narrow for WeightDurLen {
 
     #[inline(always)]
     fn widen(word: u64) -> WeightDurLen {
-        let duration = word / PART % PART;
+        let duration = word / RANK % WORD_DURATIONS;
         let length = word % PART;
         WeightDurLen {
             weight: if word < BY_LENGTH { duration } else { length },
