@@ -2,16 +2,18 @@
 use Rattle.std.proofs.Common.{◌≡◌, ℕ, ◌+◌, ◌<◌, ◌≤◌, inl, inr, false, Option, Some, None, List, [], ◌∷◌, ◌++◌, length, Result, Ok, Err, OnOk, refl, sym, ◌∙◌, ap, subst, arith, get_or-set_same, get_or-set_other}
 use Rattle.std.proofs.Math.ListN.{set}
 use Rattle.std.proofs.lemmas.Bool.{cases_eq, cases_lt}
+use Rattle.std.proofs.lemmas.Bool.Decides.{nat_tests}
 use Rattle.std.specs.List.{Contains, slice_get}
-use Rattle.std.specs.Ordering.{is_lt}
+use Rattle.std.specs.Ordering.{is_lt, nat_cmp}
 use Rattle.std.specs.declared.cmp.Ordering.{Ordering}
 use Rattle.std.proofs.lemmas.List.Elements.{Contains-push_cases}
-use Rattle.std.proofs.lemmas.Option.{same_Some, none-some, slice_get_within}
+use Rattle.std.proofs.lemmas.Option.{same_Some, none-some, slice_get_within, get_or_from_slice_get}
 use Rattle.list_lemmas.proofs.Gets.{Contains_get, Contains_push, get_pushed}
 use Rattle.search_graph.specs.Costs.{CostOps, CostLaws, NoDearer}
+use Rattle.search_graph.specs.Ranks.{AreRanks}
 use Rattle.search_graph.specs.OrderLaws.{le_from_not_less}
 use Rattle.row_labels.specs.Rowed.{LowersRow}
-use Rattle.row_labels.specs.Lowered.{value_on, IsOffered, LowersAt, Lowers}
+use Rattle.row_labels.specs.Lowered.{value_on, IsOver, IsOffered, LowersAt, Lowers}
 use Rattle.row_labels.specs.Lowered.IsOffered.{left, lowered}
 use Rattle.row_labels.specs.Lowered.LowersAt.{closed, offered}
 
@@ -26,10 +28,25 @@ last_in xs x = Contains_get (xs ++ x ∷ []) (length xs) x (get_pushed xs x)
 none_in : {X : Type 0} (x : X) → Contains [] x → ⊥
 none_in x h = let lt : h.0 < 0 = h.1 in omega arith
 
+not_less : (r t : ℕ) → t ≤ r → is_lt (nat_cmp r t) ≡ false
+not_less r t h = grind (arith, nat_tests)
+
 -- an offer that isn't less than the value
 pub left_alone : {C : Type 0} {ops : CostOps C} (laws : CostLaws ops) (cmp : C → C → Ordering) → ops.cmp ≡ cmp → (values : List (Option C)) (i : ℕ) (offer d : C) (place : ℕ) (improved : List ℕ) →
     value_on values i ≡ Some d → is_lt (cmp offer d) ≡ false → IsOffered ops values values i offer place improved improved
 left_alone {C} laws cmp same values i offer d place improved at not = left d refl refl at (le_from_not_less laws offer d (ap (λ (f : C → C → Ordering). is_lt (f offer d)) same ∙ not))
+
+-- or whose rank is no less than the value's
+pub left_by_rank : {C : Type 0} {ops : CostOps C} (laws : CostLaws ops) {ranked : C → Option ℕ} {unranked : ℕ → C} → AreRanks ops ranked unranked → (first : ℕ) (values : List (Option C)) (paid : C) (rank : Option ℕ) (costs : List (Option C)) (s : C) (place : ℕ) (improved : List ℕ) →
+    rank ≡ ranked paid → slice_get costs place ≡ Some (Some s) → IsOver ranked values (first + place) rank s → LowersAt ops first values values paid costs place improved improved
+left_by_rank {C} {ops} laws ranks first values paid rank costs s place improved is at over =
+    let r = over.0 in
+    let n = over.1 in
+    let d = over.4.0 in
+    let t = over.4.1 in
+    let order = ranks.sums paid s d r n t (sym is ∙ over.2) over.3 over.4.3 in
+    let le : NoDearer ops d (ops.plus paid s) = le_from_not_less laws (ops.plus paid s) d (subst (λ o. is_lt o ≡ false) (sym order) (not_less (r + n) t over.4.4)) in
+    offered s at (left d refl refl (get_or_from_slice_get values (first + place) (Some d) None over.4.2) le)
 
 module _ {C : Type 0} (ops : CostOps C) (first : ℕ) (old : List (Option C)) (paid : C) (costs : List (Option C)) where
   -- before the first place

@@ -1,12 +1,21 @@
 -- Private to this crate: what offers along a row leave of the list of values, where the row's begin at `first`.
-use Rattle.std.specs.Prelude.{◌≡◌, ◌⊎◌, ℕ, ◌+◌, ◌<◌, List, [], Option, Some, None, slice_index_or, set, ◌∷◌, ◌++◌}
+use Rattle.std.specs.Prelude.{◌≡◌, ◌⊎◌, ℕ, ◌+◌, ◌<◌, ◌^◌, List, [], Option, Some, None, slice_index_or, set, ◌∷◌, ◌++◌}
 use Rattle.std.specs.List.{Contains, slice_get}
 use Rattle.search_graph.specs.Costs.{CostOps, NoDearer}
 use Rattle.row_labels.specs.Rowed.{IsImproved}
+use Rattle.row_labels.specs.Worded.{IsWithinRank}
 
 -- the value at a place of the list
 abbrev pub value_on : {C : Type 0} → List (Option C) → ℕ → Option C
 value_on values i = slice_index_or values i None
+
+-- where a word below `ranks` is, it is below `most`, and `rank` is that of what is paid and below 2^62
+abbrev pub AreAdded : {C : Type 0} → (C → Option ℕ) → ℕ → C → ℕ → ℕ → Type 0
+AreAdded ranked most paid rank ranks = (w : ℕ) → w < ranks → (w < most) × (ranked paid ≡ Some rank) × (rank < 2 ^ 62)
+
+-- the rank of what is paid and that of the cost at a place are together no less than the rank of the value at place i
+abbrev pub IsOver : {C : Type 0} → (C → Option ℕ) → List (Option C) → ℕ → C → List (Option C) → ℕ → Type 0
+IsOver {C} ranked values i paid costs place = (s : C) × (r n : ℕ) × (slice_get costs place ≡ Some (Some s)) × (ranked paid ≡ Some r) × (ranked s ≡ Some n) × IsWithinRank ranked values i (r + n)
 
 -- an offer at place i of the list: its value costs no more, or the offer becomes the value, and the place of the row is improved
 pub data IsOffered {C : Type 0} (ops : CostOps C) (old new : List (Option C)) (i : ℕ) (offer : C) (place : ℕ) (before after : List ℕ) : Type 0 where

@@ -1,10 +1,11 @@
 //! The rows, and offers along them.
 
 ghost use Rattle.std.specs.Prelude.{◌≡◌, ℕ, ◌+◌, ◌<◌, ◌≤◌, ◌^◌, [], length, IfOk, Some, None, OnOk};
+ghost use Rattle.std.specs.Bool.{OnTrue};
 ghost use Rattle.std.specs.List.{slice_get};
 ghost use Rattle.row_labels.specs.Rowed.{span_of, value_in, value_of, LowersRow};
 ghost use Rattle.row_labels.specs.Blocks.{AreApart};
-ghost use Rattle.row_labels.specs.Lowered.{IsOffered, LowersAt, Lowers};
+ghost use Rattle.row_labels.specs.Lowered.{AreAdded, IsOver, IsOffered, LowersAt, Lowers};
 
 use crate::blocks::{Blocks, Span};
 use crate::words::Words;
@@ -55,10 +56,16 @@ impl<C: Cost> Drop for RowLabels<C> {
     }
 }
 
-// What is offered along the first `count` places of a row: what is paid before it, and what each place costs.
+// From here on the rank of what is paid isn't added to words: below, the sum with one that is a rank is below 2^63.
+const HIGH_RANK: u64 = 4611686018427387904;
+
+// What is offered along the first `count` places of a row: what is paid before it, and what each place costs. The rank of what
+// is paid is added to words below `ranks`.
 #[derive(Drop)]
 struct Offers<'a, C: Cost> {
     paid: C,
+    rank: u64,
+    ranks: u64,
     costs: &'a CostRow<'a, C>,
     count: usize,
 }
@@ -99,14 +106,30 @@ impl<C: Cost> RowLabels<C> {
         ensures { OnOk result (LowersRow C.ops (value_of self.old.rows) (value_of self.new.rows) name paid costs.now count self.new.improved.items) }
     {
         let count = count.min(costs.len());
+        let (rank, ranks) = addends(paid);
         let offers = Offers {
             paid,
+            rank,
+            ranks,
             costs,
             count,
         };
         self.improved.clear();
         self.rows.lower(name, &offers, &mut self.improved)
     }
+}
+
+// The rank of what is paid, and below what it is added to words: to none where it has no rank or a high one.
+fn addends<C: Cost>(paid: C) -> (u64, u64)
+    ensures { AreAdded C.ranked C.RANKS paid result.0 result.1 }
+{
+    let Some(rank) = paid.rank() else {
+        return (0, 0);
+    };
+    if rank >= HIGH_RANK {
+        return (0, 0);
+    }
+    (rank, C::RANKS)
 }
 
 impl<C: Cost> Rows<C> {
@@ -118,6 +141,7 @@ impl<C: Cost> Rows<C> {
         improved: &mut Vec<usize>,
     ) -> Result<(), AllocError>
         requires fits { (j : ℕ) (s : _) → j < offers.now.count → slice_get offers.now.costs.now j ≡ Some (Some s) → C.ops.units (C.ops.plus offers.now.paid s) (2 ^ 31) }
+        requires ranks { AreAdded C.ranked C.RANKS offers.now.paid offers.now.rank offers.now.ranks }
         requires long { offers.now.count ≤ length offers.now.costs.now }
         requires none { improved.old.items ≡ [] }
         ensures { OnOk result (LowersRow C.ops (value_of self.old) (value_of self.new) name offers.now.paid offers.now.costs.now offers.now.count improved.new.items) }
@@ -187,6 +211,7 @@ fn lower_values<C: Cost>(
     improved: &mut Vec<usize>,
 ) -> Result<(), AllocError>
     requires fits { (j : ℕ) (s : _) → j < offers.now.count → slice_get offers.now.costs.now j ≡ Some (Some s) → C.ops.units (C.ops.plus offers.now.paid s) (2 ^ 31) }
+    requires ranks { AreAdded C.ranked C.RANKS offers.now.paid offers.now.rank offers.now.ranks }
     requires long { offers.now.count ≤ length offers.now.costs.now }
     requires room { first + offers.now.count ≤ length words.old }
     requires small { first + offers.now.count < 2 ^ 64 }
@@ -200,9 +225,50 @@ fn lower_values<C: Cost>(
     Ok(())
 }
 
-// Offers a cost along one place, if it has one.
+// Goes along one place: most are passed over by words alone.
 #[inline(always)]
 fn lower_place<C: Cost>(
+    words: &mut Words<C>,
+    first: usize,
+    offers: &Offers<C>,
+    place: usize,
+    improved: &mut Vec<usize>,
+) -> Result<(), AllocError>
+    requires fits { (j : ℕ) (s : _) → j < offers.now.count → slice_get offers.now.costs.now j ≡ Some (Some s) → C.ops.units (C.ops.plus offers.now.paid s) (2 ^ 31) }
+    requires ranks { AreAdded C.ranked C.RANKS offers.now.paid offers.now.rank offers.now.ranks }
+    requires place { place < offers.now.count }
+    requires long { offers.now.count ≤ length offers.now.costs.now }
+    requires room { first + offers.now.count ≤ length words.old }
+    requires small { first + offers.now.count < 2 ^ 64 }
+    ensures lowers { OnOk result (LowersAt C.ops first words.old words.new offers.now.paid offers.now.costs.now place improved.old.items improved.new.items) }
+    ensures long { length words.new ≡ length words.old }
+{
+    if is_over(words, first, offers, place) {
+        return Ok(());
+    }
+    offer_place(words, first, offers, place, improved)
+}
+
+// Whether the words of what is paid, of a place's cost and of its value tell that the offer there is no less than the value.
+#[inline(always)]
+fn is_over<C: Cost>(words: &Words<C>, first: usize, offers: &Offers<C>, place: usize) -> bool
+    requires ranks { AreAdded C.ranked C.RANKS offers.now.paid offers.now.rank offers.now.ranks }
+    requires place { place < offers.now.count }
+    requires long { offers.now.count ≤ length offers.now.costs.now }
+    requires room { first + offers.now.count ≤ length words.now }
+    requires small { first + offers.now.count < 2 ^ 64 }
+    ensures { OnTrue result (IsOver C.ranked words.now (first + place) offers.now.paid offers.now.costs.now place) }
+{
+    let word = offers.costs.word(place);
+    if word >= offers.ranks {
+        return false;
+    }
+    words.is_within(first + place, offers.rank + word)
+}
+
+// Offers a cost along one place, if it has one.
+#[inline(never)]
+fn offer_place<C: Cost>(
     words: &mut Words<C>,
     first: usize,
     offers: &Offers<C>,

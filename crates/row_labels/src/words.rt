@@ -1,8 +1,10 @@
-//! A list of costs, of which each may be missing, in a word each.
+//! A list of costs, of which each may be missing, in a word each. Most words are ranks, which tell without a look at costs how
+//! a sum of two compares.
 
 ghost use Rattle.std.specs.Prelude.{◌≡◌, ◌+◌, ◌^◌, ◌<◌, ◌++◌, List, [], length, replicate, set, Some, None, IfOk, OnOk, OnErr};
+ghost use Rattle.std.specs.Bool.{OnTrue};
 ghost use Rattle.std.specs.List.{slice_get};
-ghost use Rattle.row_labels.specs.Worded.{value_at, IsPlaced};
+ghost use Rattle.row_labels.specs.Worded.{value_at, IsPlaced, IsRankOrPlace, IsWithinRank};
 
 use search_graph::Cost;
 use std::alloc::{AllocError, Global};
@@ -41,7 +43,7 @@ impl<C: Cost> Model for Words<C> {
 
     ghost view = { λ s. values_of C.unranked s.others.items s.words.items };
 
-    ghost invariant = { λ s. AreWorded s.others.items s.words.items };
+    ghost invariant = { λ s. AreWorded C.ranked C.unranked s.others.items s.words.items };
 }
 
 // What a word stands for.
@@ -84,6 +86,16 @@ impl<C: Cost> Words<C> {
         value(self.words[i], self.others.as_slice())
     }
 
+    /// Whether the cost at place `i` has a rank, which is no more than this number below 2^63. It looks at no cost.
+    #[inline(always)]
+    pub fn is_within(&self, i: usize, rank: u64) -> bool
+        requires there { i < length self.now }
+        requires short { rank < 2 ^ 63 }
+        ensures { OnTrue result (IsWithinRank C.ranked self.now i rank) }
+    {
+        self.words[i] <= rank
+    }
+
     /// Puts a cost in place of what is at `i`.
     pub fn put(&mut self, i: usize, cost: C) -> Result<(), AllocError>
         requires { i < length self.old }
@@ -120,6 +132,7 @@ fn word_of<C: Cost>(cost: C, others: &mut Vec<C>) -> Result<u64, AllocError>
     requires few { length others.old.items < 2 ^ 63 }
     ensures value { IfOk result (λ word. value_at C.unranked others.new.items word ≡ Some cost) }
     ensures placed { IfOk result (λ word. IsPlaced others.new.items word) }
+    ensures ranked { IfOk result (λ word. IsRankOrPlace C.ranked C.unranked word) }
     ensures few { length others.new.items < 2 ^ 63 }
     ensures grown { (more : List C) × (others.new.items ≡ others.old.items ++ more) }
 {
@@ -135,6 +148,7 @@ fn add_other<C: Cost>(cost: C, others: &mut Vec<C>) -> Result<u64, AllocError>
     requires few { length others.old.items < 2 ^ 63 }
     ensures value { IfOk result (λ word. value_at C.unranked others.new.items word ≡ Some cost) }
     ensures placed { IfOk result (λ word. IsPlaced others.new.items word) }
+    ensures ranked { IfOk result (λ word. IsRankOrPlace C.ranked C.unranked word) }
     ensures few { length others.new.items < 2 ^ 63 }
     ensures grown { (more : List C) × (others.new.items ≡ others.old.items ++ more) }
 {
