@@ -37,16 +37,18 @@ pub left_alone : {C : Type 0} {ops : CostOps C} (laws : CostLaws ops) (cmp : C �
 left_alone {C} laws cmp same values i offer d place improved at not = left d refl refl at (le_from_not_less laws offer d (ap (λ (f : C → C → Ordering). is_lt (f offer d)) same ∙ not))
 
 -- or whose rank is no less than the value's
-pub left_by_rank : {C : Type 0} {ops : CostOps C} (laws : CostLaws ops) {ranked : C → Option ℕ} {unranked : ℕ → C} → AreRanks ops ranked unranked → (first : ℕ) (values : List (Option C)) (paid : C) (rank : Option ℕ) (costs : List (Option C)) (s : C) (place : ℕ) (improved : List ℕ) →
-    rank ≡ ranked paid → slice_get costs place ≡ Some (Some s) → IsOver ranked values (first + place) rank s → LowersAt ops first values values paid costs place improved improved
-left_by_rank {C} {ops} laws ranks first values paid rank costs s place improved is at over =
-    let r = over.0 in
-    let n = over.1 in
-    let d = over.4.0 in
-    let t = over.4.1 in
-    let order = ranks.sums paid s d r n t (sym is ∙ over.2) over.3 over.4.3 in
-    let le : NoDearer ops d (ops.plus paid s) = le_from_not_less laws (ops.plus paid s) d (subst (λ o. is_lt o ≡ false) (sym order) (not_less (r + n) t over.4.4)) in
-    offered s at (left d refl refl (get_or_from_slice_get values (first + place) (Some d) None over.4.2) le)
+pub left_by_rank : {C : Type 0} {ops : CostOps C} (laws : CostLaws ops) {ranked : C → Option ℕ} {unranked : ℕ → C} → AreRanks ops ranked unranked → (first : ℕ) (values : List (Option C)) (paid : C) (costs : List (Option C)) (place : ℕ) (improved : List ℕ) →
+    IsOver ranked values (first + place) paid costs place → LowersAt ops first values values paid costs place improved improved
+left_by_rank {C} {ops} laws ranks first values paid costs place improved over =
+    let s = over.0 in
+    let r = over.1 in
+    let n = over.2 in
+    let within = over.6 in
+    let d = within.0 in
+    let t = within.1 in
+    let order = ranks.sums paid s d r n t over.4 over.5 within.3 in
+    let le : NoDearer ops d (ops.plus paid s) = le_from_not_less laws (ops.plus paid s) d (subst (λ o. is_lt o ≡ false) (sym order) (not_less (r + n) t within.4)) in
+    offered s over.3 (left d refl refl (get_or_from_slice_get values (first + place) (Some d) None within.2) le)
 
 module _ {C : Type 0} (ops : CostOps C) (first : ℕ) (old : List (Option C)) (paid : C) (costs : List (Option C)) where
   -- before the first place
