@@ -36,19 +36,19 @@ pub left_alone : {C : Type 0} {ops : CostOps C} (laws : CostLaws ops) (cmp : C �
     value_on values i ≡ Some d → is_lt (cmp offer d) ≡ false → IsOffered ops values values i offer place improved improved
 left_alone {C} laws cmp same values i offer d place improved at not = left d refl refl at (le_from_not_less laws offer d (ap (λ (f : C → C → Ordering). is_lt (f offer d)) same ∙ not))
 
--- or whose rank is no less than the value's
-pub left_by_rank : {C : Type 0} {ops : CostOps C} (laws : CostLaws ops) {ranked : C → Option ℕ} {unranked : ℕ → C} → AreRanks ops ranked unranked → (first : ℕ) (values : List (Option C)) (paid : C) (costs : List (Option C)) (place : ℕ) (improved : List ℕ) →
-    IsOver ranked values (first + place) paid costs place → LowersAt ops first values values paid costs place improved improved
-left_by_rank {C} {ops} laws ranks first values paid costs place improved over =
-    let s = over.0 in
+-- a value whose rank is no more than those of what is paid and of the cost is no dearer than the offer
+no_dearer : {C : Type 0} {ops : CostOps C} (laws : CostLaws ops) {ranked : C → Option ℕ} {unranked : ℕ → C} → AreRanks ops ranked unranked → (values : List (Option C)) (i : ℕ) (paid : C) (costs : List (Option C)) (place : ℕ) (s : C) →
+    slice_get costs place ≡ Some (Some s) → IsOver ranked values i paid costs place → (d : C) × (value_on values i ≡ Some d) × NoDearer ops d (ops.plus paid s)
+no_dearer {C} {ops} laws ranks values i paid costs place s at over =
+    let cost : over.0 ≡ s = same_Some over.0 s (same_Some (Some over.0) (Some s) (sym over.3 ∙ at)) in
     let r = over.1 in
     let n = over.2 in
     let within = over.6 in
     let d = within.0 in
     let t = within.1 in
-    let order = ranks.sums paid s d r n t over.4 over.5 within.3 in
-    let le : NoDearer ops d (ops.plus paid s) = le_from_not_less laws (ops.plus paid s) d (subst (λ o. is_lt o ≡ false) (sym order) (not_less (r + n) t within.4)) in
-    offered s over.3 (left d refl refl (get_or_from_slice_get values (first + place) (Some d) None within.2) le)
+    let order = ranks.sums paid over.0 d r n t over.4 over.5 within.3 in
+    let le : NoDearer ops d (ops.plus paid over.0) = le_from_not_less laws (ops.plus paid over.0) d (subst (λ o. is_lt o ≡ false) (sym order) (not_less (r + n) t within.4)) in
+    (d, get_or_from_slice_get values i (Some d) None within.2, subst (λ x. NoDearer ops d (ops.plus paid x)) cost le)
 
 module _ {C : Type 0} (ops : CostOps C) (first : ℕ) (old : List (Option C)) (paid : C) (costs : List (Option C)) where
   -- before the first place
@@ -114,6 +114,15 @@ module _ {C : Type 0} (ops : CostOps C) (first : ℕ) (old : List (Option C)) (p
   Lowers-at mid new place before after room h (closed none e q) =
       subst (λ (xs : List (Option C)). Lowers ops first old xs paid costs (place + 1) after) (sym e) (subst (λ (xs : List ℕ). Lowers ops first old mid paid costs (place + 1) xs) (sym q) (Lowers-closed mid place before none h))
   Lowers-at mid new place before after room h (offered s at o) = Lowers-more mid new place before after s room at h o
+
+-- and behind places that are passed over
+pub Lowers-over : {C : Type 0} {ops : CostOps C} (laws : CostLaws ops) {ranked : C → Option ℕ} {unranked : ℕ → C} → AreRanks ops ranked unranked → (first : ℕ) (old mid : List (Option C)) (paid : C) (costs : List (Option C)) (from to : ℕ) (improved : List ℕ) →
+    from ≤ to → ((j : ℕ) → from ≤ j → j < to → IsOver ranked mid (first + j) paid costs j) → Lowers ops first old mid paid costs from improved → Lowers ops first old mid paid costs to improved
+Lowers-over laws ranks first old mid paid costs from to improved le over h = record {
+  kept = h.kept;
+  found = λ j s lt e. elim (cases_lt j from) [ inl less ↦ h.found j s less e | inr past ↦ inr (no_dearer laws ranks mid (first + j) paid costs j s e (over j past lt)) ];
+  within = λ j k. let lt : j < from = h.within j k in omega (arith, lt, le);
+}
 
 -- past the last cost there is none
 pub LowersRow-all : {C : Type 0} {ops : CostOps C} {old new : ℕ × ℕ → ℕ → Option C} {name : ℕ × ℕ} {paid : C} (costs : List (Option C)) (least count : ℕ) {improved : List ℕ} → least ≤ count → ((j : ℕ) → j < count → j < length costs → j < least) →

@@ -219,34 +219,33 @@ fn lower_values<C: Cost>(
     ensures lowers { OnOk result (Lowers C.ops first words.old words.new offers.now.paid offers.now.costs.now offers.now.count improved.new.items) }
     ensures long { length words.new ≡ length words.old }
 {
-    for place in 0..offers.count {
-        lower_place(words, first, offers, place, improved)?;
+    let mut place = pass_over(words, first, offers, 0);
+    while place < offers.count {
+        offer_place(words, first, offers, place, improved)?;
+        place = pass_over(words, first, offers, place + 1);
     }
     Ok(())
 }
 
-// Goes along one place: most are passed over by words alone.
+// Passes over the places from `from` on where words alone tell that the offer improves nothing, and gives the place behind them:
+// most are passed over here, and nothing is written meanwhile.
 #[inline(always)]
-fn lower_place<C: Cost>(
-    words: &mut Words<C>,
-    first: usize,
-    offers: &Offers<C>,
-    place: usize,
-    improved: &mut Vec<usize>,
-) -> Result<(), AllocError>
-    requires fits { (j : ℕ) (s : _) → j < offers.now.count → slice_get offers.now.costs.now j ≡ Some (Some s) → C.ops.units (C.ops.plus offers.now.paid s) (2 ^ 31) }
+fn pass_over<C: Cost>(words: &Words<C>, first: usize, offers: &Offers<C>, from: usize) -> usize
     requires ranks { AreAdded C.ranked C.RANKS offers.now.paid offers.now.rank offers.now.ranks }
-    requires place { place < offers.now.count }
+    requires from { from ≤ offers.now.count }
     requires long { offers.now.count ≤ length offers.now.costs.now }
-    requires room { first + offers.now.count ≤ length words.old }
+    requires room { first + offers.now.count ≤ length words.now }
     requires small { first + offers.now.count < 2 ^ 64 }
-    ensures lowers { OnOk result (LowersAt C.ops first words.old words.new offers.now.paid offers.now.costs.now place improved.old.items improved.new.items) }
-    ensures long { length words.new ≡ length words.old }
+    ensures from { from ≤ result }
+    ensures count { result ≤ offers.now.count }
+    ensures over { (j : ℕ) → from ≤ j → j < result → IsOver C.ranked words.now (first + j) offers.now.paid offers.now.costs.now j }
 {
-    if is_over(words, first, offers, place) {
-        return Ok(());
+    for place in from..offers.count {
+        if !is_over(words, first, offers, place) {
+            return place;
+        }
     }
-    offer_place(words, first, offers, place, improved)
+    offers.count
 }
 
 // Whether the words of what is paid, of a place's cost and of its value tell that the offer there is no less than the value.

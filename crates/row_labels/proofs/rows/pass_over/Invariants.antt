@@ -1,0 +1,7 @@
+-- The places so far are passed over.
+use Rattle.std.proofs.Common.{ℕ, ◌+◌, ◌<◌, ◌≤◌}
+use Rattle.row_labels.specs.Lowered.{IsOver}
+use Rattle.row_labels.proofs.rows.pass_over.Given as goal
+
+abbrev pub invariant-loop-place : goal.invariant-loop-place
+invariant-loop-place g l = (j : ℕ) → l.from ≤ j → j < l.place → IsOver g.C.Cost.ranked l.words (l.first + j) l.offers.paid l.offers.costs.now j
