@@ -10,64 +10,82 @@ nodes, without a line, and for the table of the first places of a hundred pairs 
 rows lead to their second places. A node lies on several segments, of which the program takes one; else the two answer
 the same questions.
 
-Told is the processor time of a whole reply, with reading, snapping and text, the start taken away, beside the
-baseline's time for its query with its walk, and for its rows of the table; the least of the repeats of each, with
-their ratio. Threads of the program are counted, so rows in threads cost what they cost in all; under `taskset -c 0`
-they share one processor. With --rated the program has a traffic file first that gives each way a rate, so that what each
-weighs is neither its duration nor its length; the baseline has none, and is asked other questions then.
+Both are run by turns, the baseline and then the program, which stands from the first turn on and is given one line
+after the other. Told is the processor time of a whole reply, with reading, snapping and text, in the mean of the lines,
+beside the baseline's for a query with its walk, and for a row of the table: the least turn of each, and the ratio of
+each turn with their median, since machines change their speed. Threads of the program are counted, so rows in threads
+cost what they cost in all; under `taskset -c 0` they share one processor. With --rated the program has a traffic file
+first that gives each way a rate, so that what each weighs is neither its duration nor its length; the baseline has
+none, and is asked other questions then.
 """
 import argparse
 import os
 import re
+import statistics
 import tempfile
 
 import common
 from customization import pairs_of, write_rows
 
 
-def of_overlays(overlays, settings, opl, pairs, repeats, folder):
+def of_overlays(overlays, settings, opl, pairs, folder):
     """Its milliseconds a walk and a row, and the pairs that it drew as two texts each."""
     prefix = os.path.join(folder, "pairs")
     words = [overlays, opl, settings, "--pair", "--queries", str(pairs), "--budget", "60", "--export", prefix]
-    walks, rows = [], []
-    for _ in range(repeats):
-        text = common.run(words, [])[1].decode()
-        walks.append(float(re.search(r"^CRP walk:.* mean ([\d.]+) ms", text, re.M)[1]))
-        rows.append(float(re.search(r"^CRP row of a table:.* mean ([\d.]+) ms", text, re.M)[1]))
+    text = common.run(words, [])[1].decode()
+    walk, row = (float(re.search(rf"^CRP {what}:.* mean ([\d.]+) ms", text, re.M)[1]) for what in ("walk", "row of a table"))
     with open(prefix + ".pairs", encoding="ascii") as lines:
         words = [line.split() for line in lines]
-    return min(walks), min(rows), [(f"{w[4]},{w[5]}", f"{w[6]},{w[7]}") for w in words]
+    return (walk, row), [(f"{w[4]},{w[5]}", f"{w[6]},{w[7]}") for w in words]
 
 
 def table_line(places):
     return f"GET /table/v1/car/{';'.join(places)}"
 
 
-def measure(given, program, overlays):
-    for opl in given.maps:
-        with tempfile.TemporaryDirectory() as folder:
-            walk, row, pairs = of_overlays(overlays, given.settings, opl, given.pairs, given.repeats, folder)
-        routes = [f"GET /route/v1/car/{one};{other}?overview=false" for one, other in pairs]
-        table = [table_line([one for one, _ in pairs[:100]])]
-        kinds = [
-            ("a route and the baseline's query with its walk", walk, len(pairs), routes),
-            ("a row of the table of the first hundred", row, min(100, len(pairs)), table),
-        ]
-        print(f"== {os.path.basename(opl)}, {len(pairs)} pairs")
-        with tempfile.TemporaryDirectory() as folder:
-            first = [f"TRAFFIC {write_rows(f'{folder}/rated.csv', pairs_of(opl), ',7')} -"] if given.rated else []
-            times_of(given, [program, "ask", opl, given.settings], first, kinds)
+def kinds_of(pairs):
+    """What is asked for: of each kind its name, by how many its time is divided, and its lines."""
+    routes = [f"GET /route/v1/car/{one};{other}?overview=false" for one, other in pairs]
+    firsts = [one for one, _ in pairs[:100]]
+    return [
+        ("a route and the baseline's query with its walk", len(pairs), routes),
+        ("a row of the table of the first hundred", len(firsts), [table_line(firsts)]),
+    ]
 
 
-def times_of(given, words, first, kinds):
-    """What the program takes for the lines of each kind, behind these."""
-    start = min(common.asked(words, first)[0] for _ in range(given.repeats))
-    print(f"  start {start:.3f} s")
-    for kind, other, count, lines in kinds:
-        times, replies = zip(*(common.asked(words, first + lines) for _ in range(given.repeats)))
-        one = (min(times) - start) / count * 1000
-        ok = sum('"code":"Ok"' in reply for reply in replies[0][len(first):])
-        print(f"  {kind}: {one:.3f} ms, {other:.3f} ms, ratio {one / other:.2f}; {ok} of {len(lines)} replies Ok")
+def asked(session, lines):
+    """The milliseconds that each line takes, and how many replies are Ok."""
+    taken, good = [], 0
+    for line in lines:
+        before = session.seconds()[1]
+        reply = session.ask(line)
+        taken.append((session.seconds()[1] - before) * 1000)
+        good += '"code":"Ok"' in reply
+    return taken, good
+
+
+def told(name, count, turns, baseline):
+    """Prints the least of both, and the ratios of the turns with their median."""
+    means = [sum(taken) / count for taken, _ in turns]
+    ratios = [own / other for own, other in zip(means, baseline)]
+    print(f"  {name}: {min(means):.3f} ms, {min(baseline):.3f} ms, ratio {statistics.median(ratios):.2f} "
+          f"(by turns {', '.join(f'{ratio:.2f}' for ratio in ratios)}); {turns[0][1]} of {len(turns[0][0])} replies Ok", flush=True)
+
+
+def measure(given, program, overlays, opl, folder):
+    session, taken, baselines = None, [], []
+    for _ in range(given.repeats):
+        baseline, pairs = of_overlays(overlays, given.settings, opl, given.pairs, folder)
+        if session is None:
+            session = common.Session([program, "ask", opl, given.settings])
+            if given.rated:
+                session.ask(f"TRAFFIC {write_rows(f'{folder}/rated.csv', pairs_of(opl), ',7')} -")
+        baselines.append(baseline)
+        taken.append([asked(session, lines) for _, _, lines in kinds_of(pairs)])
+    session.end()
+    print(f"== {os.path.basename(opl)}, {len(pairs)} pairs")
+    for which, (name, count, _) in enumerate(kinds_of(pairs)):
+        told(name, count, [turn[which] for turn in taken], [one[which] for one in baselines])
 
 
 def main():
@@ -79,7 +97,9 @@ def main():
     parser.add_argument("maps", nargs="+")
     given, program = parser.parse_args(), common.program()
     with tempfile.TemporaryDirectory() as folder:
-        measure(given, program, common.overlays(folder))
+        overlays = common.overlays(folder)
+        for opl in given.maps:
+            measure(given, program, overlays, opl, folder)
 
 
 if __name__ == "__main__":
