@@ -1,6 +1,6 @@
 //! Costs that can be added and compared.
 
-ghost use Rattle.std.specs.Prelude.{◌≡◌, ℕ, ◌+◌, ◌*◌, ◌^◌, ◌<◌, ◌≤◌, Option, refl};
+ghost use Rattle.std.specs.Prelude.{◌≡◌, ℕ, ◌+◌, ◌*◌, ◌^◌, ◌<◌, ◌≤◌, Option, Some, refl};
 ghost use Rattle.std.proofs.Common.{lit≤};
 ghost use Rattle.search_graph.specs.Costs.{CostOps, CostLaws};
 ghost use Rattle.search_graph.specs.Ranks.{AreRanks, AreOwnRanks};
@@ -52,6 +52,12 @@ pub trait Cost: Narrow + Ord {
     /// The cost of a rank. A number that is no rank gives some cost.
     fn of_rank(rank: u64) -> Self
         ensures { result ≡ unranked rank };
+
+    /// The rank of the sum of two costs, by their ranks, if the sum has one. Numbers that are no ranks give some number or none.
+    fn rank_of_sum(rank: u64, other: u64) -> Option<u64>
+        requires rank { rank < 2 ^ 63 }
+        requires other { other < 2 ^ 63 }
+        ensures { (a b : Self) → ranked a ≡ Some rank → ranked b ≡ Some other → ranked (ops.plus a b) ≡ result };
 
     ghost laws: { CostLaws ops };
 
@@ -147,6 +153,16 @@ impl Cost for WeightDurLen {
             length: rank % RANK,
         }
     }
+
+    #[inline(always)]
+    fn rank_of_sum(rank: u64, other: u64) -> Option<u64> {
+        let sum = rank + other;
+        if sum < RANKS_END && sum % RANK < PART {
+            Some(sum)
+        } else {
+            None
+        }
+    }
 }
 
 // What one decisecond more adds to a word or a rank: twice as much as a length may be, so that the lengths of two ranks add up
@@ -156,6 +172,9 @@ const RANK: u64 = 4294967296;
 // So many lengths a word or a rank may have, and so many durations a rank: 2^31 decimetres, five times round the Earth, and 2^31
 // deciseconds, some seven years.
 const PART: u64 = 2147483648;
+
+// All ranks are below: 2^63.
+const RANKS_END: u64 = 9223372036854775808;
 
 // So many durations a word may have: 2^30 deciseconds, some three years and five months.
 const WORD_DURATIONS: u64 = 1073741824;
