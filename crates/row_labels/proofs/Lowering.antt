@@ -1,8 +1,9 @@
 -- What offers along a row leave of the list of values, place by place, and so of what is kept of each row.
-use Rattle.std.proofs.Common.{◌≡◌, ℕ, ◌+◌, ◌<◌, ◌≤◌, inl, inr, false, Option, Some, None, List, [], ◌∷◌, ◌++◌, length, Result, Ok, Err, OnOk, refl, sym, ◌∙◌, ap, subst, arith, get_or-set_same, get_or-set_other}
+use Rattle.std.proofs.Common.{◌≡◌, ℕ, ◌+◌, ◌^◌, ◌<◌, ◌≤◌, inl, inr, Bool, true, false, Option, Some, None, List, [], ◌∷◌, ◌++◌, length, Result, Ok, Err, OnOk, refl, sym, ◌∙◌, ap, subst, arith, get_or-set_same, get_or-set_other}
 use Rattle.std.proofs.Math.ListN.{set}
 use Rattle.std.proofs.lemmas.Bool.{cases_eq, cases_lt}
 use Rattle.std.proofs.lemmas.Bool.Decides.{nat_tests}
+use Rattle.std.specs.Bool.{OnTrue}
 use Rattle.std.specs.List.{Contains, slice_get}
 use Rattle.std.specs.Ordering.{is_lt, nat_cmp}
 use Rattle.std.specs.declared.cmp.Ordering.{Ordering}
@@ -10,10 +11,10 @@ use Rattle.std.proofs.lemmas.List.Elements.{Contains-push_cases}
 use Rattle.std.proofs.lemmas.Option.{same_Some, none-some, slice_get_within, get_or_from_slice_get}
 use Rattle.list_lemmas.proofs.Gets.{Contains_get, Contains_push, get_pushed}
 use Rattle.search_graph.specs.Costs.{CostOps, CostLaws, NoDearer}
-use Rattle.search_graph.specs.Ranks.{AreRanks}
+use Rattle.search_graph.specs.Ranks.{AreRanks, AreOwnRanks}
 use Rattle.search_graph.specs.OrderLaws.{le_from_not_less}
 use Rattle.row_labels.specs.Rowed.{LowersRow}
-use Rattle.row_labels.specs.Lowered.{value_on, IsOver, IsOffered, LowersAt, Lowers}
+use Rattle.row_labels.specs.Lowered.{value_on, AreAdded, IsNoLess, IsOver, IsOffered, LowersAt, Lowers}
 use Rattle.row_labels.specs.Lowered.IsOffered.{left, lowered}
 use Rattle.row_labels.specs.Lowered.LowersAt.{closed, offered}
 
@@ -38,7 +39,7 @@ left_alone {C} laws cmp same values i offer d place improved at not = left d ref
 
 -- a value whose rank is no more than those of what is paid and of the cost is no dearer than the offer
 no_dearer : {C : Type 0} {ops : CostOps C} (laws : CostLaws ops) {ranked : C → Option ℕ} {unranked : ℕ → C} → AreRanks ops ranked unranked → (values : List (Option C)) (i : ℕ) (paid : C) (costs : List (Option C)) (place : ℕ) (s : C) →
-    slice_get costs place ≡ Some (Some s) → IsOver ranked values i paid costs place → (d : C) × (value_on values i ≡ Some d) × NoDearer ops d (ops.plus paid s)
+    slice_get costs place ≡ Some (Some s) → IsNoLess ranked values i paid costs place → (d : C) × (value_on values i ≡ Some d) × NoDearer ops d (ops.plus paid s)
 no_dearer {C} {ops} laws ranks values i paid costs place s at over =
     let cost : over.0 ≡ s = same_Some over.0 s (same_Some (Some over.0) (Some s) (sym over.3 ∙ at)) in
     let r = over.1 in
@@ -49,6 +50,28 @@ no_dearer {C} {ops} laws ranks values i paid costs place s at over =
     let order = ranks.sums paid over.0 d r n t over.4 over.5 within.3 in
     let le : NoDearer ops d (ops.plus paid over.0) = le_from_not_less laws (ops.plus paid over.0) d (subst (λ o. is_lt o ≡ false) (sym order) (not_less (r + n) t within.4)) in
     (d, get_or_from_slice_get values i (Some d) None within.2, subst (λ x. NoDearer ops d (ops.plus paid x)) cost le)
+
+-- an offer that became the value
+pub put_there : {C : Type 0} (ops : CostOps C) (first : ℕ) (old new : List (Option C)) (paid : C) (costs : List (Option C)) (place : ℕ) (before after : List ℕ) →
+    (s : C) × (slice_get costs place ≡ Some (Some s)) × (new ≡ set old (first + place) (Some (ops.plus paid s))) → after ≡ before ++ place ∷ [] → LowersAt ops first old new paid costs place before after
+put_there ops first old new paid costs place before after h e = offered h.0 h.1 (lowered h.2 e)
+
+-- what follows of a fact that holds where a test is true
+pub on_true : {P Q : Type 0} (b : Bool) → OnTrue b P → (P → Q) → OnTrue b Q
+on_true true h f = f h
+on_true false h f = tt
+
+-- where the word of a cost is a rank and so is the sum with that of what is paid, it is the rank of the offer
+pub summed : {C : Type 0} {ops : CostOps C} {narrowed ranked : C → Option ℕ} {unranked : ℕ → C} {most : ℕ} → AreRanks ops ranked unranked → AreOwnRanks narrowed ranked most → most ≤ 2 ^ 62 → (paid : C) (costs : List (Option C)) (place rank ranks w sum : ℕ) (found : Option ℕ) →
+    AreAdded ranked most paid rank ranks → w < ranks → (w < 2 ^ 63 → (s : C) × (slice_get costs place ≡ Some (Some s)) × (narrowed s ≡ Some w)) → ((a b : C) → ranked a ≡ Some rank → ranked b ≡ Some w → ranked (ops.plus a b) ≡ found) → found ≡ Some sum →
+    (s : C) × (slice_get costs place ≡ Some (Some s)) × (ranked (unranked sum) ≡ Some sum) × (unranked sum ≡ ops.plus paid s)
+summed {C} {ops} {narrowed} {ranked} {unranked} {most} ranks own few paid costs place rank below w sum found added lt at add is =
+    let a = added w lt in
+    let less : w < most = a.0 in
+    let s = at (omega (arith, less, few)) in
+    let total : ranked (ops.plus paid s.0) ≡ Some sum = add paid s.0 a.1 (own s.0 w s.2 less) ∙ is in
+    let back : unranked sum ≡ ops.plus paid s.0 = ranks.back (ops.plus paid s.0) sum total in
+    (s.0, s.1, ap ranked back ∙ total, back)
 
 module _ {C : Type 0} (ops : CostOps C) (first : ℕ) (old : List (Option C)) (paid : C) (costs : List (Option C)) where
   -- before the first place
@@ -120,7 +143,13 @@ pub Lowers-over : {C : Type 0} {ops : CostOps C} (laws : CostLaws ops) {ranked :
     from ≤ to → ((j : ℕ) → from ≤ j → j < to → IsOver ranked mid (first + j) paid costs j) → Lowers ops first old mid paid costs from improved → Lowers ops first old mid paid costs to improved
 Lowers-over laws ranks first old mid paid costs from to improved le over h = record {
   kept = h.kept;
-  found = λ j s lt e. elim (cases_lt j from) [ inl less ↦ h.found j s less e | inr past ↦ inr (no_dearer laws ranks mid (first + j) paid costs j s e (over j past lt)) ];
+  found = λ j s lt e. elim (cases_lt j from) [
+    | inl less ↦ h.found j s less e
+    | inr past ↦ elim (over j past lt) [
+      | inl none ↦ absurd (none-some s (same_Some None (Some s) (sym none ∙ e)))
+      | inr more ↦ inr (no_dearer laws ranks mid (first + j) paid costs j s e more)
+    ]
+  ];
   within = λ j k. let lt : j < from = h.within j k in omega (arith, lt, le);
 }
 

@@ -10,7 +10,7 @@ use Rattle.list_lemmas.proofs.Gets.{get_some, get_append}
 use Rattle.row_labels.specs.Worded.{value_at, values_of, IsPlaced}
 
 module _ {C : Type 0} (f : ℕ → C) where
-  value_at-rank : (others : List C) (w : ℕ) → w < 2 ^ 63 → value_at f others w ≡ Some (f w)
+  pub value_at-rank : (others : List C) (w : ℕ) → w < 2 ^ 63 → value_at f others w ≡ Some (f w)
   value_at-rank others w h = grind (arith, nat_tests)
 
   value_at-other : (others : List C) (w : ℕ) → 2 ^ 63 ≤ w → value_at f others w ≡ slice_get others (w - 2 ^ 63)
@@ -54,6 +54,10 @@ module _ {C : Type 0} (f : ℕ → C) where
       let few2 : length (others ++ more) < 2 ^ 63 = subst (λ xs. length xs < 2 ^ 63) g few in
       let k : values_of f grown words ≡ now = rw g (values_of-grown others more words few2 p ∙ e) in
       map-set (value_at f grown) words i word ∙ (rw (k, v) refl)
+
+  -- with a rank in place of one, the list is with the cost of that rank there
+  pub list-ranked : (others : List C) (words : List ℕ) (i rank : ℕ) (now : List (Option C)) → rank < 2 ^ 63 → values_of f others words ≡ now → values_of f others (set words i rank) ≡ set now i (Some (f rank))
+  list-ranked others words i rank now short e = let v = value_at-rank others rank short in map-set (value_at f others) words i rank ∙ (rw (e, v) refl)
 
   values_of-none : (others : List C) (n : ℕ) → length others < 2 ^ 63 → values_of f others (replicate n (2 ^ 64 - 1)) ≡ replicate n None
   values_of-none others zero few = refl

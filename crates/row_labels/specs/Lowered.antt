@@ -14,8 +14,12 @@ abbrev pub AreAdded : {C : Type 0} → (C → Option ℕ) → ℕ → C → ℕ 
 AreAdded ranked most paid rank ranks = (w : ℕ) → w < ranks → (w < most) × (ranked paid ≡ Some rank) × (rank < 2 ^ 62)
 
 -- the rank of what is paid and that of the cost at a place are together no less than the rank of the value at place i
+abbrev pub IsNoLess : {C : Type 0} → (C → Option ℕ) → List (Option C) → ℕ → C → List (Option C) → ℕ → Type 0
+IsNoLess {C} ranked values i paid costs place = (s : C) × (r n : ℕ) × (slice_get costs place ≡ Some (Some s)) × (ranked paid ≡ Some r) × (ranked s ≡ Some n) × IsWithinRank ranked values i (r + n)
+
+-- the place has no cost, or what is offered there is no less than the value at place i
 abbrev pub IsOver : {C : Type 0} → (C → Option ℕ) → List (Option C) → ℕ → C → List (Option C) → ℕ → Type 0
-IsOver {C} ranked values i paid costs place = (s : C) × (r n : ℕ) × (slice_get costs place ≡ Some (Some s)) × (ranked paid ≡ Some r) × (ranked s ≡ Some n) × IsWithinRank ranked values i (r + n)
+IsOver ranked values i paid costs place = (slice_get costs place ≡ Some None) ⊎ IsNoLess ranked values i paid costs place
 
 -- an offer at place i of the list: its value costs no more, or the offer becomes the value, and the place of the row is improved
 pub data IsOffered {C : Type 0} (ops : CostOps C) (old new : List (Option C)) (i : ℕ) (offer : C) (place : ℕ) (before after : List ℕ) : Type 0 where

@@ -1,7 +1,7 @@
 //! The rows, and offers along them.
 
-ghost use Rattle.std.specs.Prelude.{◌≡◌, ℕ, ◌+◌, ◌<◌, ◌≤◌, ◌^◌, [], length, IfOk, Some, None, OnOk};
-ghost use Rattle.std.specs.Bool.{OnTrue};
+ghost use Rattle.std.specs.Prelude.{◌≡◌, ℕ, ◌+◌, ◌<◌, ◌≤◌, ◌^◌, [], length, set, IfOk, Some, None, OnOk};
+ghost use Rattle.std.specs.Bool.{OnTrue, OnFalse};
 ghost use Rattle.std.specs.List.{slice_get};
 ghost use Rattle.row_labels.specs.Rowed.{span_of, value_in, value_of, LowersRow};
 ghost use Rattle.row_labels.specs.Blocks.{AreApart};
@@ -9,7 +9,7 @@ ghost use Rattle.row_labels.specs.Lowered.{AreAdded, IsOver, IsOffered, LowersAt
 
 use crate::blocks::{Blocks, Span};
 use crate::words::Words;
-use cost_lists::CostRow;
+use cost_lists::{CostRow, NO_COST};
 use search_graph::Cost;
 use std::alloc::{AllocError, Global};
 use std::marker::Model;
@@ -248,7 +248,8 @@ fn pass_over<C: Cost>(words: &Words<C>, first: usize, offers: &Offers<C>, from: 
     offers.count
 }
 
-// Whether the words of what is paid, of a place's cost and of its value tell that the offer there is no less than the value.
+// Whether the place has no cost, or the words of what is paid, of its cost and of its value tell that the offer there is no less
+// than the value. The sum saturates for the word of no cost, which is the greatest, so no value is above it.
 #[inline(always)]
 fn is_over<C: Cost>(words: &Words<C>, first: usize, offers: &Offers<C>, place: usize) -> bool
     requires ranks { AreAdded C.ranked C.RANKS offers.now.paid offers.now.rank offers.now.ranks }
@@ -259,15 +260,62 @@ fn is_over<C: Cost>(words: &Words<C>, first: usize, offers: &Offers<C>, place: u
     ensures { OnTrue result (IsOver C.ranked words.now (first + place) offers.now.paid offers.now.costs.now place) }
 {
     let word = offers.costs.word(place);
+    if word >= offers.ranks && word != NO_COST {
+        return false;
+    }
+    words.is_within(first + place, offers.rank.saturating_add(word))
+}
+
+// Offers a cost along one place, if it has one: by words, where they tell all.
+#[inline(always)]
+fn offer_place<C: Cost>(
+    words: &mut Words<C>,
+    first: usize,
+    offers: &Offers<C>,
+    place: usize,
+    improved: &mut Vec<usize>,
+) -> Result<(), AllocError>
+    requires fits { (j : ℕ) (s : _) → j < offers.now.count → slice_get offers.now.costs.now j ≡ Some (Some s) → C.ops.units (C.ops.plus offers.now.paid s) (2 ^ 31) }
+    requires ranks { AreAdded C.ranked C.RANKS offers.now.paid offers.now.rank offers.now.ranks }
+    requires place { place < offers.now.count }
+    requires long { offers.now.count ≤ length offers.now.costs.now }
+    requires room { first + offers.now.count ≤ length words.old }
+    requires small { first + offers.now.count < 2 ^ 64 }
+    ensures lowers { OnOk result (LowersAt C.ops first words.old words.new offers.now.paid offers.now.costs.now place improved.old.items improved.new.items) }
+    ensures long { length words.new ≡ length words.old }
+{
+    if lower_word(words, first, offers, place) {
+        improved.push(place)?;
+        return Ok(());
+    }
+    offer_cost(words, first, offers, place, improved)
+}
+
+// Makes the offer at a place the value there, if words tell that it is less or there is no value, and tells whether it did.
+#[inline(always)]
+fn lower_word<C: Cost>(words: &mut Words<C>, first: usize, offers: &Offers<C>, place: usize) -> bool
+    requires ranks { AreAdded C.ranked C.RANKS offers.now.paid offers.now.rank offers.now.ranks }
+    requires place { place < offers.now.count }
+    requires long { offers.now.count ≤ length offers.now.costs.now }
+    requires room { first + offers.now.count ≤ length words.old }
+    requires small { first + offers.now.count < 2 ^ 64 }
+    ensures yes { OnTrue result ((s : C) × (slice_get offers.now.costs.now place ≡ Some (Some s)) × (words.new ≡ set words.old (first + place) (Some (C.ops.plus offers.now.paid s)))) }
+    ensures no { OnFalse result (words.new ≡ words.old) }
+    ensures long { length words.new ≡ length words.old }
+{
+    let word = offers.costs.word(place);
     if word >= offers.ranks {
         return false;
     }
-    words.is_within(first + place, offers.rank + word)
+    match C::rank_of_sum(offers.rank, word) {
+        Some(rank) => words.lower(first + place, rank),
+        None => false,
+    }
 }
 
 // Offers a cost along one place, if it has one.
 #[inline(never)]
-fn offer_place<C: Cost>(
+fn offer_cost<C: Cost>(
     words: &mut Words<C>,
     first: usize,
     offers: &Offers<C>,

@@ -2,7 +2,7 @@
 //! a sum of two compares.
 
 ghost use Rattle.std.specs.Prelude.{◌≡◌, ◌+◌, ◌^◌, ◌<◌, ◌++◌, List, [], length, replicate, set, Some, None, IfOk, OnOk, OnErr};
-ghost use Rattle.std.specs.Bool.{OnTrue};
+ghost use Rattle.std.specs.Bool.{OnTrue, OnFalse};
 ghost use Rattle.std.specs.List.{slice_get};
 ghost use Rattle.row_labels.specs.Worded.{value_at, IsPlaced, IsRankOrPlace, IsWithinRank};
 
@@ -86,14 +86,32 @@ impl<C: Cost> Words<C> {
         value(self.words[i], self.others.as_slice())
     }
 
-    /// Whether the cost at place `i` has a rank, which is no more than this number below 2^63. It looks at no cost.
+    /// Whether the word of place `i` is no more than this number. Where the number is below 2^63, that says that the cost there has
+    /// a rank, which is no more. It looks at no cost.
     #[inline(always)]
     pub fn is_within(&self, i: usize, rank: u64) -> bool
-        requires there { i < length self.now }
-        requires short { rank < 2 ^ 63 }
-        ensures { OnTrue result (IsWithinRank C.ranked self.now i rank) }
+        requires { i < length self.now }
+        ensures { OnTrue result (rank < 2 ^ 63 → IsWithinRank C.ranked self.now i rank) }
     {
         self.words[i] <= rank
+    }
+
+    /// Puts the cost of a rank at place `i` if there is none, or one of a higher rank, and tells whether it did. It looks at no
+    /// cost, and leaves one without a rank as it is.
+    #[inline(always)]
+    pub fn lower(&mut self, i: usize, rank: u64) -> bool
+        requires there { i < length self.old }
+        requires rank { C.ranked (C.unranked rank) ≡ Some rank }
+        ensures yes { OnTrue result (self.new ≡ set self.old i (Some (C.unranked rank))) }
+        ensures no { OnFalse result (self.new ≡ self.old) }
+        ensures long { length self.new ≡ length self.old }
+    {
+        let word = self.words[i];
+        if word <= rank || (word >= PLACES && word != NONE) {
+            return false;
+        }
+        self.words[i] = rank;
+        true
     }
 
     /// Puts a cost in place of what is at `i`.
