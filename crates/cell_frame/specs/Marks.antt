@@ -1,9 +1,10 @@
 -- For the functions of this crate alone: how the entries and exits of a level are found, by marks at the ends of arcs
 -- between cells, the marked vertices, and their cells.
-use Rattle.std.specs.Prelude.{◌≡◌, ℕ, ◌<◌, ◌≤◌, Bool, true, List, length, Some}
+use Rattle.std.specs.Prelude.{◌≡◌, ℕ, ◌<◌, ◌≤◌, Bool, true, false, List, length, Some}
 use Rattle.std.specs.List.{slice_get, Contains}
 use Rattle.search_graph.specs.Digraph.{Digraph, IsArc}
 use Rattle.cell_partition.specs.Partition.{Partition, level_at, number_of}
+use Rattle.cell_frame.specs.Borders.{Listed}
 use Rattle.cell_frame.specs.declared.side.Side.{Side}
 use Rattle.cell_frame.specs.declared.side.Side.TheVariants.{Entries, Exits}
 
@@ -28,3 +29,7 @@ pub record AreChosen (marks : List Bool) (m : ℕ) (chosen : List ℕ) : Type 0 
   pub is_marked : (k v : ℕ) → slice_get chosen k ≡ Some v → (v < m) × (slice_get marks v ≡ Some true)
   pub all : (v : ℕ) → v < m → slice_get marks v ≡ Some true → Contains chosen v
   pub rises : (k l v w : ℕ) → k < l → slice_get chosen k ≡ Some v → slice_get chosen l ≡ Some w → v < w
+
+-- of the first n levels, none has a list with a vertex whose mark is false
+abbrev pub AreUnlisted : List Listed → ℕ → List Bool → Type 0
+AreUnlisted borders n marks = (v l : ℕ) (b : Listed) → slice_get marks v ≡ Some false → l < n → slice_get borders l ≡ Some b → ¬ Contains b.vertex v

@@ -1,12 +1,13 @@
 //! A graph and its cells.
 
-ghost use Rattle.std.specs.Prelude.{◌≡◌, ◌<◌, ◌≤◌, length, All, IfSome, IfNone, IfOk, Some, nat_eq};
+ghost use Rattle.std.specs.Prelude.{◌≡◌, ◌<◌, ◌≤◌, length, All, IfSome, IfNone, IfOk, Some, false, nat_eq};
+ghost use Rattle.std.specs.Bool.{OnTrue};
 ghost use Rattle.std.specs.List.{Contains, slice_get, list_any};
 ghost use Rattle.cell_partition.specs.Partition.{level_at, number_of};
 ghost use Rattle.cell_frame.specs.Borders.{IsFramed, IsCell, at_cell, cell_of};
 ghost use Rattle.cell_frame.specs.Free.{has_terminal, free_level, part_at};
 
-use crate::borders::Border;
+use crate::borders::{Border, marks_in};
 use crate::building::borders;
 use crate::cells::{Cell, Part};
 use crate::side::Side;
@@ -21,6 +22,8 @@ pub struct Frame {
     cells: Cells,
     entries: Vec<Border>,
     exits: Vec<Border>,
+    // whether each vertex may be an entry: one that isn't marked is none of any cell
+    entered: Vec<bool>,
 }
 
 impl Drop for Frame {
@@ -30,18 +33,21 @@ impl Drop for Frame {
             cells: _cells,
             entries: _entries,
             exits: _exits,
+            entered: _entered,
         } = self;
     }
 }
 
 impl Model for Frame {
+    ghost use Rattle.std.specs.Prelude.{length};
     ghost use Rattle.cell_frame.specs.Borders.{Framed, IsFramed};
+    ghost use Rattle.cell_frame.specs.Marks.{AreUnlisted};
 
     ghost Value = { Framed };
 
     ghost view = { λ f. record { graph = f.graph; cells = f.cells; entries = f.entries.items; exits = f.exits.items } };
 
-    ghost invariant = { λ f. IsFramed (record { graph = f.graph; cells = f.cells; entries = f.entries.items; exits = f.exits.items }) };
+    ghost invariant = { λ f. IsFramed (record { graph = f.graph; cells = f.cells; entries = f.entries.items; exits = f.exits.items }) × AreUnlisted f.entries.items (length f.entries.items) f.entered.items };
 }
 
 impl Frame {
@@ -58,11 +64,13 @@ impl Frame {
         let graph = graph.copy()?;
         let entries = borders(alloc, &graph, &cells, Side::Entries)?;
         let exits = borders(alloc, &graph, &cells, Side::Exits)?;
+        let entered = marks_in(alloc, graph.vertices(), entries.as_slice())?;
         Ok(Frame {
             graph,
             cells,
             entries,
             exits,
+            entered,
         })
     }
 
@@ -131,6 +139,9 @@ impl Frame {
         ensures none { IfNone result (¬ Contains (at_cell self.now.entries cell) v) }
     {
         self.known();
+        if is_unmarked(&self.entered, v) {
+            return None;
+        }
         match self.entries(cell).binary_search(&v) {
             Ok(i) => Some(i),
             Err(_) => None,
@@ -193,4 +204,15 @@ fn any_in(cells: &Cells, level: u32, number: u32, vertices: &[u32]) -> bool
         }
     }
     false
+}
+
+// Whether there is a mark for a vertex, which isn't set.
+#[inline(always)]
+fn is_unmarked(marks: &[bool], v: u32) -> bool
+    ensures { OnTrue result (slice_get marks.now v ≡ Some false) }
+{
+    match marks.get(v as usize) {
+        Some(mark) => !*mark,
+        None => false,
+    }
 }
