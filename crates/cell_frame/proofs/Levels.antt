@@ -9,7 +9,7 @@ use Rattle.list_lemmas.proofs.Gets.{get_Contains}
 use Rattle.search_graph.specs.Digraph.{Digraph}
 use Rattle.cell_partition.specs.Partition.{Partition, level_at, number_of, IsKept, IsNested}
 use Rattle.cell_frame.specs.declared.cells.Cell.{Cell}
-use Rattle.cell_frame.specs.Borders.{cell_of, Holds, IsCell, IsEntry, IsExit}
+use Rattle.cell_frame.specs.Borders.{cell_of, Holds, IsCell}
 use Rattle.cell_frame.specs.Free.{has_terminal, free_up_to, free_level}
 use Rattle.cell_frame.specs.Parts.{AreParts, AreBordersBelow}
 
@@ -31,7 +31,7 @@ any_at f (x ∷ ts) (suc k) t h e = by_truth (f x) (λ q. rw q) (λ q. rw q (any
 
 module _ (p : Partition) (kept : IsKept p) where
   -- vertices that share a cell share all above it
-  same_above : (u v level m : ℕ) → u < p.vertices → v < p.vertices → 1 ≤ level → number_of (level_at p level) u ≡ number_of (level_at p level) v → level ≤ m → m ≤ length p.levels →
+  pub same_above : (u v level m : ℕ) → u < p.vertices → v < p.vertices → 1 ≤ level → number_of (level_at p level) u ≡ number_of (level_at p level) v → level ≤ m → m ≤ length p.levels →
       number_of (level_at p m) u ≡ number_of (level_at p m) v
   same_above u v level zero lu lv some e low high = absurd (omega arith)
   same_above u v level (suc m) lu lv some e low high = elim (eq-or-lt_of_le low) [

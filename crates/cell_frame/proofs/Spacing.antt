@@ -1,9 +1,9 @@
 -- The steps over parts are the hops over their cut, and what they lead over can be searched.
-use Rattle.std.proofs.Common.{◌≡◌, ◌≢◌, ℕ, ◌+◌, ◌<◌, ◌≤◌, ◌⊎◌, inl, inr, cond, Option, Some, None, List, [], length, nat_eq, refl, sym, ◌∙◌, ap, subst, arith}
+use Rattle.std.proofs.Common.{◌≡◌, ◌≢◌, ℕ, ◌<◌, ◌≤◌, inl, inr, cond, Option, Some, None, List, [], length, refl, sym, ◌∙◌, ap, subst, arith}
 use Rattle.std.specs.List.{slice_get}
 use Rattle.std.proofs.lemmas.Option.{same_Some, slice_get_within}
 use Rattle.std.proofs.lemmas.Bool.Decides.{eqb_tells}
-use Rattle.list_lemmas.proofs.Gets.{Contains_get, get_Contains, get_some}
+use Rattle.list_lemmas.proofs.Gets.{get_Contains, get_some}
 use Rattle.search_graph.specs.Costs.{CostOps, CostLaws}
 use Rattle.search_graph.specs.Digraph.{Weighting, IsOpen}
 use Rattle.search_graph.specs.Walks.{IsMove}
@@ -13,7 +13,7 @@ use Rattle.step_search.specs.Spaces.{HasHop}
 use Rattle.cut_walks.specs.Cut.{IsCut, IsSmall, OverHop, MayBegin}
 use Rattle.cut_walks.specs.Bounds.{IsSpace-over}
 use Rattle.cell_frame.specs.declared.cells.Cell.{Cell}
-use Rattle.cell_frame.specs.Borders.{Framed, IsFramed, Holds, IsCell, IsEntry, IsExit, at_cell}
+use Rattle.cell_frame.specs.Borders.{Framed, IsFramed, Holds, IsCell, at_cell}
 use Rattle.cell_frame.specs.Cliqued.{Rows, AreExact}
 use Rattle.cell_frame.specs.Inside.{IsMoveIn, IsLeastInside, IsInsideValue}
 use Rattle.cell_frame.specs.Parts.{whole_at, ShareCell, AreParts, part_cut}

@@ -9,8 +9,8 @@ use Rattle.search_graph.specs.Digraph.{Weighting}
 use Rattle.cell_partition.specs.Partition.{Partition, level_at, number_of}
 use Rattle.cell_frame.specs.declared.cells.Cell.{Cell}
 use Rattle.cell_frame.specs.Borders.{Framed, IsFramed, Holds, IsCell, IsEntry, IsExit, at_cell, cell_of}
-use Rattle.cell_frame.specs.Cliqued.{Rows, HasRow, HasCellRow, IsRow, AreExact}
-use Rattle.cell_frame.specs.Inside.{IsInsideValue, IsLeastInside}
+use Rattle.cell_frame.specs.Cliqued.{Rows, HasCellRow, IsRow, AreExact}
+use Rattle.cell_frame.specs.Inside.{IsLeastInside}
 use Rattle.cell_frame.specs.Parts.{whole_at, AreParts, ShareCell, part_cut}
 use Rattle.cell_frame.specs.PartSpace.{row_heads, row_name, part_space}
 use Rattle.search_graph.specs.Weighted.{AreSmall}

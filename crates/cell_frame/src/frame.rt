@@ -1,15 +1,18 @@
 //! A graph and its cells.
 
-ghost use Rattle.std.specs.Prelude.{◌≡◌, ◌<◌, ◌≤◌, length, All, IfSome, IfNone, IfOk, Some, false, nat_eq};
-ghost use Rattle.std.specs.Bool.{OnTrue};
+ghost use Rattle.std.specs.Prelude.{◌≡◌, ℕ, ◌<◌, ◌≤◌, length, All, IfSome, IfNone, IfOk, Some, false, nat_eq};
+ghost use Rattle.std.specs.Bool.{OnTrue, OnFalse};
 ghost use Rattle.std.specs.List.{Contains, slice_get, list_any};
 ghost use Rattle.cell_partition.specs.Partition.{level_at, number_of};
 ghost use Rattle.cell_frame.specs.Borders.{IsFramed, IsCell, at_cell, cell_of};
+ghost use Rattle.search_graph.specs.Digraph.{IsArc};
+ghost use Rattle.cell_frame.specs.Heights.{AreApart};
 ghost use Rattle.cell_frame.specs.Free.{has_terminal, free_level, part_at};
 
 use crate::borders::{Border, marks_in};
 use crate::building::borders;
 use crate::cells::{Cell, Part};
+use crate::crossing::{are_apart, heights_of};
 use crate::side::Side;
 use cell_partition::Cells;
 use search_graph::Graph;
@@ -24,6 +27,8 @@ pub struct Frame {
     exits: Vec<Border>,
     // whether each vertex may be an entry: one that isn't marked is none of any cell
     entered: Vec<bool>,
+    // for each arc the highest level at which its ends lie in different cells
+    heights: Vec<u8>,
 }
 
 impl Drop for Frame {
@@ -34,6 +39,7 @@ impl Drop for Frame {
             entries: _entries,
             exits: _exits,
             entered: _entered,
+            heights: _heights,
         } = self;
     }
 }
@@ -42,12 +48,13 @@ impl Model for Frame {
     ghost use Rattle.std.specs.Prelude.{length};
     ghost use Rattle.cell_frame.specs.Borders.{Framed, IsFramed};
     ghost use Rattle.cell_frame.specs.Marks.{AreUnlisted};
+    ghost use Rattle.cell_frame.specs.Heights.{AreHeights};
 
     ghost Value = { Framed };
 
     ghost view = { λ f. record { graph = f.graph; cells = f.cells; entries = f.entries.items; exits = f.exits.items } };
 
-    ghost invariant = { λ f. IsFramed (record { graph = f.graph; cells = f.cells; entries = f.entries.items; exits = f.exits.items }) × AreUnlisted f.entries.items (length f.entries.items) f.entered.items };
+    ghost invariant = { λ f. IsFramed (record { graph = f.graph; cells = f.cells; entries = f.entries.items; exits = f.exits.items }) × AreUnlisted f.entries.items (length f.entries.items) f.entered.items × AreHeights f.graph f.cells f.heights.items (length f.graph.arcs) };
 }
 
 impl Frame {
@@ -65,12 +72,14 @@ impl Frame {
         let entries = borders(alloc, &graph, &cells, Side::Entries)?;
         let exits = borders(alloc, &graph, &cells, Side::Exits)?;
         let entered = marks_in(alloc, graph.vertices(), entries.as_slice())?;
+        let heights = heights_of(alloc, &graph, &cells)?;
         Ok(Frame {
             graph,
             cells,
             entries,
             exits,
             entered,
+            heights,
         })
     }
 
@@ -114,6 +123,18 @@ impl Frame {
     {
         let number = self.cells.cell(level, v);
         Cell { level, number }
+    }
+
+    /// Whether the ends of an arc lie in different cells of a level.
+    #[inline(always)]
+    pub fn crosses(&self, level: u32, arc: u32) -> bool
+        requires above { 1 ≤ level }
+        requires below { level ≤ length self.now.cells.levels }
+        requires arc { arc < length self.now.graph.arcs }
+        ensures yes { OnTrue result ((u v : ℕ) → IsArc self.now.graph arc u v → AreApart self.now.cells level u v) }
+        ensures no { OnFalse result ((u v : ℕ) → IsArc self.now.graph arc u v → ¬ AreApart self.now.cells level u v) }
+    {
+        are_apart(&self.heights, &self.graph, &self.cells, level, arc)
     }
 
     /// The entries of a cell, ascending.

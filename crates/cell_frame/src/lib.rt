@@ -11,6 +11,7 @@ mod borders;
 mod building;
 mod cells;
 mod cliques;
+mod crossing;
 mod frame;
 mod listing;
 mod marks;

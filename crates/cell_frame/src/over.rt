@@ -2,7 +2,7 @@
 
 ghost use Rattle.std.specs.Prelude.{◌≡◌, ℕ, ◌<◌, ◌≤◌, ◌⊎◌, length, IfSome, IfNone, Some};
 ghost use Rattle.std.specs.Bool.{OnTrue, OnFalse};
-ghost use Rattle.search_graph.specs.Digraph.{IsOpen};
+ghost use Rattle.search_graph.specs.Digraph.{IsArc, IsOpen};
 ghost use Rattle.cell_frame.specs.Borders.{IsFramed, IsCell, IsEntry};
 ghost use Rattle.cell_frame.specs.Cliqued.{AreExact};
 ghost use Rattle.cell_frame.specs.Parts.{ShareCell, whole_at};
@@ -60,12 +60,13 @@ impl<'a, C: Cost, P: Parts> Over<'a, C, P> {
         Some(Cell { level, number })
     }
 
-    // Whether `head` is in the part of `v`, which has this name, and that is a cell.
+    // Whether an arc from `v` to `head` stays in the part of `v`, which has this name, and that is a cell.
     #[inline(always)]
-    fn shares(&self, v: u32, row: (u32, u32), head: u32) -> bool
+    fn stays(&self, v: u32, row: (u32, u32), arc: u32, head: u32) -> bool
         requires ready { P.ready self.now.parts.now self.now.frame.now }
         requires vertex { v < self.now.frame.now.graph.vertices }
         requires row { row ≡ row_name self.now.frame.now (P.level self.now.parts.now self.now.frame.now) v }
+        requires arc { IsArc self.now.frame.now.graph arc v head }
         requires head { head < self.now.frame.now.graph.vertices }
         ensures yes { OnTrue result (ShareCell self.now.frame.now.cells (P.level self.now.parts.now self.now.frame.now) v head) }
         ensures no { OnFalse result (¬ ShareCell self.now.frame.now.cells (P.level self.now.parts.now self.now.frame.now) v head) }
@@ -73,7 +74,7 @@ impl<'a, C: Cost, P: Parts> Over<'a, C, P> {
         self.frame.known();
         match self.part_named(v, row) {
             None => false,
-            Some(part) => self.frame.cell(part.level, head).number == part.number,
+            Some(part) => !self.frame.crosses(part.level, arc),
         }
     }
 }
@@ -156,7 +157,7 @@ impl<'a, C: Cost, P: Parts> Steps<C> for Over<'a, C, P> {
         if !self.parts.within(self.frame, head) {
             return None;
         }
-        if self.shares(v, row, head) {
+        if self.stays(v, row, i, head) {
             return None;
         }
         match self.weights.vertex(head) {

@@ -1,9 +1,8 @@
 -- A vertex begins its part exactly where it is listed among the entries.
-use Rattle.std.proofs.Common.{◌≡◌, ◌≢◌, ◌≤◌, ◌⊎◌, inl, inr, arith, sym, subst}
+use Rattle.std.proofs.Common.{inl, inr, arith, sym, subst}
 use Rattle.list_lemmas.proofs.Gets.{Contains_get}
 use Rattle.cell_frame.specs.declared.cells.Cell.{Cell}
-use Rattle.cell_frame.specs.Borders.{IsEntry, at_cell}
-use Rattle.cell_frame.specs.Parts.{whole_at}
+use Rattle.cell_frame.specs.Borders.{IsEntry}
 use Rattle.cell_frame.proofs.Stepping.{whole_from_level}
 use Rattle.cell_frame.proofs.over.Over.begins_part.Goals as goal
 

@@ -1,6 +1,5 @@
 -- The name of a row is that of the part.
-use Rattle.std.proofs.Common.{◌≡◌, ◌≢◌, ℕ, ◌≤◌, arith, sym, subst}
-use Rattle.cell_frame.specs.declared.cells.Cell.{Cell}
+use Rattle.std.proofs.Common.{◌≤◌, arith, sym, subst}
 use Rattle.cell_frame.specs.Borders.{IsCell}
 use Rattle.cell_frame.proofs.Levels.{IsCell-of}
 use Rattle.cell_frame.proofs.Stepping.{named_alone, named_whole}
