@@ -4,7 +4,7 @@ use Rattle.std.specs.List.Sorted.{IsPermutation, IsStrictlyIncreasing}
 use Rattle.std.proofs.lemmas.Bool.{cases_lt}
 use Rattle.std.proofs.lemmas.Bool.Decides.{nat_tests}
 use Rattle.std.proofs.lemmas.List.{append-nil, map-append, length-map, get_or-map, drop_more}
-use Rattle.std.proofs.lemmas.List.Elements.{All-tail, All-cons, All-nil, Contains-get_or}
+use Rattle.std.proofs.lemmas.List.Elements.{All-tail, All-cons, All-nil}
 use Rattle.std.proofs.lemmas.List.Folds.{list_any-append}
 use Rattle.std.proofs.lemmas.List.Sums.{sum_by-cons}
 use Rattle.std.proofs.lemmas.List.Sorted.{IsPermutation-map, list_any-IsPermutation, sum_by-IsPermutation, length_permutation}
@@ -12,11 +12,11 @@ use Rattle.cell_partition.specs.declared.spot.Spot.{Spot}
 use Rattle.cell_partition.specs.declared.level.Level.{Level}
 use Rattle.cell_partition.specs.Spots.{spots_from, spots_of}
 use Rattle.cell_partition.specs.Bounds.{joined, ends, bounds_of, parts_at}
-use Rattle.cell_partition.specs.Partition.{Partition, number_of, numbers_from, level_at, IsPartition, IsKept, AreNumbered}
+use Rattle.cell_partition.specs.Partition.{Partition, number_of, numbers_from, level_at, IsPartition, IsKept}
 use Rattle.cell_partition.specs.Halving.{IsHalved, AreHalved, AreLevels, parts_above, vertices_of, IsHalvedBy}
-use Rattle.cell_partition.specs.Levels.{cells_of, IsLevel, partition_of, AreKept}
+use Rattle.cell_partition.specs.Levels.{cells_of, IsLevel, partition_of}
 use Rattle.cell_partition.proofs.Bounds.{joined-append, joined-map, parts_at-bounds_of}
-use Rattle.cell_partition.proofs.Numbers.{has, times, has_contains, number_inside, number_member, number_only, number_here, number_later, number-append_inside, number-append_outside, has_joined_at, cases, or_rest}
+use Rattle.cell_partition.proofs.Numbers.{has, times, number_inside, number_member, number_only, number_here, number_later, number-append_inside, number-append_outside, has_joined_at, cases, or_rest}
 use Rattle.cell_partition.specs.Orders.{AreApart}
 use Rattle.cell_partition.proofs.Orders.{apart_permutation}
 use Rattle.cell_partition.proofs.Halves.{halved_same, AreSpread, spread_above, spread_few}
@@ -38,7 +38,7 @@ same_number : (x y : ℕ) → eqb x y ≡ true → x ≡ y
 same_number x y h = grind (arith, nat_tests)
 
 -- which numbers are in a range
-within_from : (vertex first n : ℕ) → has vertex (numbers_from first n) ≡ true → (first ≤ vertex) × (vertex < first + n)
+pub within_from : (vertex first n : ℕ) → has vertex (numbers_from first n) ≡ true → (first ≤ vertex) × (vertex < first + n)
 within_from vertex first zero h = absurd (cc h)
 within_from vertex first (suc n) h =
     tested (eqb vertex first) (has vertex (numbers_from (first + 1) n)) ((first ≤ vertex) × (vertex < first + suc n))
@@ -57,7 +57,7 @@ or_left : (b r : Bool) → b ≡ true → (b || r) ≡ true
 or_left true r h = refl
 or_left false r h = absurd (cc h)
 
-has_from : (vertex first n : ℕ) → first ≤ vertex → vertex < first + n → has vertex (numbers_from first n) ≡ true
+pub has_from : (vertex first n : ℕ) → first ≤ vertex → vertex < first + n → has vertex (numbers_from first n) ≡ true
 has_from vertex first zero low high = absurd (omega arith)
 has_from vertex first (suc n) low high =
     ⊎_elim
@@ -207,16 +207,13 @@ kept_levels midpoints limits levels some h = record {
 }
 
 -- a level from its parts
-pub made_level : (n : ℕ) (level : Level) (cells : List (List ℕ)) → level.order.items ≡ joined cells → level.bounds.items ≡ bounds_of cells → length cells < 4294967296
-    → length level.numbers.items ≡ n → AreNumbered cells level.numbers.items → ((vertex : ℕ) → vertex < n → has vertex (joined cells) ≡ true) → IsLevel n level × (cells_of level ≡ cells)
-made_level n level cells order bounds few size numbers placed =
+pub made_level : (level : Level) (cells : List (List ℕ)) → level.order.items ≡ joined cells → level.bounds.items ≡ bounds_of cells → length cells < 4294967296 → IsLevel level × (cells_of level ≡ cells)
+made_level level cells order bounds few =
     let is : cells_of level ≡ cells = ap (λ (bs : List ℕ). parts_at bs level.order.items) bounds ∙ ap (λ (xs : List ℕ). parts_at (bounds_of cells) xs) order ∙ parts_at-bounds_of cells in (
       record {
         order = order ∙ ap joined (sym is);
         bounds = bounds ∙ ap bounds_of (sym is);
         few = subst (λ (cs : List (List ℕ)). length cs < 4294967296) (sym is) few;
-        size = size;
-        numbers = λ vertex h. numbers vertex (placed vertex h) ∙ ap (λ (cs : List (List ℕ)). number_of cs vertex) (sym is);
       },
       is,
     )
@@ -228,7 +225,7 @@ pub record IsCut (midpoints : List (ℤ × ℤ)) (limits : List ℕ) (spots : Li
   pub spots_are : spots ≡ joined (parts_above (spots_of midpoints) parts)
   pub bounds_are : bounds ≡ bounds_of (parts_above (spots_of midpoints) parts)
   pub cells_are : map cells_of kept ≡ map vertices_of parts
-  pub are_kept : All (IsLevel (length midpoints)) kept
+  pub are_kept : All IsLevel kept
 
 found : {X : Type 0} (parts : List (List X)) (bounds : List ℕ) (xs : List X) → bounds ≡ bounds_of parts → xs ≡ joined parts → parts_at bounds xs ≡ parts
 found parts bounds xs b x = ap (λ (bs : List ℕ). parts_at bs xs) b ∙ ap (parts_at (bounds_of parts)) x ∙ parts_at-bounds_of parts
@@ -240,7 +237,7 @@ cut_none midpoints = record {
   spots_are = sym (append-nil (spots_of midpoints));
   bounds_are = ap (λ n. 0 ∷ n ∷ []) (sym (zero-add (length (spots_of midpoints)) ∙ length-spots 0 midpoints));
   cells_are = refl;
-  are_kept = All-nil (IsLevel (length midpoints));
+  are_kept = All-nil IsLevel;
 }
 
 pub cut_start : (midpoints : List (ℤ × ℤ)) (limits : List ℕ) (spots : List Spot) (bounds : List ℕ) (kept : List Level) → limits ≡ [] → spots ≡ spots_of midpoints → bounds ≡ 0 ∷ length midpoints ∷ [] → kept ≡ [] → IsCut midpoints limits spots bounds kept
@@ -285,48 +282,34 @@ all_drop (limit ∷ limits) (suc n) some = all_drop limits n (All-tail (λ limit
 pub level_ready : (midpoints : List (ℤ × ℤ)) (limits : List ℕ) (r old : ℕ) (spots new : List Spot) (bounds ended copy : List ℕ) (kept : List Level) → old ≡ r + 1 → old ≤ length limits → All (λ limit. 1 ≤ limit) limits → length midpoints < 4294967296
     → IsCut midpoints (drop old limits) spots bounds kept → Halves (get_or limits r 0) (parts_at bounds spots) new ended → copy ≡ ended
     → let cells = parts_at copy (map (λ (spot : Spot). spot.vertex) new) in
-    (map (λ (spot : Spot). spot.vertex) new ≡ joined cells) × ((copy ≡ bounds_of cells) × ((length cells < 4294967296) × (All (λ vertex. vertex < length new) (joined cells) × ((vertex : ℕ) → vertex < length new → has vertex (joined cells) ≡ true))))
+    (map (λ (spot : Spot). spot.vertex) new ≡ joined cells) × ((copy ≡ bounds_of cells) × (length cells < 4294967296))
 level_ready midpoints limits r old spots new bounds ended copy kept at within some small cut (next, halved, new_is, ended_is) copied =
     let levels = next_levels midpoints limits r old spots bounds kept at within cut next halved in
     let spread : AreSpread (spots_of midpoints) next = spread_above (spots_of midpoints) (drop r limits) (next ∷ cut.parts) (all_drop limits r some) levels in
     let order : map (λ (spot : Spot). spot.vertex) new ≡ joined (vertices_of next) = ap (map (λ (spot : Spot). spot.vertex)) new_is ∙ sym (joined-vertices next) in
     let bound : copy ≡ bounds_of (vertices_of next) = copied ∙ ended_is ∙ ap (λ xs. 0 ∷ xs) (sym (ends-vertices 0 next)) in
     let is : parts_at copy (map (λ (spot : Spot). spot.vertex) new) ≡ vertices_of next = found (vertices_of next) copy (map (λ (spot : Spot). spot.vertex) new) bound order in
-    let size : length new ≡ length midpoints = ap length new_is ∙ length_permutation (spots_of midpoints) (joined next) spread.same ∙ length-spots 0 midpoints in
     let few : length (vertices_of next) < 4294967296 =
     omega (arith, length-map next (λ part. map (λ (spot : Spot). spot.vertex) part), spread_few (spots_of midpoints) next spread (omega (arith, length-spots 0 midpoints))) in
-    let Ready : List (List ℕ) → Type 0 = λ (cells : List (List ℕ)). (map (λ (spot : Spot). spot.vertex) new ≡ joined cells) × ((copy ≡ bounds_of cells) × ((length cells < 4294967296) × (All (λ vertex. vertex < length new) (joined cells) × ((vertex : ℕ) → vertex < length new → has vertex (joined cells) ≡ true)))) in
-    subst Ready (sym is) (
-      order,
-      (
-        bound,
-        (
-          few,
-          (
-            (λ k d l. let low : get_or (joined (vertices_of next)) k d < length midpoints = inside_vertices midpoints next spread (get_or (joined (vertices_of next)) k d) (has_contains (get_or (joined (vertices_of next)) k d) (joined (vertices_of next)) (Contains-get_or (joined (vertices_of next)) k d l)) in omega arith),
-            (λ vertex l. placed_vertices midpoints next spread vertex (omega arith)),
-          ),
-        ),
-      ),
-    )
+    let Ready : List (List ℕ) → Type 0 = λ (cells : List (List ℕ)). (map (λ (spot : Spot). spot.vertex) new ≡ joined cells) × ((copy ≡ bounds_of cells) × (length cells < 4294967296)) in
+    subst Ready (sym is) (order, (bound, few))
 
 -- one more level
 pub cut_more : (midpoints : List (ℤ × ℤ)) (limits : List ℕ) (r old : ℕ) (spots new : List Spot) (bounds ended copy : List ℕ) (level : Level) (kept : List Level) → old ≡ r + 1 → old ≤ length limits → All (λ limit. 1 ≤ limit) limits
     → IsCut midpoints (drop old limits) spots bounds kept → Halves (get_or limits r 0) (parts_at bounds spots) new ended → copy ≡ ended
-    → IsLevel (length new) level → cells_of level ≡ parts_at copy (map (λ (spot : Spot). spot.vertex) new) → IsCut midpoints (drop r limits) new ended (level ∷ kept)
+    → IsLevel level → cells_of level ≡ parts_at copy (map (λ (spot : Spot). spot.vertex) new) → IsCut midpoints (drop r limits) new ended (level ∷ kept)
 cut_more midpoints limits r old spots new bounds ended copy level kept at within some cut (next, halved, new_is, ended_is) copied is_level cells =
     let levels = next_levels midpoints limits r old spots bounds kept at within cut next halved in
     let spread : AreSpread (spots_of midpoints) next = spread_above (spots_of midpoints) (drop r limits) (next ∷ cut.parts) (all_drop limits r some) levels in
     let order : map (λ (spot : Spot). spot.vertex) new ≡ joined (vertices_of next) = ap (map (λ (spot : Spot). spot.vertex)) new_is ∙ sym (joined-vertices next) in
     let bound : copy ≡ bounds_of (vertices_of next) = copied ∙ ended_is ∙ ap (λ xs. 0 ∷ xs) (sym (ends-vertices 0 next)) in
-    let is : parts_at copy (map (λ (spot : Spot). spot.vertex) new) ≡ vertices_of next = found (vertices_of next) copy (map (λ (spot : Spot). spot.vertex) new) bound order in
-    let size : length new ≡ length midpoints = ap length new_is ∙ length_permutation (spots_of midpoints) (joined next) spread.same ∙ length-spots 0 midpoints in record {
+    let is : parts_at copy (map (λ (spot : Spot). spot.vertex) new) ≡ vertices_of next = found (vertices_of next) copy (map (λ (spot : Spot). spot.vertex) new) bound order in record {
       parts = next ∷ cut.parts;
       levels = levels;
       spots_are = new_is;
       bounds_are = ended_is;
       cells_are = ap (λ (cs : List (List ℕ)). cs ∷ map cells_of kept) (cells ∙ is) ∙ ap (λ (ls : List (List (List ℕ))). vertices_of next ∷ ls) cut.cells_are;
-      are_kept = All-cons (IsLevel (length midpoints)) level kept (subst (λ (n : ℕ). IsLevel n level) size is_level) cut.are_kept;
+      are_kept = All-cons IsLevel level kept is_level cut.are_kept;
     }
 
 rises : (xs : List ℕ) → IsStrictlyIncreasing xs → 1 ≤ get_or xs 0 0 → (k : ℕ) → k < length xs → k + 1 ≤ get_or xs k 0
@@ -347,15 +330,21 @@ short xs up some fits =
     (λ (none : length xs ≤ 0). omega arith)
     (cases_lt 0 (length xs))
 
-pub cut_kept : (midpoints : List (ℤ × ℤ)) (limits : List ℕ) (spots : List Spot) (bounds : List ℕ) (kept : List Level) → All (λ limit. 1 ≤ limit) limits → IsStrictlyIncreasing limits → ((k : ℕ) → get_or limits k 0 < 4294967296)
-    → IsCut midpoints limits spots bounds kept → AreKept (length midpoints) kept
-cut_kept midpoints limits spots bounds kept some up fits cut =
+-- all levels are cut
+pub cut_all : (midpoints : List (ℤ × ℤ)) (limits : List ℕ) (spots : List Spot) (bounds : List ℕ) (kept : List Level) (rest : ℕ) → rest ≡ 0 → IsCut midpoints (drop rest limits) spots bounds kept → IsCut midpoints limits spots bounds kept
+cut_all midpoints limits spots bounds kept rest none cut = subst (λ (n : ℕ). IsCut midpoints (drop n limits) spots bounds kept) none cut
+
+-- no more levels than limits
+pub cut_few : (midpoints : List (ℤ × ℤ)) (limits : List ℕ) (spots : List Spot) (bounds : List ℕ) (kept : List Level) → All (λ limit. 1 ≤ limit) limits → IsStrictlyIncreasing limits → ((k : ℕ) → get_or limits k 0 < 4294967296)
+    → IsCut midpoints limits spots bounds kept → length kept < 4294967296
+cut_few midpoints limits spots bounds kept some up fits cut =
     let same : length kept ≡ length limits =
-    sym (length-map kept cells_of) ∙ ap length cut.cells_are ∙ length-map cut.parts vertices_of ∙ length-levels (spots_of midpoints) limits cut.parts cut.levels in record {
-      levels = cut.are_kept;
-      few = omega (arith, short limits up some fits);
-      partition = subst (λ (ls : List (List (List ℕ))). IsKept (record { vertices = length midpoints; levels = ls })) (sym cut.cells_are) (kept_levels midpoints limits cut.parts some cut.levels);
-    }
+    sym (length-map kept cells_of) ∙ ap length cut.cells_are ∙ length-map cut.parts vertices_of ∙ length-levels (spots_of midpoints) limits cut.parts cut.levels in
+    omega (arith, short limits up some fits)
+
+pub cut_kept : (midpoints : List (ℤ × ℤ)) (limits : List ℕ) (spots : List Spot) (bounds : List ℕ) (kept : List Level) → All (λ limit. 1 ≤ limit) limits → IsCut midpoints limits spots bounds kept → IsKept (partition_of (length midpoints) kept)
+cut_kept midpoints limits spots bounds kept some cut =
+    subst (λ (ls : List (List (List ℕ))). IsKept (record { vertices = length midpoints; levels = ls })) (sym cut.cells_are) (kept_levels midpoints limits cut.parts some cut.levels)
 
 pub cut_halved : (midpoints : List (ℤ × ℤ)) (limits : List ℕ) (spots : List Spot) (bounds : List ℕ) (kept : List Level) → IsCut midpoints limits spots bounds kept → IsHalvedBy midpoints limits (partition_of (length midpoints) kept)
 cut_halved midpoints limits spots bounds kept cut = record { vertices = refl; levels = (cut.parts, cut.levels, cut.cells_are) }

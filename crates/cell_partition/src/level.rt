@@ -1,18 +1,17 @@
 //! The cells of one level.
-ghost use Rattle.std.specs.Prelude.{◌≡◌, ℕ, ◌<◌, List, length, map, All, IfOk, nat_eq, true};
-ghost use Rattle.std.specs.List.{list_any};
+ghost use Rattle.std.specs.Prelude.{◌≡◌, ℕ, ◌<◌, List, length, map, slice_index, IfOk};
 ghost use Rattle.cell_partition.specs.Bounds.{joined, bounds_of, cell_at};
+ghost use Rattle.cell_partition.specs.Partition.{number_of, IsPartition};
 
 use crate::numbering::numbers_of;
 use crate::spot::Spot;
 use std::alloc::{AllocError, Global};
 
-/// The cells of one level: the vertices cell by cell, the bounds of the cells among
-/// them, and the cell of each vertex.
+/// The cells of one level: the vertices cell by cell, and the bounds of the cells among
+/// them.
 pub struct Level {
     pub order: Vec<u32>,
     pub bounds: Vec<u32>,
-    pub numbers: Vec<u32>,
 }
 
 impl Drop for Level {
@@ -20,7 +19,6 @@ impl Drop for Level {
         let Level {
             order: _order,
             bounds: _bounds,
-            numbers: _numbers,
         } = self;
     }
 }
@@ -34,31 +32,24 @@ impl Level {
         requires in_place { map (λ spot. spot.vertex) spots.now ≡ joined cells }
         requires at_bounds { bounds.items ≡ bounds_of cells }
         requires few { length cells < 4294967296 }
-        requires inside { All (λ vertex. vertex < length spots.now) (joined cells) }
-        requires placed { (vertex : ℕ) → vertex < length spots.now → list_any (nat_eq vertex) (joined cells) ≡ true }
-        ensures level { IfOk result (IsLevel (length spots.now)) }
+        ensures level { IfOk result IsLevel }
         ensures cells { IfOk result (λ level. cells_of level ≡ cells) }
     {
         let order = vertices(alloc, spots)?;
-        let numbers = numbers_of(alloc, &order, &bounds)?;
-        Ok(Level {
-            order,
-            bounds,
-            numbers,
-        })
+        Ok(Level { order, bounds })
     }
 
     /// How many cells there are.
-    pub fn count(&self, n: u32) -> u32
-        requires { IsLevel n self.now }
+    pub fn count(&self) -> u32
+        requires { IsLevel self.now }
         ensures { result ≡ length (cells_of self.now) }
     {
         (self.bounds.len() - 1) as u32
     }
 
     /// The vertices of a cell.
-    pub fn members(&self, n: u32, cell: u32) -> &[u32]
-        requires kept { IsLevel n self.now }
+    pub fn members(&self, cell: u32) -> &[u32]
+        requires kept { IsLevel self.now }
         requires inside { cell < length (cells_of self.now) }
         ensures { result.now ≡ cell_at (cells_of self.now) cell }
     {
@@ -66,6 +57,17 @@ impl Level {
         let start = bounds[cell as usize] as usize;
         let end = bounds[cell as usize + 1] as usize;
         &self.order[start..end]
+    }
+
+    /// The cell of each vertex.
+    pub fn numbers(&self, alloc: Global) -> Result<Vec<u32>, AllocError>
+        requires kept { IsLevel self.now }
+        requires parted { IsPartition (length self.now.order.items) (cells_of self.now) }
+        ensures size { IfOk result (λ numbers. length numbers.items ≡ length self.now.order.items) }
+        ensures numbers { IfOk result (λ numbers. (vertex : ℕ) → vertex < length self.now.order.items → slice_index numbers.items vertex ≡ number_of (cells_of self.now) vertex) }
+    {
+        let numbers = numbers_of(alloc, &self.order, &self.bounds)?;
+        Ok(numbers)
     }
 }
 

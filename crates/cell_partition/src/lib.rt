@@ -18,6 +18,7 @@ mod partition;
 mod parts;
 mod sorting;
 mod spot;
+mod tables;
 
 pub use cutting::{PartitionError, cells};
 pub use partition::Cells;

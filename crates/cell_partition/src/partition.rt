@@ -1,19 +1,24 @@
 //! The cells of all levels.
-ghost use Rattle.std.specs.Prelude.{◌≡◌, ◌<◌, ◌≤◌, length};
+ghost use Rattle.std.specs.Prelude.{◌≡◌, ◌<◌, ◌≤◌, length, All, IfOk};
 ghost use Rattle.cell_partition.specs.Bounds.{cell_at};
 ghost use Rattle.cell_partition.specs.Partition.{Partition, level_at, number_of, IsKept};
 
 use crate::level::Level;
+use crate::tables::Tables;
+use std::alloc::{AllocError, Global};
 use std::marker::Model;
 
 /// A nested partition of vertices into cells, in levels that count from 1. Vertices
 /// and the cells of a level count from 0.
 ///
 /// Each vertex stands in one cell of each level, and two vertices that share a cell
-/// share one of every level above. A level costs eight bytes a vertex and four a cell.
+/// share one of every level above. A level costs four bytes a vertex and four a cell. The
+/// tables by which a vertex finds its cells cost four bytes a vertex for all levels
+/// together, and for each level above the lowest four bytes a cell of the lowest.
 pub struct Cells {
     pub(crate) vertices: u32,
     pub(crate) levels: Vec<Level>,
+    pub(crate) tables: Tables,
 }
 
 impl Drop for Cells {
@@ -21,6 +26,7 @@ impl Drop for Cells {
         let Cells {
             vertices: _vertices,
             levels: _levels,
+            tables: _tables,
         } = self;
     }
 }
@@ -33,10 +39,34 @@ impl Model for Cells {
 
     ghost view = { λ c. partition_of c.vertices c.levels.items };
 
-    ghost invariant = { λ c. AreKept c.vertices c.levels.items };
+    ghost invariant = { λ c. AreKept c.vertices c.levels.items c.tables };
 }
 
 impl Cells {
+    ghost use Rattle.cell_partition.specs.Levels.{IsLevel, partition_of};
+
+    /// The partition of these levels, the lowest first.
+    pub(crate) fn of(alloc: Global, vertices: u32, levels: Vec<Level>) -> Result<Cells, AllocError>
+        requires levels { All IsLevel levels.items }
+        requires few { length levels.items < 4294967296 }
+        requires kept { IsKept (partition_of vertices levels.items) }
+        ensures { IfOk result (λ cells. cells ≡ partition_of vertices levels.items) }
+    {
+        if levels.is_empty() {
+            return Ok(Cells {
+                vertices,
+                levels,
+                tables: Tables::none(alloc),
+            });
+        }
+        let tables = Tables::of(alloc, levels[0].numbers(alloc)?, &levels)?;
+        Ok(Cells {
+            vertices,
+            levels,
+            tables,
+        })
+    }
+
     /// Tells a proof what is true of each partition. It does nothing.
     pub fn known(&self)
         ensures { IsKept self.now }
@@ -64,7 +94,7 @@ impl Cells {
         requires below { level ≤ length self.now.levels }
         ensures { result ≡ length (level_at self.now level) }
     {
-        self.levels[level as usize - 1].count(self.vertices)
+        self.levels[level as usize - 1].count()
     }
 
     /// The cell of a vertex in a level.
@@ -75,7 +105,11 @@ impl Cells {
         ensures number { result ≡ number_of (level_at self.now level) vertex }
         ensures kept { IsKept self.now }
     {
-        self.levels[level as usize - 1].numbers[vertex as usize]
+        let lowest = self.tables.lowest[vertex as usize];
+        if level == 1 {
+            return lowest;
+        }
+        self.tables.above[level as usize - 2][lowest as usize]
     }
 
     /// The vertices of a cell of a level, in the order of the last cut.
@@ -86,6 +120,6 @@ impl Cells {
         ensures members { result.now ≡ cell_at (level_at self.now level) cell }
         ensures kept { IsKept self.now }
     {
-        self.levels[level as usize - 1].members(self.vertices, cell)
+        self.levels[level as usize - 1].members(cell)
     }
 }

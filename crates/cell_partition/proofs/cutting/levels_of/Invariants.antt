@@ -3,7 +3,7 @@ use Rattle.cell_partition.specs.declared.spot.Spot.{Spot}
 use Rattle.cell_partition.specs.Bounds.{parts_at}
 use Rattle.cell_partition.specs.Parts.{AreStanding}
 use Rattle.cell_partition.proofs.Kept.{IsCut}
-use Rattle.cell_partition.proofs.cutting.cells.Given as goal
+use Rattle.cell_partition.proofs.cutting.levels_of.Given as goal
 
 -- the parts that lie at the bounds
 abbrev pub ghost-halved : goal.ghost-halved

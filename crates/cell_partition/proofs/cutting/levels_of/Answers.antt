@@ -1,12 +1,12 @@
-use Rattle.std.proofs.Common.{◌≡◌, ℕ, ◌+◌, ◌-◌, ◌<◌, ◌≤◌, List, [], ◌∷◌, length, drop, get_or, sym, subst, ap, ◌∙◌, arith}
+use Rattle.std.proofs.Common.{◌≡◌, ◌+◌, ◌-◌, ◌<◌, ◌≤◌, List, [], ◌∷◌, length, drop, get_or, sym, subst, ap, ◌∙◌, arith}
 use Rattle.std.proofs.lemmas.List.{drop_all}
 use Rattle.cell_partition.specs.declared.spot.Spot.{Spot}
 use Rattle.cell_partition.specs.declared.level.Level.{Level}
 use Rattle.cell_partition.specs.Spots.{spots_of}
 use Rattle.cell_partition.specs.Bounds.{parts_at}
 use Rattle.cell_partition.proofs.InOrder.{found_standing, standing_whole}
-use Rattle.cell_partition.proofs.Kept.{IsCut, Halves, length-spots, cut_start, cut_length, cut_apart, all_drop, level_ready, cut_more, cut_kept}
-use Rattle.cell_partition.proofs.cutting.cells.Goals as goal
+use Rattle.cell_partition.proofs.Kept.{IsCut, Halves, length-spots, cut_start, cut_length, cut_apart, all_drop, level_ready, cut_more, cut_all, cut_few, cut_kept, cut_halved}
+use Rattle.cell_partition.proofs.cutting.levels_of.Goals as goal
 
 pub loop-rest-init : goal.loop-rest-init
 loop-rest-init c = record {
@@ -60,20 +60,19 @@ loop-rest-preserved c =
           (subst (λ (xs : List Spot). IsCut c.args.midpoints.now (drop r limits) xs ended (c.in_ok-level.level ∷ c.loop-rest.levels.items)) c.deref.ensures.value cut);
     }
 
-pub invariant_of-result : goal.invariant_of-result
-invariant_of-result c =
+pub returns-clause-halved : goal.returns-clause-halved
+returns-clause-halved c =
+    cut_halved c.args.midpoints.now c.args.limits.now c.loop-rest.parts.along.items c.loop-rest.parts.bounds.items c.loop-rest.levels.items (cut_all c.args.midpoints.now c.args.limits.now _ _ _ c.loop-rest.rest (omega arith) c.loop-rest.invariant.cut)
+
+pub returns-clause-levels : goal.returns-clause-levels
+returns-clause-levels c = c.loop-rest.invariant.cut.are_kept
+
+pub returns-clause-few : goal.returns-clause-few
+returns-clause-few c =
     let limits = c.args.limits.now in
-    let none : c.loop-rest.rest ≡ 0 = omega arith in
-    let fits : (k : ℕ) → get_or limits k 0 < 4294967296 = λ k. omega (arith, (c.type_inv.limits k).fits) in
-    let cut : IsCut c.args.midpoints.now limits c.loop-rest.parts.along.items c.loop-rest.parts.bounds.items c.loop-rest.levels.items =
-    subst (λ (n : ℕ). IsCut c.args.midpoints.now (drop n limits) c.loop-rest.parts.along.items c.loop-rest.parts.bounds.items c.loop-rest.levels.items) none c.loop-rest.invariant.cut in
-    cut_kept c.args.midpoints.now limits c.loop-rest.parts.along.items c.loop-rest.parts.bounds.items c.loop-rest.levels.items c.requires.some c.requires.ascending fits cut
+    cut_few c.args.midpoints.now limits c.loop-rest.parts.along.items c.loop-rest.parts.bounds.items c.loop-rest.levels.items c.requires.some c.requires.ascending (λ k. omega (arith, (c.type_inv.limits k).fits))
+    (cut_all c.args.midpoints.now limits _ _ _ c.loop-rest.rest (omega arith) c.loop-rest.invariant.cut)
 
 pub returns-clause-kept : goal.returns-clause-kept
 returns-clause-kept c =
-    let limits = c.args.limits.now in
-    let none : c.loop-rest.rest ≡ 0 = omega arith in
-    let fits : (k : ℕ) → get_or limits k 0 < 4294967296 = λ k. omega (arith, (c.type_inv.limits k).fits) in
-    let cut : IsCut c.args.midpoints.now limits c.loop-rest.parts.along.items c.loop-rest.parts.bounds.items c.loop-rest.levels.items =
-    subst (λ (n : ℕ). IsCut c.args.midpoints.now (drop n limits) c.loop-rest.parts.along.items c.loop-rest.parts.bounds.items c.loop-rest.levels.items) none c.loop-rest.invariant.cut in
-    (cut_kept c.args.midpoints.now limits c.loop-rest.parts.along.items c.loop-rest.parts.bounds.items c.loop-rest.levels.items c.requires.some c.requires.ascending fits cut).partition
+    cut_kept c.args.midpoints.now c.args.limits.now c.loop-rest.parts.along.items c.loop-rest.parts.bounds.items c.loop-rest.levels.items c.requires.some (cut_all c.args.midpoints.now c.args.limits.now _ _ _ c.loop-rest.rest (omega arith) c.loop-rest.invariant.cut)
