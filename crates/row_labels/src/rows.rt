@@ -240,12 +240,58 @@ fn pass_over<C: Cost>(words: &Words<C>, first: usize, offers: &Offers<C>, from: 
     ensures count { result ≤ offers.now.count }
     ensures over { (j : ℕ) → from ≤ j → j < result → IsOver C.ranked words.now (first + j) offers.now.paid offers.now.costs.now j }
 {
-    for place in from..offers.count {
+    let behind = pass_over_fours(words, first, offers, from);
+    for place in behind..offers.count {
         if !is_over(words, first, offers, place) {
             return place;
         }
     }
     offers.count
+}
+
+// The same for four places at a time, as long as the offers at all four improve nothing.
+#[inline(always)]
+fn pass_over_fours<C: Cost>(
+    words: &Words<C>,
+    first: usize,
+    offers: &Offers<C>,
+    from: usize,
+) -> usize
+    requires ranks { AreAdded C.ranked C.RANKS offers.now.paid offers.now.rank offers.now.ranks }
+    requires from { from ≤ offers.now.count }
+    requires long { offers.now.count ≤ length offers.now.costs.now }
+    requires room { first + offers.now.count ≤ length words.now }
+    requires small { first + offers.now.count < 2 ^ 64 }
+    ensures from { from ≤ result }
+    ensures count { result ≤ offers.now.count }
+    ensures over { (j : ℕ) → from ≤ j → j < result → IsOver C.ranked words.now (first + j) offers.now.paid offers.now.costs.now j }
+{
+    let mut place = from;
+    while offers.count - place >= 4 {
+        if !are_four_over(words, first, offers, place) {
+            return place;
+        }
+        place += 4;
+    }
+    place
+}
+
+// Whether words tell so at four places from `place` on. All four are looked at, so that no branch lies between them: which places
+// have no cost is hard to foresee.
+#[inline(always)]
+fn are_four_over<C: Cost>(words: &Words<C>, first: usize, offers: &Offers<C>, place: usize) -> bool
+    requires ranks { AreAdded C.ranked C.RANKS offers.now.paid offers.now.rank offers.now.ranks }
+    requires place { place + 4 ≤ offers.now.count }
+    requires long { offers.now.count ≤ length offers.now.costs.now }
+    requires room { first + offers.now.count ≤ length words.now }
+    requires small { first + offers.now.count < 2 ^ 64 }
+    ensures { OnTrue result ((j : ℕ) → place ≤ j → j < place + 4 → IsOver C.ranked words.now (first + j) offers.now.paid offers.now.costs.now j) }
+{
+    let one = is_over(words, first, offers, place);
+    let two = is_over(words, first, offers, place + 1);
+    let three = is_over(words, first, offers, place + 2);
+    let four = is_over(words, first, offers, place + 3);
+    one & two & three & four
 }
 
 // Whether the place has no cost, or the words of what is paid, of its cost and of its value tell that the offer there is no less
@@ -260,10 +306,8 @@ fn is_over<C: Cost>(words: &Words<C>, first: usize, offers: &Offers<C>, place: u
     ensures { OnTrue result (IsOver C.ranked words.now (first + place) offers.now.paid offers.now.costs.now place) }
 {
     let word = offers.costs.word(place);
-    if word >= offers.ranks && word != NO_COST {
-        return false;
-    }
-    words.is_within(first + place, offers.rank.saturating_add(word))
+    let tells = (word < offers.ranks) | (word == NO_COST);
+    tells & words.is_within(first + place, offers.rank.saturating_add(word))
 }
 
 // Offers a cost along one place, if it has one: by words, where they tell all.
