@@ -1,5 +1,5 @@
 -- What offers along a row leave of the list of values, place by place, and so of what is kept of each row.
-use Rattle.std.proofs.Common.{◌≡◌, ℕ, ◌+◌, ◌-◌, ◌^◌, ◌<◌, ◌≤◌, ◌⊎◌, ◌&&◌, ◌||◌, ◌==◌, nat_lt, min, true≢false, inl, inr, Bool, true, false, Option, Some, None, List, [], ◌∷◌, ◌++◌, length, Result, Ok, Err, OnOk, refl, sym, ◌∙◌, ap, subst, arith, get_or-set_same, get_or-set_other}
+use Rattle.std.proofs.Common.{◌≡◌, ℕ, ◌+◌, ◌-◌, ◌^◌, ◌<◌, ◌≤◌, ◌%◌, min, inl, inr, Bool, true, false, Option, Some, None, List, [], ◌∷◌, ◌++◌, length, Result, Ok, Err, OnOk, refl, sym, ◌∙◌, ap, subst, arith, get_or-set_same, get_or-set_other}
 use Rattle.std.proofs.Math.ListN.{set}
 use Rattle.std.proofs.lemmas.Bool.{cases_eq, cases_lt}
 use Rattle.std.proofs.lemmas.Bool.Decides.{nat_tests}
@@ -62,58 +62,29 @@ pub on_true : {P Q : Type 0} (b : Bool) → OnTrue b P → (P → Q) → OnTrue 
 on_true true h f = f h
 on_true false h f = tt
 
--- what holds where both of two tests are true
-on_both : {P : Type 0} (a b : Bool) → (a ≡ true → b ≡ true → P) → OnTrue (a && b) P
-on_both true true f = f refl refl
-on_both true false f = tt
-on_both false b f = tt
-
-from_true : {P : Type 0} (b : Bool) → OnTrue b P → b ≡ true → P
-from_true true h e = h
-from_true false h e = absurd (true≢false (sym e))
-
-below_or : (w n m : ℕ) → (nat_lt w n || (w == m)) ≡ true → (w < n) ⊎ (w ≡ m)
-below_or w n m e = elim (cases_lt w n) [ inl lt ↦ inl lt | inr le ↦ inr (grind (arith, nat_tests)) ]
+below_most : (w m : ℕ) → w < 2 ^ 64 - 1 → (w + 1) % 2 ^ 64 ≤ m → w < m
+below_most w m lt le = omega (arith, lt, le)
 
 least_sum : (rank w sum : ℕ) → rank < 2 ^ 62 → w < 2 ^ 62 → sum ≡ min (rank + w) (2 ^ 64 - 1) → sum ≡ rank + w
 least_sum rank w sum h k e = grind (arith, nat_tests)
 
--- where the word of a place is one that tells, it tells that the offer improves nothing, or that there is none
-pub told_over : {C : Type 0} {narrowed ranked : C → Option ℕ} {most : ℕ} → AreOwnRanks narrowed ranked most → most ≤ 2 ^ 62 → (values : List (Option C)) (i : ℕ) (paid : C) (costs : List (Option C)) (place rank ranks w sum : ℕ) (within : Bool) →
-    AreAdded ranked most paid rank ranks → (w < 2 ^ 63 → (s : C) × (slice_get costs place ≡ Some (Some s)) × (narrowed s ≡ Some w)) → (w ≡ 2 ^ 64 - 1 → slice_get costs place ≡ Some None) → sum ≡ min (rank + w) (2 ^ 64 - 1) →
-    OnTrue within (sum < 2 ^ 63 → IsWithinRank ranked values i sum) → OnTrue ((nat_lt w ranks || (w == 2 ^ 64 - 1)) && within) (IsOver ranked values i paid costs place)
-told_over {C} {narrowed} {ranked} {most} own few values i paid costs place rank below w sum within added at none is h = on_both (nat_lt w below || (w == 2 ^ 64 - 1)) within (λ t e. elim (below_or w below (2 ^ 64 - 1) t) [
-  | inl lt ↦
+-- where the word of a place is a rank or that of no cost, so that the next word is no more than `below`, the words tell that the
+-- offer improves nothing, or that there is none
+pub told_over : {C : Type 0} {narrowed ranked : C → Option ℕ} {most : ℕ} → AreOwnRanks narrowed ranked most → most ≤ 2 ^ 62 → (values : List (Option C)) (i : ℕ) (paid : C) (costs : List (Option C)) (place rank below w sum : ℕ) (within : Bool) →
+    AreAdded ranked most paid rank below → w < 2 ^ 64 → (w + 1) % 2 ^ 64 ≤ below → (w < 2 ^ 63 → (s : C) × (slice_get costs place ≡ Some (Some s)) × (narrowed s ≡ Some w)) → (w ≡ 2 ^ 64 - 1 → slice_get costs place ≡ Some None) →
+    sum ≡ min (rank + w) (2 ^ 64 - 1) → OnTrue within (sum < 2 ^ 63 → IsWithinRank ranked values i sum) → OnTrue within (IsOver ranked values i paid costs place)
+told_over {C} {narrowed} {ranked} {most} own few values i paid costs place rank below w sum within added fits le at none is h = on_true within h (λ tells. elim (cases_eq w (2 ^ 64 - 1)) [
+  | inl last ↦ inl (none last)
+  | inr other ↦
+      let lt : w < below = below_most w below (omega (arith, fits, other)) le in
       let a = added w lt in
       let less : w < most = a.0 in
       let low : rank < 2 ^ 62 = a.2 in
       let short : w < 2 ^ 62 = omega (arith, less, few) in
       let s = at (omega (arith, short)) in
       let total : sum ≡ rank + w = least_sum rank w sum low short is in
-      let in_rank : IsWithinRank ranked values i sum = from_true within h e (omega (arith, total, low, short)) in
-      inr (s.0, rank, w, s.1, a.1, own s.0 w s.2 less, subst (IsWithinRank ranked values i) total in_rank)
-  | inr last ↦ inl (none last)
+      inr (s.0, rank, w, s.1, a.1, own s.0 w s.2 less, subst (IsWithinRank ranked values i) total (tells (omega (arith, total, low, short))))
 ])
-
--- what holds at a place and at each of the three behind it, where four tests tell so
-four_places : (P : ℕ → Type 0) (n : ℕ) → P n → P (n + 1) → P (n + 2) → P (n + 3) → (j : ℕ) → n ≤ j → j < n + 4 → P j
-four_places P n a b c d j le lt = elim (cases_eq j n) [
-  | inl e ↦ subst P (sym e) a
-  | inr p ↦ elim (cases_eq j (n + 1)) [
-    | inl e ↦ subst P (sym e) b
-    | inr q ↦ elim (cases_eq j (n + 2)) [
-      | inl e ↦ subst P (sym e) c
-      | inr r ↦ let e : j ≡ n + 3 = omega (arith, le, lt, p, q, r) in subst P (sym e) d
-    ]
-  ]
-]
-
-pub all_four : (P : ℕ → Type 0) (a b c d : Bool) (n : ℕ) → OnTrue a (P n) → OnTrue b (P (n + 1)) → OnTrue c (P (n + 2)) → OnTrue d (P (n + 3)) → OnTrue (((a && b) && c) && d) ((j : ℕ) → n ≤ j → j < n + 4 → P j)
-all_four P true true true true n p q r s = four_places P n p q r s
-all_four P false b c d n p q r s = tt
-all_four P true false c d n p q r s = tt
-all_four P true true false d n p q r s = tt
-all_four P true true true false n p q r s = tt
 
 -- where the word of a cost is a rank and so is the sum with that of what is paid, it is the rank of the offer
 pub summed : {C : Type 0} {ops : CostOps C} {narrowed ranked : C → Option ℕ} {unranked : ℕ → C} {most : ℕ} → AreRanks ops ranked unranked → AreOwnRanks narrowed ranked most → most ≤ 2 ^ 62 → (paid : C) (costs : List (Option C)) (place rank ranks w sum : ℕ) (found : Option ℕ) →

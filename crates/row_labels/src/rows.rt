@@ -9,7 +9,7 @@ ghost use Rattle.row_labels.specs.Lowered.{AreAdded, IsOver, IsOffered, LowersAt
 
 use crate::blocks::{Blocks, Span};
 use crate::words::Words;
-use cost_lists::{CostRow, NO_COST};
+use cost_lists::CostRow;
 use search_graph::Cost;
 use std::alloc::{AllocError, Global};
 use std::marker::Model;
@@ -240,8 +240,7 @@ fn pass_over<C: Cost>(words: &Words<C>, first: usize, offers: &Offers<C>, from: 
     ensures count { result ≤ offers.now.count }
     ensures over { (j : ℕ) → from ≤ j → j < result → IsOver C.ranked words.now (first + j) offers.now.paid offers.now.costs.now j }
 {
-    let behind = pass_over_fours(words, first, offers, from);
-    for place in behind..offers.count {
+    for place in from..offers.count {
         if !is_over(words, first, offers, place) {
             return place;
         }
@@ -249,53 +248,9 @@ fn pass_over<C: Cost>(words: &Words<C>, first: usize, offers: &Offers<C>, from: 
     offers.count
 }
 
-// The same for four places at a time, as long as the offers at all four improve nothing.
-#[inline(always)]
-fn pass_over_fours<C: Cost>(
-    words: &Words<C>,
-    first: usize,
-    offers: &Offers<C>,
-    from: usize,
-) -> usize
-    requires ranks { AreAdded C.ranked C.RANKS offers.now.paid offers.now.rank offers.now.ranks }
-    requires from { from ≤ offers.now.count }
-    requires long { offers.now.count ≤ length offers.now.costs.now }
-    requires room { first + offers.now.count ≤ length words.now }
-    requires small { first + offers.now.count < 2 ^ 64 }
-    ensures from { from ≤ result }
-    ensures count { result ≤ offers.now.count }
-    ensures over { (j : ℕ) → from ≤ j → j < result → IsOver C.ranked words.now (first + j) offers.now.paid offers.now.costs.now j }
-{
-    let mut place = from;
-    while offers.count - place >= 4 {
-        if !are_four_over(words, first, offers, place) {
-            return place;
-        }
-        place += 4;
-    }
-    place
-}
-
-// Whether words tell so at four places from `place` on. All four are looked at, so that no branch lies between them: which places
-// have no cost is hard to foresee.
-#[inline(always)]
-fn are_four_over<C: Cost>(words: &Words<C>, first: usize, offers: &Offers<C>, place: usize) -> bool
-    requires ranks { AreAdded C.ranked C.RANKS offers.now.paid offers.now.rank offers.now.ranks }
-    requires place { place + 4 ≤ offers.now.count }
-    requires long { offers.now.count ≤ length offers.now.costs.now }
-    requires room { first + offers.now.count ≤ length words.now }
-    requires small { first + offers.now.count < 2 ^ 64 }
-    ensures { OnTrue result ((j : ℕ) → place ≤ j → j < place + 4 → IsOver C.ranked words.now (first + j) offers.now.paid offers.now.costs.now j) }
-{
-    let one = is_over(words, first, offers, place);
-    let two = is_over(words, first, offers, place + 1);
-    let three = is_over(words, first, offers, place + 2);
-    let four = is_over(words, first, offers, place + 3);
-    one & two & three & four
-}
-
 // Whether the place has no cost, or the words of what is paid, of its cost and of its value tell that the offer there is no less
-// than the value. The sum saturates for the word of no cost, which is the greatest, so no value is above it.
+// than the value. The word of no cost is the greatest: one more is 0, as for no other word, and the sum saturates, so that no
+// value is above it. Which places have no cost is hard to foresee, so no branch asks that.
 #[inline(always)]
 fn is_over<C: Cost>(words: &Words<C>, first: usize, offers: &Offers<C>, place: usize) -> bool
     requires ranks { AreAdded C.ranked C.RANKS offers.now.paid offers.now.rank offers.now.ranks }
@@ -306,8 +261,10 @@ fn is_over<C: Cost>(words: &Words<C>, first: usize, offers: &Offers<C>, place: u
     ensures { OnTrue result (IsOver C.ranked words.now (first + place) offers.now.paid offers.now.costs.now place) }
 {
     let word = offers.costs.word(place);
-    let tells = (word < offers.ranks) | (word == NO_COST);
-    tells & words.is_within(first + place, offers.rank.saturating_add(word))
+    if word.wrapping_add(1) > offers.ranks {
+        return false;
+    }
+    words.is_within(first + place, offers.rank.saturating_add(word))
 }
 
 // Offers a cost along one place, if it has one: by words, where they tell all.
