@@ -59,7 +59,7 @@ AreBorders-push g p side borders m b here h = record {
 
 module _ (g : Digraph) (p : Partition) where
   -- the border of a cell's level
-  border_at : (side : Side) (borders : List Listed) → AreBorders g p side borders (length p.levels) → (k : Cell) → IsCell p k → (b : Listed) × (slice_get borders (k.level - 1) ≡ Some b) × IsBorder g p k.level side b
+  pub border_at : (side : Side) (borders : List Listed) → AreBorders g p side borders (length p.levels) → (k : Cell) → IsCell p k → (b : Listed) × (slice_get borders (k.level - 1) ≡ Some b) × IsBorder g p k.level side b
   border_at side borders are k is_cell =
       let size : length borders ≡ length p.levels = are.size in
       let low : 1 ≤ k.level = is_cell.0 in

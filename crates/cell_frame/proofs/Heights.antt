@@ -1,13 +1,13 @@
 -- How high the ends of arcs lie in different cells.
-use Rattle.std.proofs.Common.{◌≡◌, ℕ, ◌+◌, ◌<◌, ◌≤◌, inl, inr, List, [], ◌∷◌, ◌++◌, length, length-append, sym, ◌∙◌, ap, subst, arith, Bool, true, false, not, refl}
+use Rattle.std.proofs.Common.{◌≡◌, ℕ, ◌+◌, ◌<◌, ◌≤◌, inl, inr, List, [], ◌∷◌, ◌++◌, length, length-append, Some, IfSome, sym, ◌∙◌, ap, subst, arith, Bool, true, false, not, refl, Option}
 use Rattle.std.specs.Bool.{OnTrue, OnFalse}
 use Rattle.std.specs.List.{slice_get}
 use Rattle.std.proofs.lemmas.Bool.{cases_lt, cases_eq}
-use Rattle.std.proofs.lemmas.Option.{same_Some}
-use Rattle.list_lemmas.proofs.Gets.{get_push}
+use Rattle.std.proofs.lemmas.Option.{same_Some, slice_get_within}
+use Rattle.list_lemmas.proofs.Gets.{get_push, get_some}
 use Rattle.search_graph.specs.Digraph.{Digraph, IsArc}
 use Rattle.cell_partition.specs.Partition.{Partition, level_at, number_of, IsKept}
-use Rattle.cell_frame.specs.Heights.{AreApart, IsHeight, AreHeights}
+use Rattle.cell_frame.specs.Heights.{AreApart, IsHeight, AreHeights, AreHighest}
 use Rattle.cell_frame.specs.declared.cells.Cell.{Cell}
 use Rattle.cell_frame.specs.Parts.{ShareCell, whole_at}
 use Rattle.cell_frame.proofs.Levels.{same_above}
@@ -40,6 +40,28 @@ AreHeights-push g p heights m tail head height byte arc is exact h = record {
         let ends : (tail, head) ≡ (u, v) = same_Some (tail, head) (u, v) (sym arc ∙ ap (slice_get g.arcs) (sym here) ∙ e) in
         let same : height ≡ n = sym (exact (subst (λ (k : ℕ). k < 255) q.1 low)) ∙ sym q.1 in
         subst (λ (x : ℕ × ℕ). IsHeight p x.0 x.1 n) ends (subst (IsHeight p tail head) same is)
+  ];
+}
+
+-- where the height at the tail of one arc more is raised
+pub AreHighest-raise : (g : Digraph) (heights old new : List ℕ) (m tail head height : ℕ) → IsArc g m tail head → slice_get heights m ≡ Some height → length new ≡ length old →
+    IfSome (slice_get new tail) (λ most. height ≤ most) → ((u below above : ℕ) → slice_get old u ≡ Some below → slice_get new u ≡ Some above → below ≤ above) → AreHighest g heights old m → AreHighest g heights new (m + 1)
+AreHighest-raise g heights old new m tail head height arc at size here rises before = record {
+  size = size ∙ before.size;
+  each = λ i u v h most lt is there high. elim (cases_lt i m) [
+    | inl less ↦
+        let within : u < length new = slice_get_within new u most high in
+        let o = get_some old u (omega (arith, within, size)) in
+        let low : h ≤ o.0 = before.each i u v h o.0 less is there o.1 in
+        let up : o.0 ≤ most = rises u o.0 most o.1 high in
+        omega arith
+    | inr le ↦
+        let last : i ≡ m = omega arith in
+        let ends : (tail, head) ≡ (u, v) = same_Some (tail, head) (u, v) (sym arc ∙ ap (slice_get g.arcs) (sym last) ∙ is) in
+        let same : height ≡ h = same_Some height h (sym at ∙ ap (slice_get heights) (sym last) ∙ there) in
+        let above : IfSome (slice_get new u) (λ n. height ≤ n) = subst (λ (x : ℕ × ℕ). IfSome (slice_get new x.0) (λ n. height ≤ n)) ends here in
+        let done : height ≤ most = subst (λ (o : Option ℕ). IfSome o (λ n. height ≤ n)) high above in
+        omega arith
   ];
 }
 

@@ -2,6 +2,7 @@ pub mod CellLists
 pub mod Entering
 pub mod Framing
 pub mod Heights
+pub mod Known
 pub mod Levels
 pub mod Marking
 pub mod Parting

@@ -20,6 +20,10 @@ use Rattle.cell_frame.proofs.Spacing.{value_is, whole_is_cell, heads_are}
 pub whole_from_level : (p : Partition) (level : ℕ → ℕ) (u n : ℕ) (k : Cell) → n ≡ level u → k ≡ cell_of p n u → k ≡ whole_at p level u
 whole_from_level p level u n k e h = h ∙ ap (λ (l : ℕ). cell_of p l u) e
 
+-- the part of u is the cell of its own level
+pub named_cell : (p : Partition) (level : ℕ → ℕ) (u : ℕ) (k : Cell) → k ≡ whole_at p level u → cell_of p k.level u ≡ k
+named_cell p level u k is = ap (λ (x : Cell). cell_of p x.level u) is ∙ sym is
+
 -- a row of level 0 is that of a vertex alone, and any other is named by the part
 module _ (f : Framed) (level : ℕ → ℕ) (u : ℕ) (row : ℕ × ℕ) (is : row ≡ row_name f level u) where
   whole : ℕ × ℕ

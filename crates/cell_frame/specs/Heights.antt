@@ -16,3 +16,8 @@ IsHeight p u v height = (level : ℕ) → 1 ≤ level → level ≤ length p.lev
 pub record AreHeights (g : Digraph) (p : Partition) (heights : List ℕ) (m : ℕ) : Type 0 where
   pub size : length heights ≡ m
   pub each : (i u v height : ℕ) → slice_get heights i ≡ Some height → height < 255 → IsArc g i u v → IsHeight p u v height
+
+-- of the arcs before number m, none is higher than what stands at its tail
+pub record AreHighest (g : Digraph) (heights highest : List ℕ) (m : ℕ) : Type 0 where
+  pub size : length highest ≡ g.vertices
+  pub each : (i u v height most : ℕ) → i < m → IsArc g i u v → slice_get heights i ≡ Some height → slice_get highest u ≡ Some most → height ≤ most

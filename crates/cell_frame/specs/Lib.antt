@@ -7,4 +7,5 @@ pub mod Inside
 pub mod Listing
 pub mod Marks
 pub mod Parts
+pub mod Spots
 pub mod PartSpace

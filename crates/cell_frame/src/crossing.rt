@@ -1,10 +1,11 @@
 //! How high the ends of an arc lie in different cells.
 
-ghost use Rattle.std.specs.Prelude.{◌≡◌, ℕ, ◌+◌, ◌<◌, ◌≤◌, ◌↔◌, length, IfOk};
+ghost use Rattle.std.specs.Prelude.{◌≡◌, ℕ, ◌+◌, ◌<◌, ◌≤◌, ◌↔◌, length, IfOk, IfSome, Some};
 ghost use Rattle.std.specs.Bool.{OnTrue, OnFalse};
+ghost use Rattle.std.specs.List.{slice_get};
 ghost use Rattle.search_graph.specs.Digraph.{IsArc};
 ghost use Rattle.cell_partition.specs.Partition.{level_at, number_of};
-ghost use Rattle.cell_frame.specs.Heights.{AreApart, IsHeight, AreHeights};
+ghost use Rattle.cell_frame.specs.Heights.{AreHighest, AreApart, IsHeight, AreHeights};
 
 use cell_partition::Cells;
 use search_graph::Graph;
@@ -50,6 +51,31 @@ pub fn heights_of(alloc: Global, graph: &Graph, cells: &Cells) -> Result<Vec<u8>
         heights.push(short(height(cells, tail, head)))?;
     }
     Ok(heights)
+}
+
+/// For each vertex the greatest height of an arc out of it, or 0 where there is none.
+pub fn highest_of(alloc: Global, graph: &Graph, heights: &[u8]) -> Result<Vec<u8>, AllocError>
+    requires { length heights.now ≡ length graph.now.arcs }
+    ensures { IfOk result (λ highest. AreHighest graph.now heights.now highest.items (length graph.now.arcs)) }
+{
+    let mut highest = vec![in alloc; 0u8; graph.vertices() as usize]?;
+    for arc in 0..graph.arcs() {
+        let (tail, _) = graph.arc(arc);
+        raise(&mut highest, tail, heights[arc as usize]);
+    }
+    Ok(highest)
+}
+
+// Raises what stands at a vertex to a height.
+fn raise(highest: &mut Vec<u8>, v: u32, height: u8)
+    requires { v < length highest.old.items }
+    ensures size { length highest.new.items ≡ length highest.old.items }
+    ensures here { IfSome (slice_get highest.new.items v) (λ most. height ≤ most) }
+    ensures rises { (u old new : ℕ) → slice_get highest.old.items u ≡ Some old → slice_get highest.new.items u ≡ Some new → old ≤ new }
+{
+    if highest[v as usize] < height {
+        highest[v as usize] = height;
+    }
 }
 
 /// Whether the ends of an arc lie in different cells of a level.

@@ -4,18 +4,19 @@ ghost use Rattle.std.specs.Prelude.{◌≡◌, ℕ, ◌<◌, ◌≤◌, length, 
 ghost use Rattle.std.specs.Bool.{OnTrue, OnFalse};
 ghost use Rattle.std.specs.List.{Contains, slice_get, list_any};
 ghost use Rattle.cell_partition.specs.Partition.{level_at, number_of};
-ghost use Rattle.cell_frame.specs.Borders.{IsFramed, IsCell, at_cell, cell_of};
-ghost use Rattle.search_graph.specs.Digraph.{IsArc};
+ghost use Rattle.cell_frame.specs.Borders.{Holds, IsFramed, IsCell, at_cell, cell_of};
+ghost use Rattle.search_graph.specs.Digraph.{IsArc, Leaves};
 ghost use Rattle.cell_frame.specs.Heights.{AreApart};
 ghost use Rattle.cell_frame.specs.Free.{has_terminal, free_level, part_at};
 
-use crate::borders::{Border, marks_in};
+use crate::borders::Border;
 use crate::building::borders;
 use crate::cells::{Cell, Part};
 use crate::crossing::{are_apart, heights_of};
 use crate::side::Side;
+use crate::spots::{Cut, Spots, spots_of};
 use cell_partition::Cells;
-use search_graph::Graph;
+use search_graph::{ArcRow, Graph};
 use std::alloc::{AllocError, Global};
 use std::marker::Model;
 
@@ -25,10 +26,10 @@ pub struct Frame {
     cells: Cells,
     entries: Vec<Border>,
     exits: Vec<Border>,
-    // whether each vertex may be an entry: one that isn't marked is none of any cell
-    entered: Vec<bool>,
     // for each arc the highest level at which its ends lie in different cells
     heights: Vec<u8>,
+    // what is known beforehand of each vertex
+    spots: Spots,
 }
 
 impl Drop for Frame {
@@ -38,8 +39,8 @@ impl Drop for Frame {
             cells: _cells,
             entries: _entries,
             exits: _exits,
-            entered: _entered,
             heights: _heights,
+            spots: _spots,
         } = self;
     }
 }
@@ -47,14 +48,14 @@ impl Drop for Frame {
 impl Model for Frame {
     ghost use Rattle.std.specs.Prelude.{length};
     ghost use Rattle.cell_frame.specs.Borders.{Framed, IsFramed};
-    ghost use Rattle.cell_frame.specs.Marks.{AreUnlisted};
+    ghost use Rattle.cell_frame.specs.Spots.{AreSpots};
     ghost use Rattle.cell_frame.specs.Heights.{AreHeights};
 
     ghost Value = { Framed };
 
     ghost view = { λ f. record { graph = f.graph; cells = f.cells; entries = f.entries.items; exits = f.exits.items } };
 
-    ghost invariant = { λ f. IsFramed (record { graph = f.graph; cells = f.cells; entries = f.entries.items; exits = f.exits.items }) × AreUnlisted f.entries.items (length f.entries.items) f.entered.items × AreHeights f.graph f.cells f.heights.items (length f.graph.arcs) };
+    ghost invariant = { λ f. IsFramed (record { graph = f.graph; cells = f.cells; entries = f.entries.items; exits = f.exits.items }) × AreHeights f.graph f.cells f.heights.items (length f.graph.arcs) × AreSpots f.graph f.cells f.entries.items f.spots f.graph.vertices };
 }
 
 impl Frame {
@@ -71,15 +72,20 @@ impl Frame {
         let graph = graph.copy()?;
         let entries = borders(alloc, &graph, &cells, Side::Entries)?;
         let exits = borders(alloc, &graph, &cells, Side::Exits)?;
-        let entered = marks_in(alloc, graph.vertices(), entries.as_slice())?;
         let heights = heights_of(alloc, &graph, &cells)?;
+        let cut = Cut {
+            graph: &graph,
+            cells: &cells,
+            entries: &entries,
+        };
+        let spots = spots_of(alloc, &cut, &heights)?;
         Ok(Frame {
             graph,
             cells,
             entries,
             exits,
-            entered,
             heights,
+            spots,
         })
     }
 
@@ -160,13 +166,60 @@ impl Frame {
         ensures none { IfNone result (¬ Contains (at_cell self.now.entries cell) v) }
     {
         self.known();
-        if is_unmarked(&self.entered, v) {
-            return None;
-        }
         match self.entries(cell).binary_search(&v) {
             Ok(i) => Some(i),
             Err(_) => None,
         }
+    }
+
+    /// The place of a vertex among the entries of its cell at a level.
+    #[inline(always)]
+    pub fn entry_at(&self, level: u32, v: u32) -> Option<usize>
+        requires above { 1 ≤ level }
+        requires below { level ≤ length self.now.cells.levels }
+        requires vertex { v < self.now.graph.vertices }
+        ensures some { IfSome result (λ i. slice_get (at_cell self.now.entries (cell_of self.now.cells level v)) i ≡ Some v) }
+        ensures none { IfNone result (¬ Contains (at_cell self.now.entries (cell_of self.now.cells level v)) v) }
+    {
+        self.spots.spot(v).place(&self.spots.words, level)
+    }
+
+    /// The arcs out of a vertex, of which some that stay in the cell of the vertex at a level may be left out.
+    #[inline(always)]
+    pub fn leaving(&self, level: u32, v: u32) -> ArcRow<'_>
+        requires above { 1 ≤ level }
+        requires below { level ≤ length self.now.cells.levels }
+        requires vertex { v < self.now.graph.vertices }
+        ensures out { (i : ℕ) → Contains result i → Leaves self.now.graph i v }
+        ensures all { (i w : ℕ) → IsArc self.now.graph i v w → AreApart self.now.cells level v w → Contains result i }
+    {
+        if self.spots.spot(v).is_low(&self.spots.words, level) {
+            return ArcRow::range(0, 0);
+        }
+        self.graph.out(v)
+    }
+
+    /// The number of the cell of a vertex at the lowest level.
+    #[inline(always)]
+    pub fn lowest(&self, v: u32) -> u32
+        requires some { 1 ≤ length self.now.cells.levels }
+        requires vertex { v < self.now.graph.vertices }
+        ensures { result ≡ number_of (level_at self.now.cells 1) v }
+    {
+        self.spots.spot(v).lowest
+    }
+
+    /// A vertex of a cell, if it holds any.
+    pub fn member(&self, cell: Cell) -> Option<u32>
+        requires { IsCell self.now.cells cell }
+        ensures some { IfSome result (Holds self.now.cells cell) }
+        ensures none { IfNone result ((v : ℕ) → ¬ Holds self.now.cells cell v) }
+    {
+        let members = self.cells.members(cell.level, cell.number);
+        if members.is_empty() {
+            return None;
+        }
+        Some(members[0])
     }
 
     /// The highest level at which the cell of a vertex holds no terminal, or 0 where there is none.
@@ -225,15 +278,4 @@ fn any_in(cells: &Cells, level: u32, number: u32, vertices: &[u32]) -> bool
         }
     }
     false
-}
-
-// Whether there is a mark for a vertex, which isn't set.
-#[inline(always)]
-fn is_unmarked(marks: &[bool], v: u32) -> bool
-    ensures { OnTrue result (slice_get marks.now v ≡ Some false) }
-{
-    match marks.get(v as usize) {
-        Some(mark) => !*mark,
-        None => false,
-    }
 }

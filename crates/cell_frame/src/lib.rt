@@ -18,6 +18,7 @@ mod marks;
 mod over;
 mod parts;
 mod side;
+mod spots;
 
 pub use borders::Border;
 pub use cells::{Cell, Part};

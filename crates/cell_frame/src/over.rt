@@ -142,12 +142,15 @@ impl<'a, C: Cost, P: Parts> Steps<C> for Over<'a, C, P> {
 
     fn row(&self, v: u32) -> (u32, u32) {
         self.frame.known();
-        self.parts.known(self.frame);
-        let level = self.parts.level(self.frame, v);
-        if level == 0 {
-            return (0, 0);
+        self.parts.name(self.frame, v)
+    }
+
+    fn arcs_named(&self, v: u32, row: (u32, u32)) -> ArcRow<'_> {
+        self.frame.known();
+        match self.part_named(v, row) {
+            None => self.frame.graph().out(v),
+            Some(part) => self.frame.leaving(part.level, v),
         }
-        (level, self.frame.cell(level, v).number)
     }
 
     #[inline(always)]
@@ -185,7 +188,7 @@ impl<'a, C: Cost, P: Parts> Steps<C> for Over<'a, C, P> {
         if !self.parts.within(self.frame, v) {
             return CostRow::empty();
         }
-        let Some(i) = self.frame.entry(part, v) else {
+        let Some(i) = self.frame.entry_at(part.level, v) else {
             return CostRow::empty();
         };
         self.cliques.row(self.frame, part, i)

@@ -5,6 +5,7 @@ ghost use Rattle.std.specs.Bool.{OnTrue, OnFalse};
 ghost use Rattle.std.specs.List.{Contains};
 ghost use Rattle.cell_frame.specs.Borders.{Framed, IsFramed, IsCell, Holds};
 ghost use Rattle.cell_frame.specs.Free.{free_level};
+ghost use Rattle.cell_frame.specs.PartSpace.{row_name};
 ghost use Rattle.cell_frame.specs.Parts.{AreParts, AreBordersBelow};
 
 use crate::cells::Cell;
@@ -33,6 +34,21 @@ pub trait Parts {
         requires ready { ready self.now frame.now }
         requires vertex { v < frame.now.graph.vertices }
         ensures { result ≡ level self.now frame.now v };
+
+    /// The name of the part that holds `v`: its level and its number there, or twice 0 where `v` is alone.
+    fn name(&self, frame: &Frame, v: u32) -> (u32, u32)
+        requires ready { ready self.now frame.now }
+        requires vertex { v < frame.now.graph.vertices }
+        ensures { result ≡ row_name frame.now (level self.now frame.now) v }
+    {
+        frame.known();
+        self.known(frame);
+        let level = self.level(frame, v);
+        if level == 0 {
+            return (0, 0);
+        }
+        (level, frame.cell(level, v).number)
+    }
 
     /// Tells a proof that they are parts. It does nothing.
     fn known(&self, frame: &Frame)

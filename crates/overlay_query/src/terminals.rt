@@ -2,7 +2,7 @@
 
 ghost use Rattle.std.specs.Prelude.{◌≡◌, ℕ, ◌<◌, ◌≤◌, All, length, IfOk, Some};
 ghost use Rattle.std.specs.List.{Contains, slice_get};
-ghost use Rattle.cell_frame.specs.Free.{has_terminal, free_level};
+ghost use Rattle.cell_frame.specs.Free.{free_level};
 ghost use Rattle.overlay_query.specs.TerminalCells.{AreMarksAt, AreTerminalCells};
 
 use cell_frame::{Frame, Parts, Terminals};
@@ -15,15 +15,15 @@ use std::marker::Model;
 pub struct TerminalCells {
     /// the terminals
     pub vertices: Vec<u32>,
-    /// whether each cell holds a terminal, by its number, level by level from the lowest
-    pub levels: Vec<CellMarks>,
+    /// the name of the part in which each cell of level 1 lies, by its number: twice 0 where its vertices are alone
+    pub names: Vec<(u32, u32)>,
 }
 
 impl Drop for TerminalCells {
     fn drop(self) {
         let TerminalCells {
             vertices: _vertices,
-            levels: _levels,
+            names: _names,
         } = self;
     }
 }
@@ -88,7 +88,8 @@ impl TerminalCells {
             let marks = marks_at(alloc, frame, below + 1, vertices.as_slice())?;
             levels.push(marks)?;
         }
-        Ok(TerminalCells { vertices, levels })
+        let names = names_of(alloc, frame, levels.as_slice())?;
+        Ok(TerminalCells { vertices, names })
     }
 
     /// Tells a proof that each terminal is alone. It does nothing.
@@ -101,16 +102,34 @@ impl TerminalCells {
         terminals.alone(frame);
     }
 
-    // Whether the cell of a vertex at a level holds a terminal.
-    fn has_terminal(&self, frame: &Frame, level: u32, v: u32) -> bool
-        requires ready { AreTerminalCells frame.now self.now.vertices.items self.now.levels.items }
-        requires above { 1 ≤ level }
-        requires below { level ≤ length frame.now.cells.levels }
-        requires vertex { v < frame.now.graph.vertices }
-        ensures { result ≡ has_terminal frame.now.cells self.now.vertices.items level v }
-    {
-        self.levels[level as usize - 1].get(frame.cell(level, v).number)
+}
+
+// The names of the parts in which the cells of level 1 lie.
+fn names_of(alloc: Global, frame: &Frame, levels: &[CellMarks]) -> Result<Vec<(u32, u32)>, AllocError> {
+    if levels.is_empty() {
+        return Ok(Vec::new(alloc));
     }
+    let mut names = Vec::with_capacity(alloc, frame.count(1) as usize)?;
+    for number in 0..frame.count(1) {
+        names.push(name_of(frame, levels, number))?;
+    }
+    Ok(names)
+}
+
+// The name of the part in which a cell of level 1 lies.
+fn name_of(frame: &Frame, levels: &[CellMarks], number: u32) -> (u32, u32) {
+    let Some(v) = frame.member(number) else {
+        return (0, 0);
+    };
+    let mut level = frame.levels();
+    while level > 0 {
+        let cell = frame.cell(level, v);
+        if !levels[level as usize - 1].get(cell.number) {
+            return (level, cell.number);
+        }
+        level -= 1;
+    }
+    (0, 0)
 }
 
 impl Parts for TerminalCells {
@@ -130,14 +149,15 @@ impl Parts for TerminalCells {
     }
 
     fn level(&self, frame: &Frame, v: u32) -> u32 {
-        let mut level = frame.levels();
-        while level > 0 {
-            if !self.has_terminal(frame, level, v) {
-                return level;
-            }
-            level -= 1;
+        self.name(frame, v).0
+    }
+
+    #[inline(always)]
+    fn name(&self, frame: &Frame, v: u32) -> (u32, u32) {
+        if self.names.is_empty() {
+            return (0, 0);
         }
-        0
+        self.names[frame.lowest(v) as usize]
     }
 
     fn known(&self, frame: &Frame) {

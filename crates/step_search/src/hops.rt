@@ -71,6 +71,19 @@ pub trait Steps<C: Narrow> {
         ensures name { result ≡ (space self.now).row v }
         ensures same { (u : ℕ) → (space self.now).row u ≡ (space self.now).row v → (space self.now).heads u ≡ (space self.now).heads v };
 
+    /// The names of the arcs out of `v`, as `arcs` gives them, to one who knows the name of its row. Arcs along which no
+    /// way is open may be left out.
+    fn arcs_named(&self, v: u32, row: (u32, u32)) -> ArcRow<'_>
+        requires ready { ready self.now }
+        requires vertex { v < (space self.now).vertices }
+        requires row { row ≡ (space self.now).row v }
+        ensures named { (i : ℕ) → Contains result i → (space self.now).Name v i }
+        ensures all { (i w : ℕ) (s : C) → (space self.now).Arc v i w s → Contains result i }
+    {
+        let _ = row;
+        self.arcs(v)
+    }
+
     /// The hop out of `v` by its arc `i`, as `by_arc` gives it, to one who knows the name of its row.
     fn by_arc_named(&self, v: u32, row: (u32, u32), i: u32) -> Option<Hop<C>>
         requires ready { ready self.now }

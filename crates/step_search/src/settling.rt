@@ -137,7 +137,7 @@ impl<C: Cost> Search<C> {
         ensures found { OnOk result ((i w : ℕ) (s : _) → (T.space steps.now).Arc node.vertex i w s → LabelWithin C.ops (label_of self.new.labels) w (C.ops.plus node.cost s)) }
         ensures rows { OnOk result (self.new.rows ≡ self.old.rows) }
     {
-        let arcs = steps.arcs(node.vertex);
+        let arcs = steps.arcs_named(node.vertex, row);
         for place in 0..arcs.len() {
             let hop = steps.by_arc_named(node.vertex, row, arcs.get(place));
             self.relax(steps, at, node, hop)?;

@@ -41,6 +41,6 @@ returns-clause-falls g c = c.loop-place.invariant.falls
 
 pub returns-clause-found : goal.returns-clause-found
 returns-clause-found g c i w s h =
-    let k = get_Contains c.arcs-arcs.result i (c.arcs-arcs.ensures.all i w s h) in
-    let lt : k.0 < length c.arcs-arcs.result = slice_get_within c.arcs-arcs.result k.0 i k.1 in
+    let k = get_Contains c.arcs_named-arcs.result i (c.arcs_named-arcs.ensures.all i w s h) in
+    let lt : k.0 < length c.arcs_named-arcs.result = slice_get_within c.arcs_named-arcs.result k.0 i k.1 in
     c.loop-place.invariant.found k.0 (omega arith) i w s k.1 h
