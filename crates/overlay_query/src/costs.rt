@@ -27,7 +27,7 @@ fn cost_to<C: Cost>(
     target: Target<C>,
 ) -> Result<Option<C>, AllocError>
     requires query { IsQuery C.ops over.now.frame.now over.now.weights.now over.now.cliques.now over.now.parts.now.vertices.items starts.now }
-    requires cells { AreTerminalCells over.now.frame.now over.now.parts.now.vertices.items over.now.parts.now.levels.items }
+    requires cells { AreTerminalCells over.now.frame.now over.now.parts.now.vertices.items over.now.parts.now.names.items }
     requires target { IsAsked C.ops over.now.frame.now over.now.parts.now.vertices.items target }
     requires under_way { IsUnderWay C.ops (query_space C.ops over.now.frame.now over.now.weights.now over.now.parts.now.vertices.items) starts.now search.old }
     ensures under_way { OnOk result (IsUnderWay C.ops (query_space C.ops over.now.frame.now over.now.weights.now over.now.parts.now.vertices.items) starts.now search.new) }
@@ -49,7 +49,7 @@ fn costs_over<C: Cost>(
     search: &mut Search<C>,
 ) -> Result<Vec<Option<C>>, AllocError>
     requires query { IsQuery C.ops over.now.frame.now over.now.weights.now over.now.cliques.now over.now.parts.now.vertices.items starts.now }
-    requires cells { AreTerminalCells over.now.frame.now over.now.parts.now.vertices.items over.now.parts.now.levels.items }
+    requires cells { AreTerminalCells over.now.frame.now over.now.parts.now.vertices.items over.now.parts.now.names.items }
     requires targets { (t : Target C) → Contains targets.now t → IsAsked C.ops over.now.frame.now over.now.parts.now.vertices.items t }
     ensures one_each { IfOk result (λ costs. length costs.items ≡ length targets.now) }
     ensures least { IfOk result (λ costs. (k : ℕ) (t : Target C) (cost : _) → slice_get targets.now k ≡ Some t → slice_get costs.items k ≡ Some cost → IsLeastCost C.ops over.now.frame.now over.now.weights.now starts.now t cost) }

@@ -18,6 +18,7 @@ mod hops;
 mod nearest;
 mod packed;
 mod query;
+mod terminal_marks;
 mod terminals;
 
 pub use costs::least_costs;

@@ -39,7 +39,7 @@ fn reaches<C: Cost>(
     target: Target<C>,
 ) -> Result<bool, AllocError>
     requires query { IsQuery C.ops over.now.frame.now over.now.weights.now over.now.cliques.now over.now.parts.now.vertices.items starts.now }
-    requires cells { AreTerminalCells over.now.frame.now over.now.parts.now.vertices.items over.now.parts.now.levels.items }
+    requires cells { AreTerminalCells over.now.frame.now over.now.parts.now.vertices.items over.now.parts.now.names.items }
     requires target { IsAsked C.ops over.now.frame.now over.now.parts.now.vertices.items target }
     requires best { IfSome best (IsPriced C.ops over.now.frame.now over.now.weights.now over.now.parts.now.vertices.items starts.now) }
     requires under_way { IsUnderWay C.ops (query_space C.ops over.now.frame.now over.now.weights.now over.now.parts.now.vertices.items) starts.now search.old }
@@ -70,7 +70,7 @@ fn cheaper<C: Cost>(
     target: Target<C>,
 ) -> Result<Option<Priced<C>>, AllocError>
     requires query { IsQuery C.ops over.now.frame.now over.now.weights.now over.now.cliques.now over.now.parts.now.vertices.items starts.now }
-    requires cells { AreTerminalCells over.now.frame.now over.now.parts.now.vertices.items over.now.parts.now.levels.items }
+    requires cells { AreTerminalCells over.now.frame.now over.now.parts.now.vertices.items over.now.parts.now.names.items }
     requires target { IsAsked C.ops over.now.frame.now over.now.parts.now.vertices.items target }
     requires best { IfSome best (IsPriced C.ops over.now.frame.now over.now.weights.now over.now.parts.now.vertices.items starts.now) }
     requires under_way { IsUnderWay C.ops (query_space C.ops over.now.frame.now over.now.weights.now over.now.parts.now.vertices.items) starts.now search.old }
@@ -114,7 +114,7 @@ fn first_reached<C: Cost>(
     targets: &[Target<C>],
 ) -> Result<Option<Priced<C>>, AllocError>
     requires query { IsQuery C.ops over.now.frame.now over.now.weights.now over.now.cliques.now over.now.parts.now.vertices.items starts.now }
-    requires cells { AreTerminalCells over.now.frame.now over.now.parts.now.vertices.items over.now.parts.now.levels.items }
+    requires cells { AreTerminalCells over.now.frame.now over.now.parts.now.vertices.items over.now.parts.now.names.items }
     requires targets { (t : Target C) → Contains targets.now t → IsAsked C.ops over.now.frame.now over.now.parts.now.vertices.items t }
     requires under_way { IsUnderWay C.ops (query_space C.ops over.now.frame.now over.now.weights.now over.now.parts.now.vertices.items) starts.now search.old }
     ensures under_way { OnOk result (IsUnderWay C.ops (query_space C.ops over.now.frame.now over.now.weights.now over.now.parts.now.vertices.items) starts.now search.new) }
@@ -146,7 +146,7 @@ fn cheapest_over<C: Cost>(
     search: &mut Search<C>,
 ) -> Result<Option<PackedFound<C>>, AllocError>
     requires query { IsQuery C.ops over.now.frame.now over.now.weights.now over.now.cliques.now over.now.parts.now.vertices.items starts.now }
-    requires cells { AreTerminalCells over.now.frame.now over.now.parts.now.vertices.items over.now.parts.now.levels.items }
+    requires cells { AreTerminalCells over.now.frame.now over.now.parts.now.vertices.items over.now.parts.now.names.items }
     requires targets { (t : Target C) → Contains targets.now t → IsAsked C.ops over.now.frame.now over.now.parts.now.vertices.items t }
     ensures { IfOk result (IsPackedCheapest C.ops over.now.frame.now over.now.weights.now over.now.parts.now.vertices.items starts.now targets.now) }
 {

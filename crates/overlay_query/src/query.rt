@@ -61,7 +61,7 @@ pub(crate) fn find<C: Cost>(
     target: Target<C>,
 ) -> Result<Option<PackedFound<C>>, AllocError>
     requires query { IsQuery C.ops over.now.frame.now over.now.weights.now over.now.cliques.now over.now.parts.now.vertices.items starts.now }
-    requires cells { AreTerminalCells over.now.frame.now over.now.parts.now.vertices.items over.now.parts.now.levels.items }
+    requires cells { AreTerminalCells over.now.frame.now over.now.parts.now.vertices.items over.now.parts.now.names.items }
     requires target { IsAsked C.ops over.now.frame.now over.now.parts.now.vertices.items target }
     requires under_way { IsUnderWay C.ops (query_space C.ops over.now.frame.now over.now.weights.now over.now.parts.now.vertices.items) starts.now search.old }
     ensures under_way { OnOk result (IsUnderWay C.ops (query_space C.ops over.now.frame.now over.now.weights.now over.now.parts.now.vertices.items) starts.now search.new) }
@@ -90,7 +90,7 @@ fn least_over<C: Cost>(
     targets: &[Target<C>],
 ) -> Result<Vec<Option<PackedFound<C>>>, AllocError>
     requires query { IsQuery C.ops over.now.frame.now over.now.weights.now over.now.cliques.now over.now.parts.now.vertices.items starts.now }
-    requires cells { AreTerminalCells over.now.frame.now over.now.parts.now.vertices.items over.now.parts.now.levels.items }
+    requires cells { AreTerminalCells over.now.frame.now over.now.parts.now.vertices.items over.now.parts.now.names.items }
     requires targets { (t : Target C) → Contains targets.now t → IsAsked C.ops over.now.frame.now over.now.parts.now.vertices.items t }
     ensures one_each { IfOk result (λ found. length found.items ≡ length targets.now) }
     ensures least { IfOk result (λ found. (k : ℕ) (t : Target C) (answer : _) → slice_get targets.now k ≡ Some t → slice_get found.items k ≡ Some answer → IsPackedFound C.ops over.now.frame.now over.now.weights.now over.now.parts.now.vertices.items starts.now t answer) }

@@ -1,21 +1,23 @@
-//! The parts of a query, with the cells of its terminals looked up beforehand.
+//! The parts of a query, with the part of each cell of the lowest level looked up beforehand.
 
-ghost use Rattle.std.specs.Prelude.{◌≡◌, ℕ, ◌<◌, ◌≤◌, All, length, IfOk, Some};
-ghost use Rattle.std.specs.List.{Contains, slice_get};
+ghost use Rattle.std.specs.Prelude.{◌≡◌, ℕ, ◌<◌, ◌≤◌, All, length, IfOk};
+ghost use Rattle.std.specs.List.{Contains};
+ghost use Rattle.cell_partition.specs.Partition.{level_at, number_of};
 ghost use Rattle.cell_frame.specs.Free.{free_level};
-ghost use Rattle.overlay_query.specs.TerminalCells.{AreMarksAt, AreTerminalCells};
+ghost use Rattle.cell_frame.specs.PartSpace.{row_name};
+ghost use Rattle.overlay_query.specs.TerminalCells.{AreTerminalCells, AreTerminalMarks};
 
-use cell_frame::{Frame, Parts, Terminals};
+use crate::terminal_marks::TerminalMarks;
+use cell_frame::{Cell, Frame, Parts, Terminals};
 use std::alloc::{AllocError, Global};
-use std::marker::Model;
 
 /// The parts of a query, as `cell_frame::Terminals` has them: at each vertex its highest cell that holds no terminal, or
-/// else the vertex alone. A search asks for them at each vertex and arc that it meets, so the cells that hold a terminal
-/// are marked once, before it begins: a byte for each cell.
+/// else the vertex alone. A search asks for the part of each vertex that it settles, and all vertices of a cell of the lowest
+/// level are in one part, so the parts of these cells are named once, before it begins: eight bytes for each.
 pub struct TerminalCells {
     /// the terminals
     pub vertices: Vec<u32>,
-    /// the name of the part in which each cell of level 1 lies, by its number: twice 0 where its vertices are alone
+    /// the name of the part in which each cell of the lowest level lies, by its number
     pub names: Vec<(u32, u32)>,
 }
 
@@ -28,52 +30,48 @@ impl Drop for TerminalCells {
     }
 }
 
-/// Whether each cell of a level holds a terminal. Contracts see the list, by the cells' numbers.
-pub struct CellMarks {
-    marks: Vec<bool>,
+// The name of the part in which a cell of the lowest level lies.
+fn name_of(frame: &Frame, marks: &TerminalMarks, number: u32) -> (u32, u32)
+    requires ready { AreTerminalMarks frame.now marks.now.vertices.now marks.now.levels.items }
+    requires some { 1 ≤ length frame.now.cells.levels }
+    requires number { number < length (level_at frame.now.cells 1) }
+    ensures { (v : ℕ) → v < frame.now.graph.vertices → number_of (level_at frame.now.cells 1) v ≡ number → result ≡ row_name frame.now (free_level frame.now.cells marks.now.vertices.now) v }
+{
+    frame.known();
+    let Some(v) = frame.member(Cell { level: 1, number }) else {
+        return (0, 0);
+    };
+    marks.name(frame, v)
 }
 
-impl Drop for CellMarks {
-    fn drop(self) {
-        let CellMarks { marks: _marks } = self;
-    }
-}
-
-impl Model for CellMarks {
-    ghost use Rattle.std.specs.Prelude.{List, Bool};
-
-    ghost Value = { List Bool };
-
-    ghost view = { λ m. m.marks.items };
-}
-
-impl CellMarks {
-    // Whether the cell of this number holds a terminal.
-    fn get(&self, number: u32) -> bool
-        requires { number < length self.now }
-        ensures { slice_get self.now number ≡ Some result }
-    {
-        self.marks[number as usize]
-    }
-}
-
-// Whether each cell of a level holds one of the vertices.
-fn marks_at(
+// The names of the parts in which the cells of the lowest level lie.
+fn names_of(
     alloc: Global,
     frame: &Frame,
-    level: u32,
-    vertices: &[u32],
-) -> Result<CellMarks, AllocError>
-    requires above { 1 ≤ level }
-    requires below { level ≤ length frame.now.cells.levels }
-    requires inside { All (λ t. t < frame.now.graph.vertices) vertices.now }
-    ensures { IfOk result (AreMarksAt frame.now.cells vertices.now level) }
+    marks: &TerminalMarks,
+) -> Result<Vec<(u32, u32)>, AllocError>
+    requires { AreTerminalMarks frame.now marks.now.vertices.now marks.now.levels.items }
+    ensures { IfOk result (λ names. AreTerminalCells frame.now marks.now.vertices.now names.items) }
 {
-    let mut marks = vec![in alloc; false; frame.count(level) as usize]?;
-    for vertex in vertices {
-        marks[frame.cell(level, *vertex).number as usize] = true;
+    frame.known();
+    if frame.levels() == 0 {
+        return Ok(Vec::new(alloc));
     }
-    Ok(CellMarks { marks })
+    let count = frame.count(1);
+    let mut names = Vec::with_capacity(alloc, count as usize)?;
+    for number in 0..count {
+        names.push(name_of(frame, marks, number))?;
+    }
+    Ok(names)
+}
+
+// The same of these terminals.
+fn names_by(alloc: Global, frame: &Frame, vertices: &[u32]) -> Result<Vec<(u32, u32)>, AllocError>
+    requires { All (λ t. t < frame.now.graph.vertices) vertices.now }
+    ensures { IfOk result (λ names. AreTerminalCells frame.now vertices.now names.items) }
+{
+    let marks = TerminalMarks::of(alloc, frame, vertices)?;
+    names_of(alloc, frame, &marks)
 }
 
 impl TerminalCells {
@@ -81,14 +79,9 @@ impl TerminalCells {
     pub fn of(alloc: Global, frame: &Frame, vertices: Vec<u32>) -> Result<TerminalCells, AllocError>
         requires { All (λ t. t < frame.now.graph.vertices) vertices.items }
         ensures vertices { IfOk result (λ parts. parts.vertices.items ≡ vertices.items) }
-        ensures cells { IfOk result (λ parts. AreTerminalCells frame.now vertices.items parts.levels.items) }
+        ensures cells { IfOk result (λ parts. AreTerminalCells frame.now vertices.items parts.names.items) }
     {
-        let mut levels = Vec::with_capacity(alloc, frame.levels() as usize)?;
-        for below in 0..frame.levels() {
-            let marks = marks_at(alloc, frame, below + 1, vertices.as_slice())?;
-            levels.push(marks)?;
-        }
-        let names = names_of(alloc, frame, levels.as_slice())?;
+        let names = names_by(alloc, frame, &vertices)?;
         Ok(TerminalCells { vertices, names })
     }
 
@@ -101,35 +94,6 @@ impl TerminalCells {
         };
         terminals.alone(frame);
     }
-
-}
-
-// The names of the parts in which the cells of level 1 lie.
-fn names_of(alloc: Global, frame: &Frame, levels: &[CellMarks]) -> Result<Vec<(u32, u32)>, AllocError> {
-    if levels.is_empty() {
-        return Ok(Vec::new(alloc));
-    }
-    let mut names = Vec::with_capacity(alloc, frame.count(1) as usize)?;
-    for number in 0..frame.count(1) {
-        names.push(name_of(frame, levels, number))?;
-    }
-    Ok(names)
-}
-
-// The name of the part in which a cell of level 1 lies.
-fn name_of(frame: &Frame, levels: &[CellMarks], number: u32) -> (u32, u32) {
-    let Some(v) = frame.member(number) else {
-        return (0, 0);
-    };
-    let mut level = frame.levels();
-    while level > 0 {
-        let cell = frame.cell(level, v);
-        if !levels[level as usize - 1].get(cell.number) {
-            return (level, cell.number);
-        }
-        level -= 1;
-    }
-    (0, 0)
 }
 
 impl Parts for TerminalCells {
@@ -139,7 +103,7 @@ impl Parts for TerminalCells {
 
     ghost top = { λ s f. length f.cells.levels };
 
-    ghost ready = { λ s f. AreTerminalCells f s.vertices.items s.levels.items };
+    ghost ready = { λ s f. AreTerminalCells f s.vertices.items s.names.items };
 
     fn within(&self, frame: &Frame, v: u32) -> bool {
         let _ = &self.vertices;

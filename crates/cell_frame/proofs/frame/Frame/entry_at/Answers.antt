@@ -1,5 +1,5 @@
 -- What is known of a vertex tells its place.
-use Rattle.std.proofs.Common.{ℕ, ◌≤◌, length, IfSome, IfNone, Some, ◌≡◌, subst, sym}
+use Rattle.std.proofs.Common.{◌≤◌, length, IfSome, IfNone, Some, ◌≡◌, subst, sym}
 use Rattle.std.specs.List.{Contains, slice_get}
 use Rattle.cell_frame.specs.Borders.{Framed, at_cell, cell_of}
 use Rattle.cell_frame.proofs.Known.{place_none, place_some, place_there}

@@ -1,6 +1,6 @@
 -- Where no arc leaves the cell none is given, else all.
-use Rattle.std.proofs.Common.{ℕ, ◌≤◌, length, subst, sym}
-use Rattle.search_graph.specs.Digraph.{Digraph, IsArc, Leaves}
+use Rattle.std.proofs.Common.{◌≤◌, length, subst, sym}
+use Rattle.search_graph.specs.Digraph.{IsArc, Leaves}
 use Rattle.cell_frame.specs.Borders.{Framed}
 use Rattle.cell_frame.specs.Heights.{AreApart}
 use Rattle.cell_frame.proofs.Known.{highest_there, none_leaves}

@@ -1,5 +1,5 @@
 -- It is known of a vertex beforehand.
-use Rattle.std.proofs.Common.{ℕ, ◌≤◌, ◌≡◌, length, subst, sym}
+use Rattle.std.proofs.Common.{◌≤◌, ◌≡◌, length, subst, sym}
 use Rattle.cell_partition.specs.Partition.{level_at, number_of}
 use Rattle.cell_frame.specs.Borders.{Framed}
 use Rattle.cell_frame.proofs.frame.Frame.lowest.Goals as goal

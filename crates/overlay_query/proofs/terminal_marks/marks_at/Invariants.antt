@@ -1,6 +1,6 @@
 use Rattle.std.proofs.Common.{take}
 use Rattle.overlay_query.specs.TerminalCells.{AreMarksAt}
-use Rattle.overlay_query.proofs.terminals.marks_at.Given as goal
+use Rattle.overlay_query.proofs.terminal_marks.marks_at.Given as goal
 
 -- the cells of the vertices so far are marked
 abbrev pub invariant-loop-vertex : goal.invariant-loop-vertex

@@ -4,7 +4,7 @@ use Rattle.std.proofs.lemmas.Option.{slice_get-get_or}
 use Rattle.cell_partition.specs.Partition.{level_at}
 use Rattle.cell_frame.specs.declared.cells.Cell.{Cell}
 use Rattle.overlay_query.proofs.Marks.{AreMarksAt-none, AreMarksAt-more, AreMarksAt-all}
-use Rattle.overlay_query.proofs.terminals.marks_at.Goals as goal
+use Rattle.overlay_query.proofs.terminal_marks.marks_at.Goals as goal
 
 pub loop-vertex-init : goal.loop-vertex-init
 loop-vertex-init c = AreMarksAt-none c.args.frame.now.cells c.args.level _ c.in_ok-marks.marks.items (c.in_ok-marks.ensures.items_if_clones_equal (λ y e. e)) c.count.ensures
