@@ -7,11 +7,12 @@ A line of TRAFFIC makes the costs of the settings and its rows, and customizes t
 metric before. So a file with a row for each segment of the map, both ways, and then none, customizes every cell each
 time, and one whose rows have a rate each does so with costs whose weight is neither their duration nor their length; a
 file of a thousand drawn rows and then none only those that the rows touch. Both take the reading of rows and
-the making of the costs in; a line without a change, which is asked for between, takes that alone but for the rows.
+the making of the costs in. The same file once more changes nothing, so it takes that alone; what it took less is told
+too, as the customization by itself.
 
 The program makes a thread for each processor that it may run on, so it is held to as many as are named. Told are, for
-each kind of line, the processor seconds of all threads and the time by the clock, the least of the repeats; the latter
-means something only where as many processors are free.
+each kind of line, the processor seconds of all threads and the time by the clock, the least of the repeats, and the
+same of the customization by itself; times by the clock mean something only where as many processors are free.
 
 The baseline of overlays (overlays/, or the program that OVERLAYS names: segments, turns, costs of two words, cells,
 cliques, in Rust without proofs) is run on each map in between, and its lines that tell of customization or of memory
@@ -54,6 +55,13 @@ def write_rows(name, pairs, rate=""):
     return name
 
 
+def taken(session, line):
+    """What a line takes, of all processors and by the clock; its reply, and the memory."""
+    began = time.monotonic()
+    reply, (_, every), memory = session.line(line)
+    return every, time.monotonic() - began, memory, reply
+
+
 def measure(program, opl, settings, processors, repeats, files):
     os.sched_setaffinity(0, PROCESSORS[:processors])
     began = time.monotonic()
@@ -62,16 +70,15 @@ def measure(program, opl, settings, processors, repeats, files):
     print(f"  {processors} processors: start {start:.3f} s of processors, {by_clock:.3f} s by the clock, "
           f"peak {peak:.1f} MB")
     for kind, line in [("no change", "TRAFFIC - -"), *((kind, f"TRAFFIC {name} -") for kind, name in files)]:
-        told = []
+        told, again = [], []
         for _ in range(repeats):
             session.line("TRAFFIC - -")
-            began = time.monotonic()
-            reply, (_, every), memory = session.line(line)
-            told.append((every, time.monotonic() - began, memory))
-        least = [min(it[which] for it in told) for which in (0, 1)]
+            told.append(taken(session, line))
+            again.append(taken(session, line))
+        least, less = ([min(it[which] for it in turns) for which in (0, 1)] for turns in (told, again))
         held = ", ".join("%.1f %.1f %.1f" % it[2] for it in told[:2])
-        print(f"    {kind}: {least[0]:.4f} s of processors, {least[1]:.4f} s by the clock; "
-              f"held before, at the peak, after: {held} MB; {reply[-40:]}")
+        print(f"    {kind}: {least[0]:.4f} s of processors, {least[1]:.4f} s by the clock; customization by itself "
+              f"{least[0] - less[0]:.4f} s, {least[1] - less[1]:.4f} s; held before, at the peak, after: {held} MB; {told[0][3][-40:]}")
     session.end()
 
 
