@@ -5,12 +5,10 @@ use Rattle.std.specs.List.Sorted.{IsStrictlyIncreasing}
 use Rattle.std.specs.Prelude.{slice_index}
 use Rattle.std.proofs.lemmas.List.{length-take-le}
 use Rattle.std.proofs.lemmas.Option.{same_Some, slice_get_within, slice_get-get_or}
-use Rattle.list_lemmas.proofs.Gets.{Contains_get, get_append, get_push, get_some}
+use Rattle.list_lemmas.proofs.Gets.{get_append, get_push, get_some}
 use Rattle.search_graph.specs.Digraph.{Digraph, IsArc}
-use Rattle.cell_partition.specs.Partition.{IsKept, Partition, level_at, number_of}
-use Rattle.cell_partition.specs.Bounds.{cell_at}
-use Rattle.cell_frame.specs.declared.cells.Cell.{Cell}
-use Rattle.cell_frame.specs.Borders.{HasList, Holds, IsCell, Listed, at_cell, cell_of, list_at, list_of}
+use Rattle.cell_partition.specs.Partition.{Partition, level_at, number_of}
+use Rattle.cell_frame.specs.Borders.{HasList, Listed, at_cell, cell_of, list_at, list_of}
 use Rattle.cell_frame.specs.Bordering.{IsBorder}
 use Rattle.cell_frame.specs.declared.side.Side.TheVariants.{Entries}
 use Rattle.cell_frame.specs.Heights.{AreApart, AreHeights, AreHighest, IsHeight}
@@ -189,14 +187,3 @@ module _ (g : Digraph) (p : Partition) (entries : List Listed) (words : List ℕ
         let same : t.highest ≡ b.1 = same_Some t.highest b.1 (sym t.first ∙ b.2) in
         t.left i w level arc (omega (arith, same, b.3)) (omega (arith, same, b.4)) high
   ]
-
--- the members of a cell are what it holds
-module _ (p : Partition) (kept : IsKept p) (k : Cell) (is : IsCell p k) (vs : List ℕ) (are : vs ≡ cell_at (level_at p k.level) k.number) where
-  pub member_some : (x : ℕ) → slice_get vs 0 ≡ Some x → Holds p k x
-  member_some x e = (kept.level k.level is.0 is.1).only x k.number (subst (λ (xs : List ℕ). Contains xs x) are (Contains_get vs 0 x e))
-
-  pub member_none : length vs ≡ 0 → (v : ℕ) → ¬ Holds p k v
-  member_none empty v h =
-      let there : Contains (cell_at (level_at p k.level) (number_of (level_at p k.level) v)) v = (kept.level k.level is.0 is.1).member v h.0 in
-      let at : Contains vs v = subst (λ (xs : List ℕ). Contains xs v) (ap (cell_at (level_at p k.level)) h.1 ∙ sym are) there in
-      omega (arith, at.1, empty)

@@ -4,7 +4,7 @@ ghost use Rattle.std.specs.Prelude.{◌≡◌, ℕ, ◌<◌, ◌≤◌, length, 
 ghost use Rattle.std.specs.Bool.{OnTrue, OnFalse};
 ghost use Rattle.std.specs.List.{Contains, slice_get, list_any};
 ghost use Rattle.cell_partition.specs.Partition.{level_at, number_of};
-ghost use Rattle.cell_frame.specs.Borders.{Holds, IsFramed, IsCell, at_cell, cell_of};
+ghost use Rattle.cell_frame.specs.Borders.{IsFramed, IsCell, at_cell, cell_of};
 ghost use Rattle.search_graph.specs.Digraph.{IsArc, Leaves};
 ghost use Rattle.cell_frame.specs.Heights.{AreApart};
 ghost use Rattle.cell_frame.specs.Free.{has_terminal, free_level, part_at};
@@ -209,17 +209,15 @@ impl Frame {
         self.spots.spot(v).lowest
     }
 
-    /// A vertex of a cell, if it holds any.
-    pub fn member(&self, cell: Cell) -> Option<u32>
-        requires { IsCell self.now.cells cell }
-        ensures some { IfSome result (Holds self.now.cells cell) }
-        ensures none { IfNone result ((v : ℕ) → ¬ Holds self.now.cells cell v) }
+    /// The number of the cell of a level that holds all vertices of a cell of the lowest level.
+    pub fn above(&self, level: u32, lowest: u32) -> u32
+        requires above { 1 ≤ level }
+        requires below { level ≤ length self.now.cells.levels }
+        requires inside { lowest < length (level_at self.now.cells 1) }
+        ensures { (v : ℕ) → v < self.now.graph.vertices → number_of (level_at self.now.cells 1) v ≡ lowest → result ≡ number_of (level_at self.now.cells level) v }
     {
-        let members = self.cells.members(cell.level, cell.number);
-        if members.is_empty() {
-            return None;
-        }
-        Some(members[0])
+        self.known();
+        self.cells.above(level, lowest)
     }
 
     /// The highest level at which the cell of a vertex holds no terminal, or 0 where there is none.

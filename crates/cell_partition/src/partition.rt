@@ -1,5 +1,5 @@
 //! The cells of all levels.
-ghost use Rattle.std.specs.Prelude.{◌≡◌, ◌<◌, ◌≤◌, length, All, IfOk};
+ghost use Rattle.std.specs.Prelude.{ℕ, ◌≡◌, ◌<◌, ◌≤◌, length, All, IfOk};
 ghost use Rattle.cell_partition.specs.Bounds.{cell_at};
 ghost use Rattle.cell_partition.specs.Partition.{Partition, level_at, number_of, IsKept};
 
@@ -106,6 +106,19 @@ impl Cells {
         ensures kept { IsKept self.now }
     {
         let lowest = self.tables.lowest[vertex as usize];
+        if level == 1 {
+            return lowest;
+        }
+        self.tables.above[level as usize - 2][lowest as usize]
+    }
+
+    /// The cell of a level that holds a cell of the lowest level: that of all of its vertices.
+    pub fn above(&self, level: u32, lowest: u32) -> u32
+        requires above { 1 ≤ level }
+        requires below { level ≤ length self.now.levels }
+        requires inside { lowest < length (level_at self.now 1) }
+        ensures { (v : ℕ) → v < self.now.vertices → number_of (level_at self.now 1) v ≡ lowest → result ≡ number_of (level_at self.now level) v }
+    {
         if level == 1 {
             return lowest;
         }

@@ -1,13 +1,14 @@
 -- Marks of the cells that hold a terminal: one terminal more, and one level more.
-use Rattle.std.proofs.Common.{◌≡◌, ◌≢◌, ℕ, zero, suc, ◌+◌, ◌<◌, ◌≤◌, inl, inr, Bool, true, false, nat_eq, List, [], ◌∷◌, ◌++◌, take, length, Some, arith, refl, sym, ◌∙◌, ap, subst}
+use Rattle.std.proofs.Common.{◌≡◌, ◌≢◌, ℕ, zero, suc, ◌+◌, ◌-◌, ◌<◌, ◌≤◌, inl, inr, Bool, true, false, nat_eq, List, [], ◌∷◌, ◌++◌, take, length, Some, arith, refl, sym, ◌∙◌, ap, subst}
 use Rattle.std.specs.List.{slice_get, list_any}
 use Rattle.std.proofs.Math.ListN.{set, length-set, replicate}
 use Rattle.std.proofs.lemmas.Bool.Decides.{eqb_tells}
 use Rattle.std.proofs.lemmas.List.{length-replicate}
 use Rattle.std.proofs.lemmas.Option.{same_Some, slice_get_within}
 use Rattle.list_lemmas.proofs.Fronts.{take-get}
-use Rattle.list_lemmas.proofs.Gets.{get_push, get_set}
-use Rattle.cell_partition.specs.Partition.{Partition, level_at, number_of}
+use Rattle.list_lemmas.proofs.Gets.{get_push, get_set, get_some}
+use Rattle.cell_partition.specs.Partition.{IsKept, Partition, level_at, number_of}
+use Rattle.cell_frame.specs.Free.{has_terminal}
 use Rattle.overlay_query.specs.TerminalCells.{AreMarksAt, AreMarksUpTo}
 
 by_truth : {G : Type 0} (b : Bool) → (b ≡ true → G) → (b ≡ false → G) → G
@@ -75,3 +76,13 @@ AreMarksUpTo-push p terminals levels m marks before new size = record {
     | inr g ↦ subst (λ (xs : List Bool). AreMarksAt p terminals (k + 1) xs) (sym g.1) (subst (λ (n : ℕ). AreMarksAt p terminals (n + 1) marks) (sym (g.0 ∙ before.size)) new)
   ];
 }
+
+-- the mark of a vertex's cell tells whether that holds a terminal
+pub mark_tells : (p : Partition) (terminals : List ℕ) (levels : List (List Bool)) (level n v : ℕ) (marks : List Bool) (told : Bool) → IsKept p → AreMarksUpTo p terminals levels (length p.levels) → 1 ≤ level → level ≤ length p.levels → v < p.vertices →
+    n ≡ number_of (level_at p level) v → slice_get levels (level - 1) ≡ Some marks → ((mark : Bool) → slice_get marks n ≡ Some mark → told ≡ mark) → told ≡ has_terminal p terminals level v
+mark_tells p terminals levels level n v marks told kept are low high lv is at tells =
+    let up : level - 1 + 1 ≡ level = omega (arith, low) in
+    let here : AreMarksAt p terminals level marks = subst (λ (l : ℕ). AreMarksAt p terminals l marks) up (are.each (level - 1) marks at) in
+    let placed : number_of (level_at p level) v < length (level_at p level) = (kept.level level low high).placed v lv in
+    let mark = get_some marks n (omega (arith, here.size, placed, is)) in
+    tells mark.0 mark.1 ∙ here.each n mark.0 mark.1 ∙ ap (λ (k : ℕ). list_any (λ t. nat_eq k (number_of (level_at p level) t)) terminals) is

@@ -1,7 +1,8 @@
 //! Which cells hold a terminal.
 
-ghost use Rattle.std.specs.Prelude.{◌≡◌, ◌<◌, ◌≤◌, All, length, IfOk, Some};
+ghost use Rattle.std.specs.Prelude.{◌≡◌, ℕ, ◌<◌, ◌≤◌, Bool, All, length, IfOk, Some};
 ghost use Rattle.std.specs.List.{slice_get};
+ghost use Rattle.cell_partition.specs.Partition.{level_at, number_of};
 ghost use Rattle.cell_frame.specs.Free.{free_level, has_terminal};
 ghost use Rattle.cell_frame.specs.PartSpace.{row_name};
 ghost use Rattle.overlay_query.specs.TerminalCells.{AreMarksAt, AreTerminalMarks};
@@ -30,12 +31,14 @@ impl Model for CellMarks {
 }
 
 impl CellMarks {
-    // Whether the cell of this number holds a terminal.
+    // Whether the cell of this number holds a terminal, if there is such a cell.
     fn get(&self, number: u32) -> bool
-        requires { number < length self.now }
-        ensures { slice_get self.now number ≡ Some result }
+        ensures { (mark : Bool) → slice_get self.now number ≡ Some mark → result ≡ mark }
     {
-        self.marks[number as usize]
+        match self.marks.get(number as usize) {
+            Some(mark) => *mark,
+            None => false,
+        }
     }
 }
 
@@ -86,45 +89,33 @@ impl<'a> TerminalMarks<'a> {
         Ok(TerminalMarks { vertices, levels })
     }
 
-    // Whether the cell of a vertex at a level holds a terminal.
-    fn has_terminal(&self, frame: &Frame, level: u32, v: u32) -> bool
+    // Whether a cell of a level holds a terminal, if there is such a cell.
+    fn is_marked(&self, frame: &Frame, level: u32, number: u32) -> bool
         requires ready { AreTerminalMarks frame.now self.now.vertices.now self.now.levels.items }
         requires above { 1 ≤ level }
         requires below { level ≤ length frame.now.cells.levels }
-        requires vertex { v < frame.now.graph.vertices }
-        ensures { result ≡ has_terminal frame.now.cells self.now.vertices.now level v }
+        ensures { (v : ℕ) → v < frame.now.graph.vertices → number ≡ number_of (level_at frame.now.cells level) v → result ≡ has_terminal frame.now.cells self.now.vertices.now level v }
     {
-        self.levels[level as usize - 1].get(frame.cell(level, v).number)
+        frame.known();
+        self.levels[level as usize - 1].get(number)
     }
 
-    // The highest level at which the cell of a vertex holds no terminal, or 0 where there is none.
-    fn free_level(&self, frame: &Frame, v: u32) -> u32
+    /// The name of the part that holds the vertices of a cell of the lowest level: the level and the number of the highest cell
+    /// that holds them and no terminal, or twice 0 where there is none.
+    pub fn name(&self, frame: &Frame, lowest: u32) -> (u32, u32)
         requires ready { AreTerminalMarks frame.now self.now.vertices.now self.now.levels.items }
-        requires vertex { v < frame.now.graph.vertices }
-        ensures level { result ≡ free_level frame.now.cells self.now.vertices.now v }
-        ensures high { result ≤ length frame.now.cells.levels }
+        requires some { 1 ≤ length frame.now.cells.levels }
+        requires lowest { lowest < length (level_at frame.now.cells 1) }
+        ensures { (v : ℕ) → v < frame.now.graph.vertices → number_of (level_at frame.now.cells 1) v ≡ lowest → result ≡ row_name frame.now (free_level frame.now.cells self.now.vertices.now) v }
     {
         let mut level = frame.levels();
         while level > 0 {
-            if !self.has_terminal(frame, level, v) {
-                return level;
+            let number = frame.above(level, lowest);
+            if !self.is_marked(frame, level, number) {
+                return (level, number);
             }
             level -= 1;
         }
-        0
-    }
-
-    /// The name of the part that holds a vertex: the level and the number of its highest cell that holds no terminal, or twice 0
-    /// where there is none.
-    pub fn name(&self, frame: &Frame, v: u32) -> (u32, u32)
-        requires ready { AreTerminalMarks frame.now self.now.vertices.now self.now.levels.items }
-        requires vertex { v < frame.now.graph.vertices }
-        ensures { result ≡ row_name frame.now (free_level frame.now.cells self.now.vertices.now) v }
-    {
-        let level = self.free_level(frame, v);
-        if level == 0 {
-            return (0, 0);
-        }
-        (level, frame.cell(level, v).number)
+        (0, 0)
     }
 }

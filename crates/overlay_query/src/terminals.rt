@@ -8,7 +8,7 @@ ghost use Rattle.cell_frame.specs.PartSpace.{row_name};
 ghost use Rattle.overlay_query.specs.TerminalCells.{AreTerminalCells, AreTerminalMarks};
 
 use crate::terminal_marks::TerminalMarks;
-use cell_frame::{Cell, Frame, Parts, Terminals};
+use cell_frame::{Frame, Parts, Terminals};
 use std::alloc::{AllocError, Global};
 
 /// The parts of a query, as `cell_frame::Terminals` has them: at each vertex its highest cell that holds no terminal, or
@@ -30,20 +30,6 @@ impl Drop for TerminalCells {
     }
 }
 
-// The name of the part in which a cell of the lowest level lies.
-fn name_of(frame: &Frame, marks: &TerminalMarks, number: u32) -> (u32, u32)
-    requires ready { AreTerminalMarks frame.now marks.now.vertices.now marks.now.levels.items }
-    requires some { 1 ≤ length frame.now.cells.levels }
-    requires number { number < length (level_at frame.now.cells 1) }
-    ensures { (v : ℕ) → v < frame.now.graph.vertices → number_of (level_at frame.now.cells 1) v ≡ number → result ≡ row_name frame.now (free_level frame.now.cells marks.now.vertices.now) v }
-{
-    frame.known();
-    let Some(v) = frame.member(Cell { level: 1, number }) else {
-        return (0, 0);
-    };
-    marks.name(frame, v)
-}
-
 // The names of the parts in which the cells of the lowest level lie.
 fn names_of(
     alloc: Global,
@@ -60,7 +46,7 @@ fn names_of(
     let count = frame.count(1);
     let mut names = Vec::with_capacity(alloc, count as usize)?;
     for number in 0..count {
-        names.push(name_of(frame, marks, number))?;
+        names.push(marks.name(frame, number))?;
     }
     Ok(names)
 }
