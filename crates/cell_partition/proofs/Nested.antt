@@ -2,14 +2,13 @@
 use Rattle.std.proofs.Common.{◌≡◌, ℕ, ◌+◌, ◌-◌, ◌<◌, ◌≤◌, true, eqb, List, [], ◌∷◌, ◌++◌, Vec, length, length-append, map, get_or, All, refl, sym, ap, ◌∙◌, subst, arith, zero, suc, add-one, ⊎_elim}
 use Rattle.std.specs.Global.{Global}
 use Rattle.std.proofs.lemmas.Bool.{cases_lt}
-use Rattle.std.proofs.lemmas.List.{length-map, get_or-map, get_or_append_left, get_or_push, get_or_default, get_or_read}
+use Rattle.std.proofs.lemmas.List.{length-map, get_or-map, get_or_append_left, get_or_push, get_or_default}
 use Rattle.std.proofs.lemmas.List.Elements.{Contains-get_or}
 use Rattle.std.proofs.lemmas.List.Sorted.{list_any-IsPermutation, length_permutation}
 use Rattle.cell_partition.specs.declared.level.Level.{Level}
-use Rattle.cell_partition.specs.declared.tables.Tables.{Tables}
 use Rattle.cell_partition.specs.Bounds.{joined, bounds_of, parts_at}
 use Rattle.cell_partition.specs.Partition.{Partition, level_at, number_of, numbers_from, IsPartition, IsNested, IsKept, AreNumbered}
-use Rattle.cell_partition.specs.Levels.{cells_of, IsLevel, partition_of, IsTable, AreAbove, AreTables}
+use Rattle.cell_partition.specs.Levels.{cells_of, IsLevel, partition_of, IsTable, AreAbove}
 use Rattle.cell_partition.proofs.Numbers.{has, has_contains}
 use Rattle.cell_partition.proofs.Kept.{within_from, has_from}
 
@@ -67,20 +66,6 @@ numbers_made level order bounds numbers o b parted numbered vertex h =
     let is : parts_at bounds order ≡ cells_of level = ap (λ (bs : List ℕ). parts_at bs order) b ∙ ap (parts_at level.bounds.items) o in
     let numbered' : AreNumbered (cells_of level) numbers = subst (λ (cells : List (List ℕ)). AreNumbered cells numbers) is numbered in
     numbered' vertex (partition_has (length level.order.items) (cells_of level) parted vertex h)
-
--- the cell that the tables tell
-pub cell_found : (p : Partition) (tables : Tables) (level vertex lowest : ℕ) (table : Vec ℕ Global) → IsKept p → AreTables p tables → 2 ≤ level → level ≤ length p.levels → vertex < p.vertices
-    → lowest ≡ get_or tables.lowest.items vertex lowest → table ≡ get_or tables.above.items (level - 2) table → (lowest < length table.items) × (get_or table.items lowest 0 ≡ number_of (level_at p level) vertex)
-cell_found p tables level vertex lowest table kept are high below inside l t =
-    let some : 1 ≤ length p.levels = omega arith in
-    let within : level - 2 < length tables.above.items = omega (arith, (are.above some).size) in
-    let at : level - 2 + 2 ≡ level = omega arith in
-    let is : IsTable p.vertices (level_at p 1) (level_at p level) table.items =
-    subst (λ (n : ℕ). IsTable p.vertices (level_at p 1) (level_at p n) table.items) at
-    (subst (λ (v : Vec ℕ Global). IsTable p.vertices (level_at p 1) (level_at p (level - 2 + 2)) v.items) (sym t) ((are.above some).tables (level - 2) table within)) in
-    let size : length tables.lowest.items ≡ p.vertices = are.size some in
-    let low : lowest ≡ number_of (level_at p 1) vertex = get_or_read tables.lowest.items vertex lowest (omega arith) l 0 ∙ are.lowest some vertex inside in
-    (omega (arith, is.size, (kept.level 1 (omega arith) some).placed vertex inside), ap (λ k. get_or table.items k 0) low ∙ is.held vertex inside)
 
 -- vertices that share a cell of the lowest level share one of each level
 pub nested_all : (p : Partition) → IsKept p → (k : ℕ) → k < length p.levels → IsNested p.vertices (level_at p 1) (level_at p (suc k))

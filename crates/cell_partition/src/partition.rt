@@ -105,11 +105,7 @@ impl Cells {
         ensures number { result ≡ number_of (level_at self.now level) vertex }
         ensures kept { IsKept self.now }
     {
-        let lowest = self.tables.lowest[vertex as usize];
-        if level == 1 {
-            return lowest;
-        }
-        self.tables.above[level as usize - 2][lowest as usize]
+        self.above(level, self.tables.lowest[vertex as usize])
     }
 
     /// The cell of a level that holds a cell of the lowest level: that of all of its vertices.

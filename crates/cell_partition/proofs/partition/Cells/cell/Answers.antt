@@ -1,20 +1,17 @@
-use Rattle.std.proofs.Common.{◌∙◌, subst, arith}
+-- What the table of the lowest level tells is one of its cells.
+use Rattle.std.proofs.Common.{◌≡◌, ◌<◌, ◌≤◌, length, arith, subst, ◌∙◌}
 use Rattle.std.proofs.lemmas.List.{get_or_read}
-use Rattle.cell_partition.specs.Partition.{Partition, IsKept}
 use Rattle.cell_partition.specs.Levels.{AreTables}
-use Rattle.cell_partition.proofs.Nested.{cell_found}
+use Rattle.cell_partition.specs.Partition.{IsKept, Partition, level_at, number_of}
 use Rattle.cell_partition.proofs.partition.Cells.cell.Goals as goal
 
-pub index-requires-2 : goal.index-requires-2
-index-requires-2 c =
-    let kept : IsKept c.args.self.now = subst IsKept c.self.view_is c.self.invariant.partition in
-    let tables : AreTables c.args.self.now c.self.inside.tables = subst (λ (p : Partition). AreTables p c.self.inside.tables) c.self.view_is c.self.invariant.numbers in
-    let found = cell_found c.args.self.now c.self.inside.tables c.args.level c.args.vertex _ c.index.result.now kept tables (grind arith) c.requires.below c.requires.inside c.index-lowest.ensures c.index.ensures in
-    omega (arith, found.0, c.index.result.now.ok.0)
-
-pub returns-clause-number : goal.returns-clause-number
-returns-clause-number c =
-    let kept : IsKept c.args.self.now = subst IsKept c.self.view_is c.self.invariant.partition in
-    let tables : AreTables c.args.self.now c.self.inside.tables = subst (λ (p : Partition). AreTables p c.self.inside.tables) c.self.view_is c.self.invariant.numbers in
-    let found = cell_found c.args.self.now c.self.inside.tables c.args.level c.args.vertex _ c.index.result.now kept tables (grind arith) c.requires.below c.requires.inside c.index-lowest.ensures c.index.ensures in
-    get_or_read c.index.result.now.items _ _ found.0 c.index-2.ensures 0 ∙ found.1
+pub above-requires-clause-inside : goal.above-requires-clause-inside
+above-requires-clause-inside c =
+    let p = c.args.self.now in
+    let kept : IsKept p = subst IsKept c.self.view_is c.self.invariant.partition in
+    let tables : AreTables p c.self.inside.tables = subst (λ (q : Partition). AreTables q c.self.inside.tables) c.self.view_is c.self.invariant.numbers in
+    let some : 1 ≤ length p.levels = omega (arith, c.requires.above, c.requires.below) in
+    let placed : number_of (level_at p 1) c.args.vertex < length (level_at p 1) = (kept.level 1 (omega arith) some).placed c.args.vertex c.requires.inside in
+    let within : c.args.vertex < length c.self.inside.tables.lowest.items = omega (arith, tables.size some, c.requires.inside) in
+    let is : c.index.result.now ≡ number_of (level_at p 1) c.args.vertex = get_or_read c.self.inside.tables.lowest.items c.args.vertex _ within c.index.ensures 0 ∙ tables.lowest some c.args.vertex c.requires.inside in
+    omega (arith, is, placed)
