@@ -5,6 +5,7 @@ pub mod HexDigits
 pub mod LineSteps
 pub mod Outcomes
 pub mod ReadLaws
+pub mod Searches
 pub mod SeenLaws
 pub mod Splitting
 pub mod LineLaws

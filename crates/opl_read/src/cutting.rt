@@ -4,6 +4,8 @@ ghost use Rattle.std.specs.Prelude.{◌≡◌, ◌∷◌, [], ◌+◌, ◌<◌, 
 ghost use Rattle.std.specs.List.{slice_split, before_first, after_first};
 ghost use Rattle.opl_read.specs.Cutting.{has, is_blank, fields_of, IsFirstField};
 
+use memchr::{memchr, memchr2};
+
 // What stands before and after the first of these bytes.
 pub(crate) fn parted_at(text: &str, byte: u8) -> Option<(&str, &str)>
     requires { byte < 128 }
@@ -24,7 +26,7 @@ pub(crate) fn parted_at(text: &str, byte: u8) -> Option<(&str, &str)>
 pub(crate) fn position_of(text: &[u8], byte: u8) -> Option<usize>
     ensures { result ≡ position (λ b. b == byte) text.now }
 {
-    text.iter().position(|b| *b == byte)
+    memchr(byte, text)
 }
 
 // How many entries a content has: one more than its commas.
@@ -55,7 +57,7 @@ pub(crate) fn first_field(text: &str) -> Option<(&str, &str)>
 fn blank_in(text: &[u8]) -> Option<usize>
     ensures { result ≡ position is_blank text.now }
 {
-    text.iter().position(|b| *b == b' ' || *b == b'\t')
+    memchr2(b' ', b'\t', text)
 }
 
 // The text without the blanks at its front.

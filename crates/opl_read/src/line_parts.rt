@@ -1,6 +1,6 @@
 //! What the fields of a line say of its object.
 
-ghost use Rattle.std.specs.Prelude.{◌≡◌, ◌∷◌, Ok, IfOk, IfErr, IfNone, IfSome};
+ghost use Rattle.std.specs.Prelude.{◌≡◌, ◌∷◌, Ok, IfOk, IfErr, IfNone, IfSome, OnOk};
 ghost use Rattle.opl_read.specs.Cutting.{fields_of, has};
 ghost use Rattle.opl_read.specs.Faults.{IsLineErrorOf, mapped};
 ghost use Rattle.opl_read.specs.LineParts.{no_parts, letters_of, with_content, with_field, with_fields, with_letter, HasNoLetter, location_of, kept_object};
@@ -10,6 +10,7 @@ use crate::cutting::first_field;
 use crate::line_faults::{FaultKind, LineError};
 use crate::members::members_of;
 use road_base::{Ids, Kind, Members, Node, Object, Point, Relation, Tags, Way};
+use smallvec::SmallVec;
 use std::alloc::Global;
 use std::marker::Model;
 
@@ -17,10 +18,13 @@ const GREATEST_LONGITUDE: u64 = 180_000_000;
 
 const GREATEST_LATITUDE: u64 = 90_000_000;
 
+// More letters than an object of any kind may have.
+const MOST_LETTERS: usize = 16;
+
 // The letters of the fields so far, and what they say.
 #[derive(Drop)]
 pub(crate) struct Parts {
-    letters: Vec<u8>,
+    letters: SmallVec<u8, MOST_LETTERS>,
     tags: Tags,
     nodes: Ids,
     members: Members,
@@ -45,7 +49,7 @@ pub(crate) fn parts_of(alloc: Global, kind: Kind, text: &str) -> Result<Parts, L
     let mut parts = no_parts(alloc);
     let mut rest = text;
     while let Some((field, more)) = first_field(rest) {
-        parts = with_field(alloc, kind, parts, field)?;
+        add_field(alloc, kind, &mut parts, field)?;
         rest = more;
     }
     Ok(parts)
@@ -55,7 +59,7 @@ fn no_parts(alloc: Global) -> Parts
     ensures { result ≡ no_parts }
 {
     Parts {
-        letters: Vec::new(alloc),
+        letters: SmallVec::new(alloc),
         tags: Tags::new(alloc),
         nodes: Ids::of(Vec::new(alloc)),
         members: Members::of(Vec::new(alloc)),
@@ -65,9 +69,10 @@ fn no_parts(alloc: Global) -> Parts
     }
 }
 
-fn with_field(alloc: Global, kind: Kind, parts: Parts, field: &str) -> Result<Parts, LineError>
-    ensures parts { IfOk result (λ more. with_field kind parts field.now ≡ Ok more) }
-    ensures fault { IfErr result (IsLineErrorOf (with_field kind parts field.now)) }
+// Adds a field to the parts.
+fn add_field(alloc: Global, kind: Kind, parts: &mut Parts, field: &str) -> Result<(), LineError>
+    ensures parts { OnOk result (with_field kind parts.old field.now ≡ Ok parts.new) }
+    ensures fault { IfErr result (IsLineErrorOf (with_field kind parts.old field.now)) }
 {
     let Some((letter, content)) = split_letter(field) else {
         return Err(LineError::Fault(FaultKind::BadField));
@@ -78,7 +83,7 @@ fn with_field(alloc: Global, kind: Kind, parts: Parts, field: &str) -> Result<Pa
     if parts.has(letter) {
         return Err(LineError::Fault(FaultKind::BadField));
     }
-    with_allowed(alloc, letter, content, parts)
+    add_allowed(alloc, letter, content, parts)
 }
 
 // The letter of a field, which is ASCII, and its content.
@@ -93,14 +98,14 @@ fn split_letter(field: &str) -> Option<(u8, &str)>
     Some((bytes[0], &field[1..]))
 }
 
-// The parts with a field that may be there.
-fn with_allowed(alloc: Global, letter: u8, content: &str, parts: Parts) -> Result<Parts, LineError>
-    ensures parts { IfOk result (λ more. mapped (with_letter letter) (with_content letter content.now parts) ≡ Ok more) }
-    ensures fault { IfErr result (IsLineErrorOf (mapped (with_letter letter) (with_content letter content.now parts))) }
+// Adds a field that may be there.
+fn add_allowed(alloc: Global, letter: u8, content: &str, parts: &mut Parts) -> Result<(), LineError>
+    ensures parts { OnOk result (mapped (with_letter letter) (with_content letter content.now parts.old) ≡ Ok parts.new) }
+    ensures fault { IfErr result (IsLineErrorOf (mapped (with_letter letter) (with_content letter content.now parts.old))) }
 {
-    let mut parts = with_content(alloc, letter, content, parts)?;
+    add_content(alloc, letter, content, parts)?;
     parts.letters.push(letter)?;
-    Ok(parts)
+    Ok(())
 }
 
 // Whether an object of this kind may have a field of this letter.
@@ -108,44 +113,36 @@ fn may_have(kind: Kind, letter: u8) -> bool
     ensures { result ≡ has letter (letters_of kind) }
 {
     match kind {
-        Kind::Node => b"vdctiuTxy".contains(&letter),
-        Kind::Way => b"vdctiuTN".contains(&letter),
-        Kind::Relation => b"vdctiuTM".contains(&letter),
+        Kind::Node => matches!(
+            letter,
+            b'v' | b'd' | b'c' | b't' | b'i' | b'u' | b'T' | b'x' | b'y'
+        ),
+        Kind::Way => matches!(
+            letter,
+            b'v' | b'd' | b'c' | b't' | b'i' | b'u' | b'T' | b'N'
+        ),
+        Kind::Relation => matches!(
+            letter,
+            b'v' | b'd' | b'c' | b't' | b'i' | b'u' | b'T' | b'M'
+        ),
     }
 }
 
-fn with_content(alloc: Global, letter: u8, content: &str, parts: Parts) -> Result<Parts, LineError>
-    ensures parts { IfOk result (λ more. with_content letter content.now parts ≡ Ok more) }
-    ensures fault { IfErr result (IsLineErrorOf (with_content letter content.now parts)) }
+// Adds what a field's content says.
+fn add_content(alloc: Global, letter: u8, content: &str, parts: &mut Parts) -> Result<(), LineError>
+    ensures parts { OnOk result (with_content letter content.now parts.old ≡ Ok parts.new) }
+    ensures fault { IfErr result (IsLineErrorOf (with_content letter content.now parts.old)) }
 {
-    let mut parts = parts;
     match letter {
-        b'T' => {
-            parts.tags = tags_of(alloc, content)?;
-            Ok(parts)
-        }
-        b'N' => {
-            parts.nodes = refs_of(alloc, content)?;
-            Ok(parts)
-        }
-        b'M' => {
-            parts.members = members_of(alloc, content)?;
-            Ok(parts)
-        }
-        b'x' => {
-            parts.lon = coordinate_of(GREATEST_LONGITUDE, content)?;
-            Ok(parts)
-        }
-        b'y' => {
-            parts.lat = coordinate_of(GREATEST_LATITUDE, content)?;
-            Ok(parts)
-        }
-        b'd' => {
-            parts.deleted = deleted_of(content)?;
-            Ok(parts)
-        }
-        _ => Ok(parts),
+        b'T' => parts.tags = tags_of(alloc, content)?,
+        b'N' => parts.nodes = refs_of(alloc, content)?,
+        b'M' => parts.members = members_of(alloc, content)?,
+        b'x' => parts.lon = coordinate_of(GREATEST_LONGITUDE, content)?,
+        b'y' => parts.lat = coordinate_of(GREATEST_LATITUDE, content)?,
+        b'd' => parts.deleted = deleted_of(content)?,
+        _ => {}
     }
+    Ok(())
 }
 
 impl Parts {
