@@ -1,5 +1,5 @@
 -- Streets and the places of their ways, one by one.
-use Rattle.std.proofs.Common.{◌≡◌, ℕ, ℤ, ◌+◌, ◌<◌, ◌≤◌, List, [], ◌∷◌, ◌++◌, length, get_or, take, drop, Option, Some, None, Bool, true, false, cond, arith, refl, sym, ap, subst, ◌∙◌, add-one, append_assoc, length-append}
+use Rattle.std.proofs.Common.{◌≡◌, ℕ, ℤ, ◌+◌, ◌-◌, ◌<◌, ◌≤◌, List, [], ◌∷◌, ◌++◌, length, get_or, take, drop, Option, Some, None, Bool, true, false, cond, arith, refl, sym, ap, subst, ◌∙◌, add-one, append_assoc, length-append}
 use Rattle.std.specs.Prelude.{◌||◌, nat_lt, option_map, unwrap_or}
 use Rattle.std.specs.List.{flat_map, slice_get}
 use Rattle.std.proofs.lemmas.List.{append-nil}
@@ -17,6 +17,7 @@ use Rattle.way_profile.specs.declared.way_uses.WayUse.{WayUse}
 use Rattle.list_lemmas.proofs.Fronts.{take-get}
 use Rattle.list_lemmas.proofs.Gets.{get_some}
 use Rattle.road_segments.proofs.Drops.{drop-get}
+use Rattle.road_segments.proofs.SegmentLemmas.{along-few}
 use Rattle.road_segments.specs.Located.{AreRoutes, StandAt, nodes_at, nodes_in, segments_on}
 use Rattle.road_segments.specs.Rows.{no_street, street_at}
 use Rattle.road_segments.specs.Segment.{Segment, segments_along, segments_of_way, segments_used, street_of}
@@ -173,6 +174,23 @@ few-step spot objects streets places all ids k count r total h same lt e n t =
       ap length g.2,
       n g.0 ∙ ap (λ (x : List ℤ). length (segments_along spot g.0 x)) e,
       length-append (segments_along spot g.0 (nodes_at objects (get_or all k 0))) (segments_on spot objects (drop (k + 1) streets) (drop (k + 1) places)),
+    )
+
+-- there is room for the segments of one more street
+pub room-step : (spot : ℤ → Option Spot) (objects : List Object) (streets : List Street) (places all : List ℕ) (ids : List ℤ) (k room total : ℕ)
+    → length streets ≡ length places → all ≡ places → k < length all → ids ≡ nodes_at objects (get_or all k 0)
+    → total ≤ room + length (segments_on spot objects (drop k streets) (drop k places))
+    → total ≤ room + (length ids - 1) + length (segments_on spot objects (drop (k + 1) streets) (drop (k + 1) places))
+room-step spot objects streets places all ids k room total h same lt e t =
+    let at : slice_get places k ≡ Some (get_or all k 0) = ap (λ (x : List ℕ). slice_get x k) (sym same) ∙ slice_get-get_or all k 0 lt in
+    let g = segments_on-at spot objects streets places k (get_or all k 0) h at in
+    omega (
+      arith,
+      ap length g.2,
+      along-few spot g.0 ids,
+      ap (λ (x : List ℤ). length (segments_along spot g.0 x)) e,
+      length-append (segments_along spot g.0 (nodes_at objects (get_or all k 0))) (segments_on spot objects (drop (k + 1) streets) (drop (k + 1) places)),
+      t,
     )
 
 -- the segments of one more street have their rows

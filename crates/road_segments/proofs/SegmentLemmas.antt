@@ -1,8 +1,10 @@
 -- Segments along the nodes of a way, one by one.
-use Rattle.std.proofs.Common.{◌≡◌, ℕ, ℤ, pos, ◌+◌, ◌-◌, ◌<◌, List, [], ◌∷◌, ◌++◌, length, get_or, drop, Option, Some, None, Bool, true, false, cond, arith, refl, sym, ap, ◌∙◌, add-one, drop-cons, length-append, append_assoc}
+use Rattle.std.proofs.Common.{◌≡◌, ℕ, ℤ, pos, ◌+◌, ◌-◌, ◌<◌, ◌≤◌, List, [], ◌∷◌, ◌++◌, length, get_or, drop, Option, Some, None, Bool, true, false, cond, arith, refl, sym, ap, ◌∙◌, add-one, drop-cons, length-append, append_assoc}
 use Rattle.std.specs.Prelude.{is_some}
+use Rattle.std.specs.Ordering.{int_eq}
+use Rattle.std.proofs.lemmas.Bool.{cond_both}
 use Rattle.road_segments.specs.Located.{segment_with}
-use Rattle.road_segments.specs.Segment.{Segment, segment_between, segments_along, segments_through}
+use Rattle.road_segments.specs.Segment.{Segment, joined, segment_between, segments_along, segments_through}
 use Rattle.road_segments.specs.Rows.{segment_in, segments_in, street_at}
 use Rattle.road_segments.specs.declared.roads.Row.{Row}
 use Rattle.std.proofs.lemmas.List.{map-append}
@@ -73,6 +75,26 @@ none-step spot street ids i total ends p h e none t =
       zero,
       t,
     ))
+
+-- at most one segment lies between two nodes
+joined-few : (street : Street) (a b : ℤ) (from to : Option Spot) → length (joined street a b from to) ≤ 1
+joined-few street a b None to = omega arith
+joined-few street a b (Some from) None = omega arith
+joined-few street a b (Some from) (Some to) = omega arith
+
+between-few : (spot : ℤ → Option Spot) (street : Street) (a b : ℤ) → length (segment_between spot street a b) ≤ 1
+between-few spot street a b =
+    cond_both (int_eq a b) [] (joined street a b (spot a) (spot b)) (λ (x : List Segment). length x ≤ 1) (λ _. omega arith) (λ _. joined-few street a b (spot a) (spot b))
+
+through-few : (spot : ℤ → Option Spot) (street : Street) (a : ℤ) (more : List ℤ) → length (segments_through spot street a more) ≤ length more
+through-few spot street a [] = omega arith
+through-few spot street a (b ∷ more) =
+    omega (arith, length-append (segment_between spot street a b) (segments_through spot street b more), between-few spot street a b, through-few spot street b more)
+
+-- no more segments than nodes of a way behind its first
+pub along-few : (spot : ℤ → Option Spot) (street : Street) (ids : List ℤ) → length (segments_along spot street ids) ≤ length ids - 1
+along-few spot street [] = omega arith
+along-few spot street (a ∷ more) = omega (arith, through-few spot street a more)
 
 -- a row has what the nodes at its two ends are, and the number of its street
 pub record IsRow (a b : ℤ) (from to : Spot) (street : ℕ) (row : Row) : Type 0 where

@@ -1,6 +1,6 @@
 //! The segments of a network, in flat lists.
 
-ghost use Rattle.std.specs.Prelude.{◌≡◌, ◌*◌, ◌/◌, ◌^◌, ◌<◌, ◌≤◌, length, Some, option_map, All, IfErr, IfOk, OnOk};
+ghost use Rattle.std.specs.Prelude.{◌≡◌, ◌*◌, ◌/◌, ◌^◌, ◌<◌, ◌≤◌, length, pos, slice_index_or, Some, option_map, All, IfErr, IfOk, OnOk};
 ghost use Rattle.std.specs.List.{slice_get};
 ghost use Rattle.road_segments.specs.Limits.{most_segments};
 ghost use Rattle.road_segments.specs.Located.{segments_on, spot_in};
@@ -11,8 +11,8 @@ ghost use Rattle.road_segments.specs.Vertex.{vertices};
 ghost use Rattle.way_profile.specs.Vehicle.{IsSpeed};
 
 use crate::road_faults::RoadFault;
-use crate::routes::{Routes, nodes_of, routes_of, segment_count};
-use crate::spots::{NodeUse, SpotMap, segment_ends, spots_of};
+use crate::routes::{Routes, nodes_of, room_for, routes_of};
+use crate::spots::{NodeUse, Spot, SpotMap, ends_between, spot_in, spots_of};
 use crate::streets::Street;
 use road_base::{Object, Point, Words};
 use std::alloc::{AllocError, Global};
@@ -60,6 +60,16 @@ impl Model for Roads {
     ghost invariant = { λ r. AreRows r.streets.items r.rows.items };
 }
 
+// The spot of the first of these nodes.
+fn first_spot(spots: &SpotMap, ids: &[i64]) -> Option<Spot>
+    ensures { 0 < length ids.now → result ≡ spot_in spots.now (slice_index_or ids.now 0 (pos 0)) }
+{
+    match ids.first() {
+        Some(id) => spot_in(spots, *id),
+        None => None,
+    }
+}
+
 // Adds the segments along these nodes of the way of a street.
 fn push_along(
     rows: &mut Vec<Row>,
@@ -69,8 +79,10 @@ fn push_along(
 ) -> Result<(), AllocError>
     ensures { OnOk result (AddsRows (spot_in spots.now) street ids.now rows.old.items rows.new.items) }
 {
+    let mut last = first_spot(spots, ids);
     for i in 1..ids.len() {
-        if let Some((from, to)) = segment_ends(spots, ids[i - 1], ids[i]) {
+        let next = spot_in(spots, ids[i]);
+        if let Some((from, to)) = ends_between(ids[i - 1], ids[i], last, next) {
             rows.push(Row {
                 tail: ids[i - 1],
                 head: ids[i],
@@ -81,6 +93,7 @@ fn push_along(
                 at_head: to.usage,
             })?;
         }
+        last = next;
     }
     Ok(())
 }
@@ -116,10 +129,10 @@ impl Roads {
     {
         let spots = spots_of(alloc, objects, profile)?;
         let routes = routes_of(alloc, objects, profile, &spots)?;
-        let Some(count) = segment_count(objects, &routes, &spots) else {
+        let Some(room) = room_for(objects, &routes, &spots) else {
             return Err(RoadFault::TooManySegments);
         };
-        let roads = Roads::of(alloc, objects, routes, &spots, count)?;
+        let roads = Roads::of(alloc, objects, routes, &spots, room)?;
         Ok(roads)
     }
 

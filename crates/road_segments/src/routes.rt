@@ -1,10 +1,11 @@
 //! The ways of a map that the vehicle may use, in the order of their ids.
 
-ghost use Rattle.std.specs.Prelude.{◌≡◌, ◌<◌, ◌≤◌, nat_lt, IfOk, All, length};
+ghost use Rattle.std.specs.Prelude.{◌≡◌, ℤ, ◌<◌, ◌≤◌, nat_lt, IfOk, IfSome, Option, All, length};
 ghost use Rattle.std.specs.BTreeMap.{values};
 ghost use Rattle.road_segments.specs.Located.{AreRoutes, StandAt, nodes_at, segments_on, spot_in};
-ghost use Rattle.road_segments.specs.Limits.{CountsUpTo, most_segments};
+ghost use Rattle.road_segments.specs.Limits.{CountsUpTo, IsRoomFor, most_segments};
 ghost use Rattle.road_segments.specs.Segment.{segments_used, street_of, ways_by_id};
+ghost use Rattle.road_segments.specs.declared.spots.Spot.{Spot};
 ghost use Rattle.way_profile.specs.Vehicle.{ProfileView};
 
 use crate::limits::MOST_SEGMENTS;
@@ -107,9 +108,9 @@ pub fn nodes_of(objects: &[Object], place: usize) -> &[i64]
     }
 }
 
-/// How many segments there are, or None where they are more than a network may have.
+// How many segments there are, or None where they are more than a network may have.
 #[tactic(auto, unfolding(crate::specs::Limits::most_segments))]
-pub fn segment_count(objects: &[Object], routes: &Routes, spots: &SpotMap) -> Option<usize>
+fn segment_count(objects: &[Object], routes: &Routes, spots: &SpotMap) -> Option<usize>
     requires in_range { All (λ place. place < length objects.now) routes.now.places.items }
     requires as_many { length routes.now.streets.items ≡ length routes.now.places.items }
     ensures { CountsUpTo (length (segments_on (spot_in spots.now) objects.now routes.now.streets.items routes.now.places.items)) most_segments result }
@@ -122,4 +123,35 @@ pub fn segment_count(objects: &[Object], routes: &Routes, spots: &SpotMap) -> Op
         }
     }
     Some(count)
+}
+
+// Room for a segment to each node of a way but its first, or None where that is more than a network may have.
+#[tactic(auto, unfolding(crate::specs::Limits::most_segments))]
+fn room_by_nodes(objects: &[Object], routes: &Routes) -> Option<usize>
+    requires in_range { All (λ place. place < length objects.now) routes.now.places.items }
+    requires as_many { length routes.now.streets.items ≡ length routes.now.places.items }
+    ensures enough { IfSome result (λ room. (spot : ℤ → Option Spot) → length (segments_on spot objects.now routes.now.streets.items routes.now.places.items) ≤ room) }
+    ensures few { IfSome result (λ room. room ≤ most_segments) }
+{
+    let mut room = 0;
+    for place in &routes.places {
+        room += nodes_of(objects, *place).len().saturating_sub(1);
+        if room > MOST_SEGMENTS {
+            return None;
+        }
+    }
+    Some(room)
+}
+
+/// Room for the segments, or None where they are more than a network may have. They are only counted, which asks for the
+/// spots of all their ends, where the ways have more nodes than that.
+pub fn room_for(objects: &[Object], routes: &Routes, spots: &SpotMap) -> Option<usize>
+    requires in_range { All (λ place. place < length objects.now) routes.now.places.items }
+    requires as_many { length routes.now.streets.items ≡ length routes.now.places.items }
+    ensures { IsRoomFor (length (segments_on (spot_in spots.now) objects.now routes.now.streets.items routes.now.places.items)) most_segments result }
+{
+    match room_by_nodes(objects, routes) {
+        Some(room) => Some(room),
+        None => segment_count(objects, routes, spots),
+    }
 }

@@ -1,9 +1,10 @@
 //! What the nodes of a map are to the vehicle, and what lies between two of them.
 
-ghost use Rattle.std.specs.Prelude.{◌≡◌, ℤ, ◌≤◌, IfOk, length, nat_lt};
+ghost use Rattle.std.specs.Prelude.{◌≡◌, ℤ, ◌≤◌, IfOk, Option, length, nat_lt};
 ghost use Rattle.road_segments.specs.Located.{segment_with, spot_in};
 ghost use Rattle.road_segments.specs.Segment.{segment_between, segments_along};
 ghost use Rattle.road_segments.specs.Spots.{is_closed, is_signal, node_use, spot_at, spot_of};
+ghost use Rattle.road_segments.specs.declared.spots.Spot.{Spot};
 ghost use Rattle.road_segments.specs.declared.streets.Street.{Street};
 
 use road_base::{Node, Object, Point, Tags};
@@ -95,17 +96,25 @@ pub fn spot_in(spots: &SpotMap, id: i64) -> Option<Spot>
     }
 }
 
-/// The two spots of the segment between neighbouring nodes of a way, or None where there is no segment.
-pub fn segment_ends(spots: &SpotMap, a: i64, b: i64) -> Option<(Spot, Spot)>
-    ensures { (street : Street) → segment_between (spot_in spots.now) street a b ≡ segment_with street a b result }
+/// The two spots of the segment between neighbouring nodes of a way, whose spots are these, or None where there is no
+/// segment.
+pub fn ends_between(a: i64, b: i64, from: Option<Spot>, to: Option<Spot>) -> Option<(Spot, Spot)>
+    ensures { (spot : ℤ → Option Spot) (street : Street) → spot a ≡ from → spot b ≡ to → segment_between spot street a b ≡ segment_with street a b result }
 {
     if a == b {
         return None;
     }
-    match (spot_in(spots, a), spot_in(spots, b)) {
+    match (from, to) {
         (Some(from), Some(to)) => Some((from, to)),
         _ => None,
     }
+}
+
+// The same of the nodes of these ids.
+fn segment_ends(spots: &SpotMap, a: i64, b: i64) -> Option<(Spot, Spot)>
+    ensures { (street : Street) → segment_between (spot_in spots.now) street a b ≡ segment_with street a b result }
+{
+    ends_between(a, b, spot_in(spots, a), spot_in(spots, b))
 }
 
 /// How many segments lie along these nodes of a way.

@@ -8,7 +8,7 @@ use Rattle.road_segments.proofs.roads.Roads.build.Goals as goal
 
 -- no more streets than segments
 pub of-requires-clause-few_streets : goal.of-requires-clause-few_streets
-of-requires-clause-few_streets c = omega (arith, few_segments, c.in_ok-routes.ensures.some, c.in-Some.ensures.1)
+of-requires-clause-few_streets c = omega (arith, few_segments, c.in_ok-routes.ensures.some, c.in-Some.ensures.0, c.in-Some.ensures.1)
 
 pub returns-clause-ok : goal.returns-clause-ok
 returns-clause-ok c =
