@@ -1,8 +1,8 @@
 -- The search once a vertex is settled, or once it has begun at one start more; and how many vertices are still open.
-use Rattle.std.proofs.Common.{◌≡◌, ℕ, zero, suc, ◌+◌, ◌^◌, ◌<◌, ◌≤◌, inl, inr, Bool, true, false, nat_eq, Some, List, [], ◌∷◌, ◌++◌, length, refl, sym, ◌∙◌, ap, subst, ◌≢◌, true≢false, eq-eqb, arith}
+use Rattle.std.proofs.Common.{◌≡◌, ℕ, zero, suc, ◌+◌, ◌<◌, ◌≤◌, inl, inr, Bool, true, false, nat_eq, Some, List, [], ◌∷◌, ◌++◌, refl, sym, ◌∙◌, ap, subst, ◌≢◌, true≢false, eq-eqb, arith}
 use Rattle.std.specs.List.{Contains, slice_get}
 use Rattle.std.proofs.lemmas.List.Elements.{Contains-push_cases}
-use Rattle.std.proofs.lemmas.Option.{none-some, slice_get_within}
+use Rattle.std.proofs.lemmas.Option.{none-some}
 use Rattle.search_graph.specs.Costs.{CostOps, CostLaws}
 use Rattle.search_graph.specs.declared.ends.Start.{Start}
 use Rattle.step_search.specs.Spaces.{Space, IsSpace}
@@ -10,15 +10,15 @@ use Rattle.step_search.specs.Paths.{AreStarts}
 use Rattle.search_labels.specs.Labelled.{changed, label_of, settled_of}
 use Rattle.row_labels.specs.Rowed.{value_of}
 use Rattle.search_labels.specs.ChangedLaws.{same_place, changed-here, changed-there}
-use Rattle.step_search.specs.Progress.{HasNode, IsNode, IsTree, Expanded, NodesExpanded, StartsIn, IsFront, AreBounds}
-use Rattle.step_search.specs.Stepping.{IsFresh, IsTaken, PutsNode, Begins, FewerOpen, node_of, one_if_open, open_below, start_node}
+use Rattle.step_search.specs.Progress.{HasNode, IsTree, NodesExpanded, StartsIn, IsFront, AreBounds}
+use Rattle.step_search.specs.Stepping.{IsFresh, IsTaken, OnlyGrows, Begins, FewerOpen, one_if_open, open_below}
 use Rattle.step_search.specs.UnderWay.{IsUnderWay, IsBegun}
 use Rattle.search_labels.specs.declared.labels.Label.{Label}
 use Rattle.step_search.specs.declared.dijkstra.Node.{Node}
 use Rattle.step_search.specs.declared.dijkstra.Search.{Search}
 use Rattle.step_search.proofs.Bounded.{AreBounds-none}
 use Rattle.step_search.proofs.Falls.{NodesExpanded-falls}
-use Rattle.step_search.proofs.Grown.{HasNode-left, HasNode-last, StartsIn-left, IsTree-push, NodesExpanded-push}
+use Rattle.step_search.proofs.Grown.{HasNode-grows, IsTree-grows, NodesExpanded-grows, StartsIn-grows, TreeGrows-among}
 
 fewer_here : (a b c d : ℕ) → a ≡ 0 → b ≡ 1 → c ≡ d → a + c < b + d
 fewer_here a b c d p q r = omega arith
@@ -47,31 +47,30 @@ module _ (settled : ℕ → Bool) (v : ℕ) where
         (ap one_if_open (changed-there settled v true n e)) (open-fewer n (other_below v n lt e) s)
   ]
 
+no_start : {C : Type 0} (s : Start C) → Contains [] s → ⊥
+no_start s h = let lt : h.0 < 0 = h.1 in omega arith
+
+only_start : {C : Type 0} (s r : Start C) → Contains (s ∷ []) r → s ≡ r
+only_start s r h = elim (Contains-push_cases [] s r h) [ inl k ↦ absurd (no_start r k) | inr q ↦ q ]
+
 module _ {C : Type 0} {ops : CostOps C} (laws : CostLaws ops) (S : Space C) (starts : List (Start C)) (old new : Search C)
     (front : IsFront ops S new.tree.items (label_of new.labels) (settled_of new.labels) new.queue) where
   module _ (v : ℕ) (l : Label C) (fit : AreStarts ops S starts) (is_tree : IsTree ops S starts old.tree.items) (expanded : NodesExpanded ops S old.tree.items (label_of old.labels))
-      (starts_in : StartsIn S starts old.tree.items) (taken : IsTaken ops S old v l) (puts : PutsNode ops old new v l) where
-    settled_node : IsNode ops S starts old.tree.items (length old.tree.items) (node_of v l)
-    settled_node =
-        let m = taken.front.labelled v l taken.has in
-        record {
-          vertex = taken.space.heads m.0.vertex v m.2.0 m.2.1;
-          units = taken.units;
-          from = (slice_get_within old.tree.items l.node m.0 m.1, m.0, m.1, m.2);
-        }
-
+      (starts_in : StartsIn S starts old.tree.items) (taken : IsTaken ops S old v l) (puts : OnlyGrows ops S [] old new) where
     -- once a vertex is settled the search is still under way
-    pub settled_under_way : Expanded ops S (label_of new.labels) v l.cost → AreBounds ops S (label_of new.labels) (value_of new.rows.rows) → IsUnderWay ops S starts new
-    settled_under_way opened rows = record {
-      space = taken.space;
-      fit = fit;
-      tree = subst (λ (t : List (Node C)). IsTree ops S starts t) (sym puts.grows) (IsTree-push ops S starts old.tree.items (node_of v l) is_tree settled_node);
-      front = front;
-      expanded = subst (λ (t : List (Node C)). NodesExpanded ops S t (label_of new.labels)) (sym puts.grows)
-          (NodesExpanded-push ops S old.tree.items (node_of v l) (label_of new.labels) (NodesExpanded-falls laws S old.tree.items (label_of old.labels) (label_of new.labels) puts.falls expanded) opened);
-      starts_in = subst (λ (t : List (Node C)). StartsIn S starts t) (sym puts.grows) (StartsIn-left S starts old.tree.items (node_of v l) starts_in);
-      rows = rows;
-    }
+    pub settled_under_way : AreBounds ops S (label_of new.labels) (value_of new.rows.rows) → IsUnderWay ops S starts new
+    settled_under_way rows =
+        let grows = TreeGrows-among ops S [] starts (λ s h. absurd (no_start s h)) (label_of new.labels) old.tree.items new.tree.items puts.tree in
+        record {
+          space = taken.space;
+          fit = fit;
+          tree = IsTree-grows ops S starts (label_of new.labels) old.tree.items new.tree.items grows is_tree;
+          front = front;
+          expanded = NodesExpanded-grows ops S starts (label_of new.labels) old.tree.items new.tree.items grows
+              (NodesExpanded-falls laws S old.tree.items (label_of old.labels) (label_of new.labels) puts.falls expanded);
+          starts_in = StartsIn-grows ops S starts (label_of new.labels) old.tree.items new.tree.items grows starts starts_in;
+          rows = rows;
+        }
 
     -- and one vertex fewer is open than in the search before
     pub settled_fewer : (first : Search C) → settled_of first.labels v ≡ false → settled_of new.labels ≡ changed (settled_of first.labels) v true → FewerOpen S first new
@@ -81,46 +80,25 @@ module _ {C : Type 0} {ops : CostOps C} (laws : CostLaws ops) (S : Space C) (sta
         (open-fewer (settled_of first.labels) v S.vertices (taken.space.heads m.0.vertex v m.2.0 m.2.1) unsettled)
 
   module _ (done : List (Start C)) (begun : IsBegun ops S starts done old) (s : Start C) (among : Contains starts s) (begins : Begins ops S old new s) where
-    start_is_node : S.May s.vertex → IsNode ops S starts old.tree.items (length old.tree.items) (start_node s)
-    start_is_node may = record {
-      vertex = (begun.fit s among).0;
-      units = laws.units_more s.cost 1 (2 ^ 30) (begun.fit s among).1 (omega arith);
-      from = (s, among, may, refl, refl);
-    }
-
     -- once the search has begun at one start more it has begun at all of these
     pub begun_more : AreBounds ops S (label_of new.labels) (value_of new.rows.rows) → IsBegun ops S starts (done ++ s ∷ []) new
-    begun_more rows = elim begins.grows [
-      | inl h ↦ record {
-        space = begun.space;
-        fit = begun.fit;
-        tree = subst (λ (t : List (Node C)). IsTree ops S starts t) (sym h.1) (IsTree-push ops S starts old.tree.items (start_node s) begun.tree (start_is_node h.0));
-        front = front;
-        expanded = subst (λ (t : List (Node C)). NodesExpanded ops S t (label_of new.labels)) (sym h.1)
-            (NodesExpanded-push ops S old.tree.items (start_node s) (label_of new.labels) (NodesExpanded-falls laws S old.tree.items (label_of old.labels) (label_of new.labels) begins.falls begun.expanded) h.2);
-        starts_in = subst (λ (t : List (Node C)). StartsIn S (done ++ s ∷ []) t) (sym h.1) (record {
-          node = λ r k m. elim (Contains-push_cases done s r k) [
-            | inl q ↦ HasNode-left old.tree.items (start_node s) r.vertex r.cost (begun.starts_in.node r q m)
-            | inr q ↦ subst (λ (x : Start C). HasNode (old.tree.items ++ start_node s ∷ []) x.vertex x.cost) q (HasNode-last old.tree.items (start_node s))
-          ];
-        });
-        rows = rows;
-      }
-      | inr h ↦ record {
-        space = begun.space;
-        fit = begun.fit;
-        tree = subst (λ (t : List (Node C)). IsTree ops S starts t) (sym h.1) begun.tree;
-        front = front;
-        expanded = subst (λ (t : List (Node C)). NodesExpanded ops S t (label_of new.labels)) (sym h.1) (NodesExpanded-falls laws S old.tree.items (label_of old.labels) (label_of new.labels) begins.falls begun.expanded);
-        starts_in = subst (λ (t : List (Node C)). StartsIn S (done ++ s ∷ []) t) (sym h.1) (record {
-          node = λ r k m. elim (Contains-push_cases done s r k) [
-            | inl q ↦ begun.starts_in.node r q m
-            | inr q ↦ absurd (h.0 (subst (λ (x : Start C). S.May x.vertex) (sym q) m))
-          ];
-        });
-        rows = rows;
-      }
-    ]
+    begun_more rows =
+        let grows = TreeGrows-among ops S (s ∷ []) starts (λ r h. subst (λ (x : Start C). Contains starts x) (only_start s r h) among) (label_of new.labels) old.tree.items new.tree.items begins.grows.tree in
+        record {
+          space = begun.space;
+          fit = begun.fit;
+          tree = IsTree-grows ops S starts (label_of new.labels) old.tree.items new.tree.items grows begun.tree;
+          front = front;
+          expanded = NodesExpanded-grows ops S starts (label_of new.labels) old.tree.items new.tree.items grows
+              (NodesExpanded-falls laws S old.tree.items (label_of old.labels) (label_of new.labels) begins.grows.falls begun.expanded);
+          starts_in = record {
+            node = λ r k m. elim (Contains-push_cases done s r k) [
+              | inl q ↦ HasNode-grows ops S starts (label_of new.labels) old.tree.items new.tree.items grows r.vertex r.cost (begun.starts_in.node r q m)
+              | inr q ↦ subst (λ (x : Start C). HasNode new.tree.items x.vertex x.cost) q (begins.node (subst (λ (x : Start C). S.May x.vertex) (sym q) m))
+            ];
+          };
+          rows = rows;
+        }
 
 -- a fresh search has begun nowhere
 module _ {C : Type 0} (ops : CostOps C) (S : Space C) (starts : List (Start C)) (search : Search C) (fresh : IsFresh search) where
@@ -132,9 +110,6 @@ module _ {C : Type 0} (ops : CostOps C) (S : Space C) (starts : List (Start C)) 
 
   no_entry : (x : C × ℕ) → Contains search.queue x → ⊥
   no_entry x h = let none : Contains [] x = subst (λ ys. Contains ys x) fresh.queue h in let lt : none.0 < 0 = none.1 in omega arith
-
-  no_start : (s : Start C) → Contains [] s → ⊥
-  no_start s h = let lt : h.0 < 0 = h.1 in omega arith
 
   pub begun_nowhere : IsSpace ops S → AreStarts ops S starts → IsBegun ops S starts [] search
   begun_nowhere space fit = record {

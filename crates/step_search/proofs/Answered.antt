@@ -1,14 +1,15 @@
 -- The answer to a target that is settled, or when nothing is left to settle.
-use Rattle.std.proofs.Common.{◌≡◌, ℕ, ◌<◌, ◌⊎◌, inl, inr, true, false, Some, None, Option, MatchOption, List, [], ◌∷◌, ◌++◌, reverse, refl, sym, ◌∙◌, ap, subst, arith, IfNone, true≢false}
+use Rattle.std.proofs.Common.{◌≡◌, ℕ, ◌<◌, ◌⊎◌, inl, inr, Bool, true, false, Some, None, Option, MatchOption, List, [], ◌∷◌, ◌++◌, reverse, refl, sym, ◌∙◌, ap, subst, arith, IfNone, IfSome, true≢false}
+use Rattle.std.specs.Bool.{OnTrue, OnFalse}
 use Rattle.std.specs.Option.{is_some}
 use Rattle.std.specs.List.{Contains}
 use Rattle.std.proofs.lemmas.Option.{same_Some, none-some}
 use Rattle.search_graph.specs.Costs.{CostOps, CostLaws, NoDearer}
 use Rattle.search_graph.specs.declared.ends.Start.{Start}
-use Rattle.search_graph.specs.OrderLaws.{le_trans}
+use Rattle.search_graph.specs.OrderLaws.{le_trans, le_from_less}
 use Rattle.step_search.specs.Spaces.{Space}
 use Rattle.step_search.specs.Paths.{IsBeyond, IsPathTo, IsLeastPath, NoPathTo}
-use Rattle.search_labels.specs.Labelled.{label_of, settled_of, LabelWithin}
+use Rattle.search_labels.specs.Labelled.{label_of, settled_of, Improves, LabelWithin}
 use Rattle.step_search.specs.Progress.{IsTrail}
 use Rattle.step_search.specs.UnderWay.{IsUnderWay, IsDone}
 use Rattle.search_labels.specs.declared.labels.Label.{Label}
@@ -21,16 +22,28 @@ pub where_none : {X P : Type 0} (o : Option X) → is_some o ≡ false → IfNon
 where_none (Some x) e h = absurd (true≢false e)
 where_none None e h = h
 
+pub IfSome-map : {X : Type 0} {P Q : X → Type 0} (o : Option X) → ((x : X) → P x → Q x) → IfSome o P → IfSome o Q
+IfSome-map (Some x) f h = f x h
+IfSome-map None f h = h
+
+pub IfNone-map : {X P Q : Type 0} (o : Option X) → (P → Q) → IfNone o P → IfNone o Q
+IfNone-map (Some x) f h = h
+IfNone-map None f h = f h
+
+OnTrue-map : {P Q : Type 0} (b : Bool) → (P → Q) → OnTrue b P → OnTrue b Q
+OnTrue-map true f h = f h
+OnTrue-map false f h = h
+
+OnFalse-map : {P Q : Type 0} (b : Bool) → (P → Q) → OnFalse b P → OnFalse b Q
+OnFalse-map true f h = h
+OnFalse-map false f h = f h
+
 nothing_in : {E : Type 0} (xs : List E) (x : E) → xs ≡ [] → Contains xs x → ⊥
 nothing_in xs x e h = let none : Contains [] x = subst (λ ys. Contains ys x) e h in let lt : none.0 < 0 = none.1 in omega arith
 
 -- the vertex is settled, or nothing is left to settle
 abbrev IsEnded : {C : Type 0} → Search C → ℕ → Type 0
 IsEnded search target = (settled_of search.labels target ≡ true) ⊎ (search.queue ≡ [])
-
-none_from : {L : Type 0} (o : Option L) → ((l : L) → o ≡ Some l → ⊥) → o ≡ None
-none_from None f = refl
-none_from (Some l) f = absurd (f l refl)
 
 by_label : {L : Type 0} {P : Type 0} {Q : L → Type 0} (o : Option L) → (o ≡ None → P) → ((l : L) → o ≡ Some l → Q l) → MatchOption o P Q
 by_label None p q = p refl
@@ -42,9 +55,9 @@ module _ {C : Type 0} {ops : CostOps C} (laws : CostLaws ops) (S : Space C) (sta
   no_path none walk d p =
       elim (path_far laws S under_way.space starts under_way.fit search.tree.items under_way.tree (label_of search.labels) (settled_of search.labels) search.queue under_way.front under_way.expanded
       (λ c. ⊥) (λ c e f g. f)
-      (λ v l s h. elim ended [
+      (λ v l h q. elim ended [
         | inl k ↦ let r = under_way.front.in_tree target k in none-some r.0 (sym none ∙ r.1)
-        | inr k ↦ nothing_in search.queue (l.cost, v) k (under_way.front.queued v l s h)
+        | inr k ↦ nothing_in search.queue (l.cost, v) k q
       ])
       under_way.starts_in target walk d p) [
         | inl w ↦ none-some w.0 (sym none ∙ w.1)
@@ -57,9 +70,9 @@ module _ {C : Type 0} {ops : CostOps C} (laws : CostLaws ops) (S : Space C) (sta
     label_is_least walk d p =
         elim (path_far laws S under_way.space starts under_way.fit search.tree.items under_way.tree (label_of search.labels) (settled_of search.labels) search.queue under_way.front under_way.expanded
         (λ c. NoDearer ops l.cost c) (λ c e f g. le_trans laws l.cost c e f g)
-        (λ v m s h. elim ended [
-          | inl k ↦ under_way.front.ordered m.cost v (under_way.front.queued v m s h) target l k has
-          | inr k ↦ absurd (nothing_in search.queue (m.cost, v) k (under_way.front.queued v m s h))
+        (λ v m h q. elim ended [
+          | inl k ↦ under_way.front.ordered m.cost v q target l k has
+          | inr k ↦ absurd (nothing_in search.queue (m.cost, v) k q)
         ])
         under_way.starts_in target walk d p) [
           | inl w ↦ let e : w.0 ≡ l = same_Some w.0 l (sym w.1 ∙ has) in subst (λ (x : Label C). NoDearer ops x.cost d) e w.2
@@ -77,10 +90,9 @@ module _ {C : Type 0} {ops : CostOps C} (laws : CostLaws ops) (S : Space C) (sta
   pub done_empty : search.queue ≡ [] → IsDone ops S starts search target
   done_empty e = done laws S starts search under_way target (inr e)
 
-  -- where nothing is left to settle no path leads to what isn't settled
-  pub no_path_left : search.queue ≡ [] → settled_of search.labels target ≡ false → NoPathTo ops S starts target
-  no_path_left e s = no_path laws S starts search under_way target (inr e)
-      (none_from (label_of search.labels target) (λ l h. nothing_in search.queue (l.cost, target) e (under_way.front.queued target l s h)))
+  -- where nothing is left to settle no path leads to what has no label
+  pub no_path_left : search.queue ≡ [] → label_of search.labels target ≡ None → NoPathTo ops S starts target
+  no_path_left e none = no_path laws S starts search under_way target (inr e) none
 
 -- a label that costs no more than what no path undercuts
 pub done_within : {C : Type 0} {ops : CostOps C} (laws : CostLaws ops) (S : Space C) (starts : List (Start C)) (search : Search C) (target : ℕ) (known : C) → LabelWithin ops (label_of search.labels) target known → IsBeyond ops S starts target known → IsDone ops S starts search target
@@ -128,14 +140,34 @@ module _ {C : Type 0} (ops : CostOps C) (S : Space C) (starts : List (Start C)) 
         let t = trail_exists ops S starts search.tree.items under_way.tree l.node m.0 m.1 in
         (reverse t.0 ++ target ∷ [], least_path t.0 (reverse t.0) (reverse t.0 ++ target ∷ []) t.1 refl refl)
 
--- where each key is at the limit or past it, so is each path to what isn't settled
-pub beyond : {C : Type 0} {ops : CostOps C} (laws : CostLaws ops) (S : Space C) (starts : List (Start C)) (search : Search C) → IsUnderWay ops S starts search → (target : ℕ) (limit : C) → settled_of search.labels target ≡ false →
-    ((k : C) (v : ℕ) → Contains search.queue (k, v) → NoDearer ops limit k) → IsBeyond ops S starts target limit
-beyond {C} {ops} laws S starts search under_way target limit unsettled far walk d p =
-    elim (path_far laws S under_way.space starts under_way.fit search.tree.items under_way.tree (label_of search.labels) (settled_of search.labels) search.queue under_way.front under_way.expanded
-    (λ c. NoDearer ops limit c) (λ c e f g. le_trans laws limit c e f g)
-    (λ v l s h. far l.cost v (under_way.front.queued v l s h))
-    under_way.starts_in target walk d p) [
-      | inl w ↦ le_trans laws limit w.0.cost d (far w.0.cost target (under_way.front.queued target w.0 unsettled w.1)) w.2
-      | inr f ↦ f
-    ]
+-- where each key is at the limit or past it
+module _ {C : Type 0} {ops : CostOps C} (laws : CostLaws ops) (S : Space C) (starts : List (Start C)) (search : Search C) (under_way : IsUnderWay ops S starts search) (target : ℕ) (limit : C)
+    (far : (k : C) (v : ℕ) → Contains search.queue (k, v) → NoDearer ops limit k) where
+  within_or_beyond : (walk : List ℕ) (d : C) → IsPathTo ops S starts target walk d → LabelWithin ops (label_of search.labels) target d ⊎ NoDearer ops limit d
+  within_or_beyond = path_far laws S under_way.space starts under_way.fit search.tree.items under_way.tree (label_of search.labels) (settled_of search.labels) search.queue under_way.front under_way.expanded
+      (λ c. NoDearer ops limit c) (λ c e f g. le_trans laws limit c e f g)
+      (λ v l h q. far l.cost v q)
+      under_way.starts_in target
+
+  -- the search is done with what has a label within the limit
+  done_below : LabelWithin ops (label_of search.labels) target limit → IsDone ops S starts search target
+  done_below within =
+      subst (λ (o : Option (Label C)). MatchOption o (NoPathTo ops S starts target) (λ l. IsBeyond ops S starts target l.cost)) (sym within.1)
+      (λ walk d p. elim (within_or_beyond walk d p) [
+        | inl w ↦ let e : w.0 ≡ within.0 = same_Some w.0 within.0 (sym w.1 ∙ within.1) in subst (λ (x : Label C). NoDearer ops x.cost d) e w.2
+        | inr f ↦ le_trans laws within.0.cost limit d within.2 f
+      ])
+
+  -- and no path to anything else is below it
+  beyond : Improves ops (label_of search.labels) target limit → IsBeyond ops S starts target limit
+  beyond more walk d p = elim (within_or_beyond walk d p) [
+    | inl w ↦ le_trans laws limit w.0.cost d (le_from_less laws limit w.0.cost (more w.0 w.1)) w.2
+    | inr f ↦ f
+  ]
+
+  module _ (within : Bool) (yes : OnTrue within (LabelWithin ops (label_of search.labels) target limit)) (no : OnFalse within (Improves ops (label_of search.labels) target limit)) where
+    pub done_if_within : OnTrue within (IsDone ops S starts search target)
+    done_if_within = OnTrue-map within done_below yes
+
+    pub beyond_if_not : OnFalse within (IsBeyond ops S starts target limit)
+    beyond_if_not = OnFalse-map within beyond no

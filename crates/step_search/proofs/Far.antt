@@ -1,5 +1,5 @@
 -- How far a search has come along any path: its end is expanded, or what is paid there is far.
-use Rattle.std.proofs.Common.{◌≡◌, ℕ, zero, suc, ◌+◌, ◌^◌, ◌<◌, ◌⊎◌, inl, inr, Bool, true, false, Option, Some, None, List, [], ◌∷◌, ◌++◌, refl, sym, ◌∙◌, ap, subst, arith}
+use Rattle.std.proofs.Common.{◌≡◌, ℕ, zero, suc, ◌+◌, ◌^◌, ◌<◌, ◌⊎◌, inl, inr, Bool, Option, Some, None, List, [], ◌∷◌, ◌++◌, refl, sym, ◌∙◌, ap, subst, arith}
 use Rattle.std.specs.List.{Contains, slice_get}
 use Rattle.std.proofs.lemmas.Option.{same_Some}
 use Rattle.search_graph.specs.Costs.{CostOps, CostLaws, NoDearer}
@@ -8,7 +8,7 @@ use Rattle.search_graph.specs.OrderLaws.{le_trans, plus_le, plus_le_back, plus_g
 use Rattle.search_graph.specs.ChainLaws.{Chain-push, Chain-valid, Chain-grows, Chain-from_zero, Chain-to_more}
 use Rattle.step_search.specs.Spaces.{Space, HasHop, StepBy, Path, IsSpace, IsLeastCost}
 use Rattle.step_search.specs.Paths.{AreStarts, IsPathTo}
-use Rattle.step_search.specs.Progress.{ComesFrom, IsTree, Expanded, NodesExpanded, StartsIn, IsFront}
+use Rattle.step_search.specs.Progress.{HasNode, ComesFrom, IsTree, Expanded, NodesExpanded, StartsIn, IsFront}
 use Rattle.search_labels.specs.Labelled.{LabelWithin}
 use Rattle.search_labels.specs.declared.labels.Label.{Label}
 use Rattle.step_search.specs.declared.dijkstra.Node.{Node}
@@ -26,7 +26,7 @@ module _ {C : Type 0} {ops : CostOps C} (laws : CostLaws ops) (S : Space C) (spa
 
   module _ (starts : List (Start C)) (fit : AreStarts ops S starts) (tree : List (Node C)) (is_tree : IsTree ops S starts tree) where
     node_valid : (i : ℕ) (n : Node C) → slice_get tree i ≡ Some n → ops.valid n.cost
-    node_valid i n h = laws.units_valid n.cost (2 ^ 30) (is_tree.nodes i n h).units
+    node_valid i n h = laws.units_valid n.cost (2 ^ 30 + 2 ^ 29) (is_tree.nodes i n h).units
 
     start_valid : (s : Start C) → Contains starts s → ops.valid s.cost
     start_valid s h = laws.units_valid s.cost 1 (fit s h).1
@@ -50,16 +50,22 @@ module _ {C : Type 0} {ops : CostOps C} (laws : CostLaws ops) (S : Space C) (spa
     traced i n h = traced_below (suc i) i n (omega arith) h
 
     module _ (label : ℕ → Option (Label C)) (settled : ℕ → Bool) (queue : List (C × ℕ)) (front : IsFront ops S tree label settled queue) (expanded : NodesExpanded ops S tree label)
-        (Far : C → Type 0) (up : (c d : C) → Far c → NoDearer ops c d → Far d) (far : (v : ℕ) (l : Label C) → settled v ≡ false → label v ≡ Some l → Far l.cost) where
-      -- a settled vertex is expanded at its label
-      settled_expanded : (v : ℕ) (l : Label C) (d : C) → ops.valid d → settled v ≡ true → label v ≡ Some l → NoDearer ops l.cost d → Expanded ops S label v d
-      settled_expanded v l d vd s h le =
+        (Far : C → Type 0) (up : (c d : C) → Far c → NoDearer ops c d → Far d) (far : (v : ℕ) (l : Label C) → label v ≡ Some l → Contains queue (l.cost, v) → Far l.cost) where
+      -- a vertex with a node at its label is expanded there
+      node_expanded : (v : ℕ) (l : Label C) (d : C) → ops.valid d → HasNode tree v l.cost → NoDearer ops l.cost d → Expanded ops S label v d
+      node_expanded v l d vd r le =
+          let n : Node C = r.1 in
+          let at : Expanded ops S label v n.cost = subst (λ (x : ℕ). Expanded ops S label x n.cost) r.3 (expanded.each r.0 n r.2) in
+          Expanded-more label v n.cost d (node_valid r.0 n r.2) vd (subst (λ (x : C). NoDearer ops x d) (sym r.4) le) at
+
+      -- so a vertex that has a label is expanded there, or stands in the queue with it
+      expanded_or_queued : (v : ℕ) (l : Label C) (d : C) → ops.valid d → label v ≡ Some l → NoDearer ops l.cost d → Expanded ops S label v d ⊎ Contains queue (l.cost, v)
+      expanded_or_queued v l d vd h le = by_truth (settled v)
+          (λ s.
           let r = front.in_tree v s in
           let e : r.0 ≡ l = same_Some r.0 l (sym r.1 ∙ h) in
-          let n : Node C = r.2.1 in
-          let at : Expanded ops S label v n.cost = subst (λ (x : ℕ). Expanded ops S label x n.cost) r.2.3 (expanded.each r.2.0 n r.2.2) in
-          let less : NoDearer ops n.cost d = subst (λ (x : C). NoDearer ops x d) (ap (λ (x : Label C). x.cost) (sym e) ∙ sym r.2.4) le in
-          Expanded-more label v n.cost d (node_valid r.2.0 n r.2.2) vd less at
+          inl (node_expanded v l d vd (subst (λ (x : Label C). HasNode tree v x.cost) e r.2) le))
+          (λ s. elim (front.queued v l s h) [ inl q ↦ inr q | inr q ↦ inl (node_expanded v l d vd q le) ])
 
       pub walk_far : (u z : ℕ) (c d : C) (vs : List ℕ) → ops.valid c → Path ops S u c vs z d → Expanded ops S label u c → Expanded ops S label z d ⊎ Far d
       walk_far u z c d [] k h e = inl (subst (λ (x : C). Expanded ops S label z x) (sym h.1) (subst (λ (x : ℕ). Expanded ops S label x c) (sym h.0) e))
@@ -67,9 +73,10 @@ module _ {C : Type 0} {ops : CostOps C} (laws : CostLaws ops) (S : Space C) (spa
           let step = h.1 in
           let found : LabelWithin ops label v h.0 = subst (λ (x : C). LabelWithin ops label v x) (sym step.2) (e.finds v step.0 step.1) in
           let valid : ops.valid h.0 = subst ops.valid (sym step.2) (laws.plus_valid c step.0 k (hop_valid u v step.0 step.1)) in
-          by_truth (settled v)
-          (λ s. walk_far v z h.0 d vs valid h.2 (settled_expanded v found.0 h.0 valid s found.1 found.2))
-          (λ s. inr (up found.0.cost d (far v found.0 s found.1) (le_trans laws found.0.cost h.0 d found.2 (Chain-grows laws hop_valid v z h.0 d vs valid h.2))))
+          elim (expanded_or_queued v found.0 h.0 valid found.1 found.2) [
+            | inl x ↦ walk_far v z h.0 d vs valid h.2 x
+            | inr q ↦ inr (up found.0.cost d (far v found.0 found.1 q) (le_trans laws found.0.cost h.0 d found.2 (Chain-grows laws hop_valid v z h.0 d vs valid h.2)))
+          ]
 
       module _ (starts_in : StartsIn S starts tree) where
         start_expanded : (s : Start C) → Contains starts s → S.May s.vertex → Expanded ops S label s.vertex s.cost

@@ -1,4 +1,4 @@
--- The tree with one node more, and the front of the search when a vertex is settled.
+-- The tree with nodes more, and the front of the search when a vertex is settled.
 use Rattle.std.proofs.Common.{◌≡◌, ℕ, zero, suc, ◌⊎◌, inl, inr, Bool, true, false, nat_eq, Option, Some, None, List, [], ◌∷◌, ◌++◌, length, refl, sym, ◌∙◌, ap, subst, true≢false, eq-eqb}
 use Rattle.std.specs.List.{Contains, slice_get}
 use Rattle.std.proofs.lemmas.Option.{same_Some, none-some}
@@ -9,10 +9,11 @@ use Rattle.step_search.specs.Spaces.{Space}
 use Rattle.search_queue.specs.Queued.{TakesLeast}
 use Rattle.search_labels.specs.Labelled.{changed, LabelWithin}
 use Rattle.search_labels.specs.ChangedLaws.{same_place, changed-here, changed-there}
-use Rattle.step_search.specs.Progress.{HasNode, ComesFrom, IsNode, IsTree, IsLabel, SettledWithin, Expanded, NodesExpanded, StartsIn, IsFront}
+use Rattle.step_search.specs.Progress.{HasNode, ComesFrom, IsNode, IsTree, IsLabel, LabelsFall, SettledWithin, Expanded, NodesExpanded, StartsIn, IsFront, TreeGrows}
 use Rattle.step_search.specs.Stepping.{node_of}
 use Rattle.search_labels.specs.declared.labels.Label.{Label}
 use Rattle.step_search.specs.declared.dijkstra.Node.{Node}
+use Rattle.step_search.proofs.Falls.{Expanded-falls}
 
 module _ {X : Type 0} where
   -- what a list has, it has with one more
@@ -38,29 +39,86 @@ module _ {C : Type 0} where
   pub HasNode-last : (tree : List (Node C)) (n : Node C) → HasNode (tree ++ n ∷ []) n.vertex n.cost
   HasNode-last tree n = (length tree, n, slice_get-last tree n, refl, refl)
 
-  pub StartsIn-left : (S : Space C) (starts : List (Start C)) (tree : List (Node C)) (n : Node C) → StartsIn S starts tree → StartsIn S starts (tree ++ n ∷ [])
-  StartsIn-left S starts tree n h = record { node = λ s k m. HasNode-left tree n s.vertex s.cost (h.node s k m) }
-
 module _ {C : Type 0} (ops : CostOps C) (S : Space C) where
-  ComesFrom-left : (starts : List (Start C)) (tree : List (Node C)) (n : Node C) (i : ℕ) (m : Node C) (o : Option ℕ) → ComesFrom ops S starts tree i m o → ComesFrom ops S starts (tree ++ n ∷ []) i m o
-  ComesFrom-left starts tree n i m None h = h
-  ComesFrom-left starts tree n i m (Some j) h = (h.0, h.1, slice_get-left tree n j h.1 h.2, h.3)
+  module _ (tree tree' : List (Node C)) (kept : (i : ℕ) (n : Node C) → slice_get tree i ≡ Some n → slice_get tree' i ≡ Some n) where
+    HasNode-kept : (u : ℕ) (c : C) → HasNode tree u c → HasNode tree' u c
+    HasNode-kept u c h = (h.0, h.1, kept h.0 h.1 h.2, h.3, h.4)
 
-  -- a node that is a walk of the tree so far makes it grow
-  pub IsTree-push : (starts : List (Start C)) (tree : List (Node C)) (n : Node C) → IsTree ops S starts tree → IsNode ops S starts tree (length tree) n → IsTree ops S starts (tree ++ n ∷ [])
-  IsTree-push starts tree n t h = record {
-    nodes = λ i m k. elim (slice_get-cases tree n i m k) [
-      | inl q ↦ let was = t.nodes i m q in record { vertex = was.vertex; units = was.units; from = ComesFrom-left starts tree n i m m.before was.from }
-      | inr q ↦ subst (λ (x : Node C). IsNode ops S starts (tree ++ n ∷ []) i x) q.1 (subst (λ (x : ℕ). IsNode ops S starts (tree ++ n ∷ []) x n) (sym q.0)
-          (record { vertex = h.vertex; units = h.units; from = ComesFrom-left starts tree n (length tree) n n.before h.from }))
-    ];
-  }
+    ComesFrom-kept : (starts : List (Start C)) (i : ℕ) (m : Node C) (o : Option ℕ) → ComesFrom ops S starts tree i m o → ComesFrom ops S starts tree' i m o
+    ComesFrom-kept starts i m None h = h
+    ComesFrom-kept starts i m (Some j) h = (h.0, h.1, kept j h.1 h.2, h.3)
 
-  pub NodesExpanded-push : (tree : List (Node C)) (n : Node C) (label : ℕ → Option (Label C)) → NodesExpanded ops S tree label → Expanded ops S label n.vertex n.cost → NodesExpanded ops S (tree ++ n ∷ []) label
-  NodesExpanded-push tree n label e h = record {
-    each = λ i m k. elim (slice_get-cases tree n i m k) [
-      | inl q ↦ e.each i m q
-      | inr q ↦ subst (λ (x : Node C). Expanded ops S label x.vertex x.cost) q.1 h
+    IsNode-kept : (starts : List (Start C)) (i : ℕ) (n : Node C) → IsNode ops S starts tree i n → IsNode ops S starts tree' i n
+    IsNode-kept starts i n h = record { vertex = h.vertex; units = h.units; from = ComesFrom-kept starts i n n.before h.from }
+
+  module _ (starts more : List (Start C)) (among : (s : Start C) → Contains starts s → Contains more s) where
+    ComesFrom-among : (tree : List (Node C)) (i : ℕ) (m : Node C) (o : Option ℕ) → ComesFrom ops S starts tree i m o → ComesFrom ops S more tree i m o
+    ComesFrom-among tree i m None h = (h.0, among h.0 h.1, h.2, h.3, h.4)
+    ComesFrom-among tree i m (Some j) h = h
+
+    -- more starts, and the tree has grown so still
+    pub TreeGrows-among : (label : ℕ → Option (Label C)) (tree tree' : List (Node C)) → TreeGrows ops S starts label tree tree' → TreeGrows ops S more label tree tree'
+    TreeGrows-among label tree tree' g = record {
+      kept = g.kept;
+      more = λ i n k. elim (g.more i n k) [
+        | inl q ↦ inl q
+        | inr q ↦ inr (record { vertex = q.0.vertex; units = q.0.units; from = ComesFrom-among tree' i n n.before q.0.from }, q.1)
+      ];
+    }
+
+  module _ (starts : List (Start C)) (label : ℕ → Option (Label C)) where
+    pub TreeGrows-same : (tree tree' : List (Node C)) → tree' ≡ tree → TreeGrows ops S starts label tree tree'
+    TreeGrows-same tree tree' e = record {
+      kept = λ i n k. ap (λ (t : List (Node C)). slice_get t i) e ∙ k;
+      more = λ i n k. inl (ap (λ (t : List (Node C)). slice_get t i) (sym e) ∙ k);
+    }
+
+    -- a tree that has grown behind a new node has grown by that node, too
+    pub TreeGrows-push : (tree tree' : List (Node C)) (n : Node C) → IsNode ops S starts tree (length tree) n → Expanded ops S label n.vertex n.cost → TreeGrows ops S starts label (tree ++ n ∷ []) tree' → TreeGrows ops S starts label tree tree'
+    TreeGrows-push tree tree' n h e g =
+        let kept : (i : ℕ) (m : Node C) → slice_get tree i ≡ Some m → slice_get tree' i ≡ Some m = λ i m k. g.kept i m (slice_get-left tree n i m k) in
+        record {
+          kept = kept;
+          more = λ i m k. elim (g.more i m k) [
+            | inl q ↦ elim (slice_get-cases tree n i m q) [
+              | inl r ↦ inl r
+              | inr r ↦ inr (
+                subst (λ (x : Node C). IsNode ops S starts tree' i x) r.1 (subst (λ (x : ℕ). IsNode ops S starts tree' x n) (sym r.0) (IsNode-kept tree tree' kept starts (length tree) n h)),
+                subst (λ (x : Node C). Expanded ops S label x.vertex x.cost) r.1 e,
+              )
+            ]
+            | inr q ↦ inr q
+          ];
+        }
+
+    module _ (tree tree' : List (Node C)) (g : TreeGrows ops S starts label tree tree') where
+      pub IsTree-grows : IsTree ops S starts tree → IsTree ops S starts tree'
+      IsTree-grows t = record {
+        nodes = λ i n k. elim (g.more i n k) [
+          | inl q ↦ IsNode-kept tree tree' g.kept starts i n (t.nodes i n q)
+          | inr q ↦ q.0
+        ];
+      }
+
+      pub NodesExpanded-grows : NodesExpanded ops S tree label → NodesExpanded ops S tree' label
+      NodesExpanded-grows e = record { each = λ i n k. elim (g.more i n k) [ inl q ↦ e.each i n q | inr q ↦ q.1 ] }
+
+      pub HasNode-grows : (u : ℕ) (c : C) → HasNode tree u c → HasNode tree' u c
+      HasNode-grows = HasNode-kept tree tree' g.kept
+
+      pub StartsIn-grows : (some : List (Start C)) → StartsIn S some tree → StartsIn S some tree'
+      StartsIn-grows some h = record { node = λ s k m. HasNode-grows s.vertex s.cost (h.node s k m) }
+
+  -- a tree that has grown while labels fall, and again
+  pub TreeGrows-trans : (laws : CostLaws ops) (starts : List (Start C)) (label label' : ℕ → Option (Label C)) → LabelsFall ops label label' → (a b c : List (Node C)) → TreeGrows ops S starts label a b → TreeGrows ops S starts label' b c → TreeGrows ops S starts label' a c
+  TreeGrows-trans laws starts label label' falls a b c g h = record {
+    kept = λ i n k. h.kept i n (g.kept i n k);
+    more = λ i n k. elim (h.more i n k) [
+      | inl q ↦ elim (g.more i n q) [
+        | inl r ↦ inl r
+        | inr r ↦ inr (IsNode-kept b c h.kept starts i n r.0, Expanded-falls laws S label label' n.vertex n.cost falls r.1)
+      ]
+      | inr q ↦ inr q
     ];
   }
 
@@ -71,7 +129,7 @@ module _ {C : Type 0} (ops : CostOps C) (S : Space C) where
   IsFront-push tree n label settled queue f = record {
     labelled = λ v l h. IsLabel-left tree n v l (f.labelled v l h);
     in_tree = λ v s. let r = f.in_tree v s in (r.0, r.1, HasNode-left tree n v r.0.cost r.2);
-    queued = f.queued;
+    queued = λ v l s h. elim (f.queued v l s h) [ inl q ↦ inl q | inr q ↦ inr (HasNode-left tree n v l.cost q) ];
     keys = f.keys;
     ordered = f.ordered;
   }
@@ -85,7 +143,7 @@ module _ {C : Type 0} {ops : CostOps C} (laws : CostLaws ops) (S : Space C) (tre
   pub taken_label : LabelWithin ops label v key
   taken_label = front.keys key v ((takes.taken (key, v)).1 (inl refl))
 
-  module _ (l : Label C) (has : label v ≡ Some l) where
+  module _ (l : Label C) (has : label v ≡ Some l) (at_key : NoDearer ops key l.cost) where
     -- and within what else stands in the queue
     pub label_least : (k : C) (u : ℕ) → Contains before (k, u) → NoDearer ops l.cost k
     label_least k u h =
@@ -96,7 +154,7 @@ module _ {C : Type 0} {ops : CostOps C} (laws : CostLaws ops) (S : Space C) (tre
     pub settle-within : SettledWithin ops label (changed settled v true) l.cost
     settle-within u m s h = elim (same_place v u) [
       | inl k ↦ let e : l ≡ m = same_Some l m (sym has ∙ ap label k ∙ h) in subst (λ (x : Label C). NoDearer ops x.cost l.cost) e (le_refl laws l.cost)
-      | inr k ↦ le_trans laws m.cost key l.cost (front.ordered key v ((takes.taken (key, v)).1 (inl refl)) u m (sym (changed-there settled v true u k) ∙ s) h) (takes.least (l.cost, v) (front.queued v l unsettled has))
+      | inr k ↦ le_trans laws m.cost key l.cost (front.ordered key v ((takes.taken (key, v)).1 (inl refl)) u m (sym (changed-there settled v true u k) ∙ s) h) at_key
     ]
 
     settle-ordered : (k : C) (u : ℕ) → Contains queue (k, u) → SettledWithin ops label (changed settled v true) k
@@ -105,12 +163,15 @@ module _ {C : Type 0} {ops : CostOps C} (laws : CostLaws ops) (S : Space C) (tre
       | inr e ↦ front.ordered k u ((takes.taken (k, u)).1 (inr h)) w m (sym (changed-there settled v true w e) ∙ s) g
     ]
 
-    settle-queued : (u : ℕ) (m : Label C) → changed settled v true u ≡ false → label u ≡ Some m → Contains queue (m.cost, u)
+    settle-queued : (u : ℕ) (m : Label C) → changed settled v true u ≡ false → label u ≡ Some m → Contains queue (m.cost, u) ⊎ HasNode (tree ++ node_of v l ∷ []) u m.cost
     settle-queued u m s h = elim (same_place v u) [
       | inl k ↦ absurd (true≢false (sym (changed-here settled v true u k) ∙ s))
-      | inr k ↦ elim ((takes.taken (m.cost, u)).0 (front.queued u m (sym (changed-there settled v true u k) ∙ s) h)) [
-        | inl e ↦ absurd (not_itself v u k (sym (ap (λ (p : C × ℕ). p.1) e)))
-        | inr q ↦ q
+      | inr k ↦ elim (front.queued u m (sym (changed-there settled v true u k) ∙ s) h) [
+        | inl q ↦ elim ((takes.taken (m.cost, u)).0 q) [
+          | inl e ↦ absurd (not_itself v u k (sym (ap (λ (p : C × ℕ). p.1) e)))
+          | inr r ↦ inl r
+        ]
+        | inr q ↦ inr (HasNode-left tree (node_of v l) u m.cost q)
       ]
     ]
 

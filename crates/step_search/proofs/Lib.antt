@@ -4,6 +4,7 @@ mod Bounded
 mod Falls
 mod Far
 mod Grown
+mod Led
 mod Offered
 mod Settled
 mod Taken

@@ -1,5 +1,5 @@
 -- Private to this crate: what holds of a search under way, over its tree of walks, its labels and its queue.
-use Rattle.std.specs.Prelude.{◌≡◌, ℕ, ◌<◌, ◌^◌, Bool, true, false, List, [], ◌∷◌, Option, Some, None}
+use Rattle.std.specs.Prelude.{◌≡◌, ℕ, ◌+◌, ◌<◌, ◌^◌, ◌⊎◌, Bool, true, false, List, [], ◌∷◌, Option, Some, None}
 use Rattle.std.specs.List.{Contains, slice_get}
 use Rattle.search_graph.specs.Costs.{CostOps, NoDearer}
 use Rattle.search_graph.specs.declared.ends.Start.{Start}
@@ -20,7 +20,7 @@ ComesFrom {C} ops S starts tree i n (Some j) = (j < i) × (m : Node C) × (slice
 -- the node n, at place i, stands for a walk from a start
 pub record IsNode {C : Type 0} (ops : CostOps C) (S : Space C) (starts : List (Start C)) (tree : List (Node C)) (i : ℕ) (n : Node C) : Type 0 where
   pub vertex : n.vertex < S.vertices
-  pub units : ops.units n.cost (2 ^ 30)
+  pub units : ops.units n.cost (2 ^ 30 + 2 ^ 29)
   pub from : ComesFrom ops S starts tree i n n.before
 
 -- each node stands for a walk from a start
@@ -53,18 +53,24 @@ pub record Expanded {C : Type 0} (ops : CostOps C) (S : Space C) (label : ℕ �
   pub finds : (v : ℕ) (s : C) → HasHop S u v s → LabelWithin ops label v (ops.plus c s)
 
 -- Each label is one hop behind a node; a settled vertex has a node at its label's cost; any other labelled vertex
--- stands in the queue with its label; an entry of the queue is no cheaper than its vertex's label, nor than any
--- settled vertex's.
+-- stands in the queue with its label, or has led on from a node at its label's cost; an entry of the queue is no cheaper
+-- than its vertex's label, nor than any settled vertex's.
 pub record IsFront {C : Type 0} (ops : CostOps C) (S : Space C) (tree : List (Node C)) (label : ℕ → Option (Label C)) (settled : ℕ → Bool) (queue : List (C × ℕ)) : Type 0 where
   pub labelled : (v : ℕ) (l : Label C) → label v ≡ Some l → IsLabel ops S tree v l
   pub in_tree : (v : ℕ) → settled v ≡ true → (l : Label C) × (label v ≡ Some l) × HasNode tree v l.cost
-  pub queued : (v : ℕ) (l : Label C) → settled v ≡ false → label v ≡ Some l → Contains queue (l.cost, v)
+  pub queued : (v : ℕ) (l : Label C) → settled v ≡ false → label v ≡ Some l → Contains queue (l.cost, v) ⊎ HasNode tree v l.cost
   pub keys : (k : C) (v : ℕ) → Contains queue (k, v) → LabelWithin ops label v k
   pub ordered : (k : C) (v : ℕ) → Contains queue (k, v) → SettledWithin ops label settled k
 
 -- each node is expanded
 pub record NodesExpanded {C : Type 0} (ops : CostOps C) (S : Space C) (tree : List (Node C)) (label : ℕ → Option (Label C)) : Type 0 where
   pub each : (i : ℕ) (n : Node C) → slice_get tree i ≡ Some n → Expanded ops S label n.vertex n.cost
+
+-- new is old and nodes behind it; each of those stands for a walk from one of these starts, or is one hop behind an
+-- earlier node, and is expanded
+pub record TreeGrows {C : Type 0} (ops : CostOps C) (S : Space C) (starts : List (Start C)) (label : ℕ → Option (Label C)) (old new : List (Node C)) : Type 0 where
+  pub kept : (i : ℕ) (n : Node C) → slice_get old i ≡ Some n → slice_get new i ≡ Some n
+  pub more : (i : ℕ) (n : Node C) → slice_get new i ≡ Some n → (slice_get old i ≡ Some n) ⊎ (IsNode ops S starts new i n × Expanded ops S label n.vertex n.cost)
 
 -- each of these starts where a path may begin has a node
 pub record StartsIn {C : Type 0} (S : Space C) (starts : List (Start C)) (tree : List (Node C)) : Type 0 where

@@ -1,13 +1,14 @@
 -- Private to this crate: what the private functions of the search do, one step each.
-use Rattle.std.specs.Prelude.{◌≡◌, ℕ, zero, suc, ◌+◌, ◌<◌, ◌^◌, ◌⊎◌, Bool, true, false, List, [], ◌∷◌, ◌++◌, Option, Some, None}
+use Rattle.std.specs.Prelude.{◌≡◌, ℕ, zero, suc, ◌+◌, ◌<◌, ◌^◌, ◌⊎◌, Bool, true, false, List, [], ◌∷◌, Option, Some, None}
 use Rattle.std.specs.List.{Contains, slice_get}
-use Rattle.search_graph.specs.Costs.{CostOps}
+use Rattle.std.specs.declared.cmp.Ordering.TheVariants.{Less}
+use Rattle.search_graph.specs.Costs.{CostOps, NoDearer}
 use Rattle.search_graph.specs.declared.ends.Start.{Start}
 use Rattle.step_search.specs.Spaces.{Space, IsSpace}
 use Rattle.search_queue.specs.Queued.{Adds, TakesLeast}
 use Rattle.search_labels.specs.Labelled.{label_of, settled_of, changed, LabelWithin, Improves}
 use Rattle.row_labels.specs.Rowed.{value_of}
-use Rattle.step_search.specs.Progress.{LabelsFall, SettledWithin, Expanded, IsFront}
+use Rattle.step_search.specs.Progress.{HasNode, LabelsFall, SettledWithin, IsFront, TreeGrows}
 use Rattle.search_labels.specs.declared.labels.Label.{Label}
 use Rattle.step_search.specs.declared.dijkstra.Node.{Node}
 use Rattle.step_search.specs.declared.dijkstra.Search.{Search}
@@ -35,7 +36,7 @@ pub record IsAtWork {C : Type 0} (ops : CostOps C) (S : Space C) (search : Searc
   pub front : IsFront ops S search.tree.items (label_of search.labels) (settled_of search.labels) search.queue
   pub here : slice_get search.tree.items at ≡ Some node
   pub vertex : node.vertex < S.vertices
-  pub units : ops.units node.cost (2 ^ 30)
+  pub units : ops.units node.cost (2 ^ 30 + 2 ^ 29)
   pub within : SettledWithin ops (label_of search.labels) (settled_of search.labels) node.cost
 
 -- only labels have fallen
@@ -44,17 +45,28 @@ pub record OnlyFalls {C : Type 0} (ops : CostOps C) (old new : Search C) : Type 
   pub settled : settled_of new.labels ≡ settled_of old.labels
   pub tree : new.tree.items ≡ old.tree.items
 
--- new is old without entries of vertices that are settled or have no label
-pub record Skips {C : Type 0} (label : ℕ → Option (Label C)) (settled : ℕ → Bool) (old new : List (C × ℕ)) : Type 0 where
-  pub fewer : (x : C × ℕ) → Contains new x → Contains old x
-  pub kept : (x : C × ℕ) (l : Label C) → Contains old x → settled x.1 ≡ false → label x.1 ≡ Some l → Contains new x
+-- only labels have fallen, and the tree has grown by walks from these starts, or behind earlier nodes
+pub record OnlyGrows {C : Type 0} (ops : CostOps C) (S : Space C) (starts : List (Start C)) (old new : Search C) : Type 0 where
+  pub falls : LabelsFall ops (label_of old.labels) (label_of new.labels)
+  pub settled : settled_of new.labels ≡ settled_of old.labels
+  pub tree : TreeGrows ops S starts (label_of new.labels) old.tree.items new.tree.items
 
--- v, which has the label l and isn't settled, was taken from the queue with the least key
+-- the entry of v at the key is passed over: v is settled, or has no label, or a cheaper one
+abbrev pub IsPassed : {C : Type 0} → CostOps C → (ℕ → Option (Label C)) → (ℕ → Bool) → C → ℕ → Type 0
+IsPassed {C} ops label settled key v = (settled v ≡ true) ⊎ ((label v ≡ None) ⊎ ((l : Label C) × (label v ≡ Some l) × (ops.cmp l.cost key ≡ Less)))
+
+-- new is old without entries that are passed over
+pub record Skips {C : Type 0} (ops : CostOps C) (label : ℕ → Option (Label C)) (settled : ℕ → Bool) (old new : List (C × ℕ)) : Type 0 where
+  pub fewer : (x : C × ℕ) → Contains new x → Contains old x
+  pub kept : (x : C × ℕ) (l : Label C) → Contains old x → settled x.1 ≡ false → label x.1 ≡ Some l → NoDearer ops x.0 l.cost → Contains new x
+
+-- v, which has the label l and isn't settled, was taken from the queue with the least key, which is no dearer than l
 pub record IsNearest {C : Type 0} (ops : CostOps C) (label : ℕ → Option (Label C)) (settled : ℕ → Bool) (old new : List (C × ℕ)) (v : ℕ) (l : Label C) : Type 0 where
   pub key : C
   pub before : List (C × ℕ)
-  pub skips : Skips label settled old before
+  pub skips : Skips ops label settled old before
   pub takes : TakesLeast ops before new (key, v)
+  pub at_key : NoDearer ops key l.cost
   pub unsettled : settled v ≡ false
   pub has : label v ≡ Some l
 
@@ -66,6 +78,7 @@ pub record IsTaken {C : Type 0} (ops : CostOps C) (S : Space C) (search : Search
   pub front : IsFront ops S search.tree.items (label_of search.labels) settled before
   pub key : C
   pub takes : TakesLeast ops before search.queue (key, v)
+  pub at_key : NoDearer ops key l.cost
   pub unsettled : settled v ≡ false
   pub settles : settled_of search.labels ≡ changed settled v true
   pub has : label_of search.labels v ≡ Some l
@@ -79,17 +92,10 @@ node_of v l = record { vertex = v; cost = l.cost; before = Some l.node }
 abbrev pub start_node : {C : Type 0} → Start C → Node C
 start_node s = record { vertex = s.vertex; cost = s.cost; before = None }
 
--- the node of v at its label l is new in the tree
-pub record PutsNode {C : Type 0} (ops : CostOps C) (old new : Search C) (v : ℕ) (l : Label C) : Type 0 where
-  pub grows : new.tree.items ≡ old.tree.items ++ node_of v l ∷ []
-  pub falls : LabelsFall ops (label_of old.labels) (label_of new.labels)
-  pub settled : settled_of new.labels ≡ settled_of old.labels
-
--- the search has begun at s: where a path may begin there, its node is new in the tree, and expanded
+-- the search has begun at s: where a path may begin there, its node is in the tree
 pub record Begins {C : Type 0} (ops : CostOps C) (S : Space C) (old new : Search C) (s : Start C) : Type 0 where
-  pub grows : (S.May s.vertex × (new.tree.items ≡ old.tree.items ++ start_node s ∷ []) × Expanded ops S (label_of new.labels) s.vertex s.cost) ⊎ ((¬ S.May s.vertex) × (new.tree.items ≡ old.tree.items))
-  pub falls : LabelsFall ops (label_of old.labels) (label_of new.labels)
-  pub settled : settled_of new.labels ≡ settled_of old.labels
+  pub grows : OnlyGrows ops S (s ∷ []) old new
+  pub node : S.May s.vertex → HasNode new.tree.items s.vertex s.cost
 
 -- one for a vertex that isn't settled
 abbrev pub one_if_open : Bool → ℕ

@@ -120,9 +120,9 @@ impl<C: Cost> Search<C> {
         Ok(())
     }
 
-    /// Goes on until `until` is settled, nothing is left to settle, or each path to what isn't settled costs `limit`
-    /// or more. It tells whether `until` is settled or can't be reached; else no path to it costs less than `limit`. It
-    /// ends in the error where memory runs out, and the search is then of no use any more.
+    /// Goes on until `until` is settled, nothing is left to settle, or each path to what isn't expanded costs `limit`
+    /// or more. It tells whether it is done with `until`; else no path to it costs less than `limit`. It ends in the error
+    /// where memory runs out, and the search is then of no use any more.
     ///
     /// `steps` and `starts` are those with which the search began.
     pub fn run_below<T: Steps<C>>(
@@ -140,7 +140,7 @@ impl<C: Cost> Search<C> {
     {
         while !self.labels.is_settled(until) {
             if self.queue.is_beyond(limit) {
-                return Ok(false);
+                return Ok(self.labels.is_within(until, limit));
             }
             if self.settle_next(steps, starts)?.is_none() {
                 return Ok(true);
@@ -149,8 +149,8 @@ impl<C: Cost> Search<C> {
         Ok(true)
     }
 
-    /// Goes on until one of the targets is settled, and gives the place among them of one that is, or `None` where
-    /// nothing is left to settle: then no path leads to any of them. It ends in the error where memory runs out, and
+    /// Goes on until one of the targets is settled, or nothing is left to settle, and gives the place among them of one that
+    /// it is done with, or `None` where no path leads to any of them. It ends in the error where memory runs out, and
     /// the search is then of no use any more.
     ///
     /// `steps` and `starts` are those with which the search began. Each vertex that it settles is compared with all
@@ -175,7 +175,7 @@ impl<C: Cost> Search<C> {
                 return Ok(Some(first));
             }
         }
-        Ok(None)
+        Ok(self.first_labelled(targets))
     }
 
     /// Goes on until it has a path to `until` that costs no more than `known`, than which no path to it costs less, or
@@ -304,6 +304,19 @@ impl<C: Cost> Search<C> {
     {
         for (place, target) in targets.iter().enumerate() {
             if self.labels.is_settled(*target) {
+                return Some(place);
+            }
+        }
+        None
+    }
+
+    // The place of the first of the targets that has a label, if one has.
+    fn first_labelled(&self, targets: &[u32]) -> Option<usize>
+        ensures some { IfSome result (λ k. (t : ℕ) × (slice_get targets.now k ≡ Some t)) }
+        ensures none { IfNone result ((t : ℕ) → Contains targets.now t → label_of self.now.labels t ≡ None) }
+    {
+        for (place, target) in targets.iter().enumerate() {
+            if self.labels.label(*target).is_some() {
                 return Some(place);
             }
         }

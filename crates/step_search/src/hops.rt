@@ -97,6 +97,21 @@ pub trait Steps<C: Narrow> {
         self.by_arc(v, i)
     }
 
+    /// Whether nothing but arcs leads out of `v`, where it is a head of the rows of this name. Then the row out of `v` has that
+    /// name too, and a search that comes to `v` by such a row goes on along its arcs at once, and doesn't queue it. The
+    /// answer may be no anywhere.
+    fn leads_on(&self, v: u32, row: (u32, u32)) -> bool
+        requires ready { ready self.now }
+        requires vertex { v < (space self.now).vertices }
+        requires row { (u : ℕ) × (u < (space self.now).vertices) × ((space self.now).row u ≡ row) }
+        ensures row { OnTrue result ((u : ℕ) → u < (space self.now).vertices → (space self.now).row u ≡ row → Contains ((space self.now).heads u) v → row ≡ (space self.now).row v) }
+        ensures arcs { OnTrue result ((u : ℕ) → u < (space self.now).vertices → (space self.now).row u ≡ row → Contains ((space self.now).heads u) v → (j : ℕ) (s : C) → ¬ (space self.now).Costs v j s) }
+    {
+        let _ = v;
+        let _ = row;
+        false
+    }
+
     /// Where the places of the row out of `v` lead, as `heads` gives it, to one who knows the row's name.
     fn heads_named(&self, v: u32, row: (u32, u32)) -> &[u32]
         requires ready { ready self.now }

@@ -1,13 +1,16 @@
 //! The settling of vertices: the nearest one is taken from the queue, and labels are offered along the hops out of it.
 
 ghost use Rattle.std.specs.Prelude.{◌≡◌, ℕ, ◌<◌, ◌^◌, [], true, false, length, Some, IfSome, IfNone, IfOk, OnOk};
+ghost use Rattle.std.specs.Bool.{OnTrue, OnFalse};
 ghost use Rattle.std.specs.List.{Contains, slice_get};
+ghost use Rattle.std.specs.declared.cmp.Ordering.TheVariants.{Less};
+ghost use Rattle.search_graph.specs.Costs.{NoDearer};
 ghost use Rattle.step_search.specs.Spaces.{HasHop};
 ghost use Rattle.search_labels.specs.Labelled.{label_of, settled_of, changed, LabelWithin};
 ghost use Rattle.row_labels.specs.Rowed.{value_of};
 ghost use Rattle.search_queue.specs.Queued.{Adds};
 ghost use Rattle.step_search.specs.Progress.{Expanded, IsFront, AreBounds};
-ghost use Rattle.step_search.specs.Stepping.{FewerOpen, IsAtWork, IsNearest, IsTaken, Offers, OnlyFalls, PutsNode, Skips};
+ghost use Rattle.step_search.specs.Stepping.{FewerOpen, IsAtWork, IsNearest, IsPassed, IsTaken, Offers, OnlyFalls, OnlyGrows, Skips};
 ghost use Rattle.step_search.specs.UnderWay.{IsUnderWay};
 
 use crate::dijkstra::{Node, Search};
@@ -15,7 +18,7 @@ use crate::hops::{Hop, Steps};
 use crate::links::Link;
 use cost_lists::CostRow;
 use search_graph::{Cost, Start};
-use search_labels::Label;
+use search_labels::{Label, Labels};
 use std::alloc::AllocError;
 
 // The places of a row: where each leads, and what it costs.
@@ -51,22 +54,21 @@ impl<C: Cost> Search<C> {
         }
     }
 
-    // Takes the entry of the least key whose vertex isn't settled, settles it, and gives it with
-    // its label.
+    // Takes the entry of the least key that isn't passed over, settles its vertex, and gives it with its label.
     #[inline(always)]
     fn nearest(&mut self) -> Option<(u32, Label<C>)>
         ensures some { IfSome result (λ x. IsNearest C.ops (label_of self.old.labels) (settled_of self.old.labels) self.old.queue self.new.queue x.0 x.1) }
         ensures settles { IfSome result (λ x. settled_of self.new.labels ≡ changed (settled_of self.old.labels) x.0 true) }
-        ensures none { IfNone result (Skips (label_of self.old.labels) (settled_of self.old.labels) self.old.queue self.new.queue) }
+        ensures none { IfNone result (Skips C.ops (label_of self.old.labels) (settled_of self.old.labels) self.old.queue self.new.queue) }
         ensures empty { IfNone result (self.new.queue ≡ []) }
         ensures same { IfNone result (settled_of self.new.labels ≡ settled_of self.old.labels) }
         ensures labels { label_of self.new.labels ≡ label_of self.old.labels }
         ensures tree { self.new.tree.items ≡ self.old.tree.items }
         ensures rows { self.new.rows ≡ self.old.rows }
     {
-        while let Some((_, v)) = self.queue.pop() {
-            if let Some(label) = self.labels.settle(v) {
-                return Some((v, label));
+        while let Some(entry) = self.queue.pop() {
+            if let Some(label) = settle_at(&mut self.labels, entry) {
+                return Some((entry.1, label));
             }
         }
         None
@@ -85,8 +87,7 @@ impl<C: Cost> Search<C> {
         requires taken { IsTaken C.ops (T.space steps.now) self.old v label }
         requires rows { AreBounds C.ops (T.space steps.now) (label_of self.old.labels) (value_of self.old.rows.rows) }
         ensures front { OnOk result (IsFront C.ops (T.space steps.now) self.new.tree.items (label_of self.new.labels) (settled_of self.new.labels) self.new.queue) }
-        ensures puts { OnOk result (PutsNode C.ops self.old self.new v label) }
-        ensures expanded { OnOk result (Expanded C.ops (T.space steps.now) (label_of self.new.labels) v label.cost) }
+        ensures grows { OnOk result (OnlyGrows C.ops (T.space steps.now) [] self.old self.new) }
         ensures rows { OnOk result (AreBounds C.ops (T.space steps.now) (label_of self.new.labels) (value_of self.new.rows.rows)) }
     {
         let at = self.tree.len();
@@ -109,9 +110,10 @@ impl<C: Cost> Search<C> {
     ) -> Result<(), AllocError>
         requires ready { T.ready steps.now }
         requires at_work { IsAtWork C.ops (T.space steps.now) self.old at node }
+        requires near { C.ops.units node.cost (2 ^ 30) }
         requires rows { AreBounds C.ops (T.space steps.now) (label_of self.old.labels) (value_of self.old.rows.rows) }
         ensures at_work { OnOk result (IsAtWork C.ops (T.space steps.now) self.new at node) }
-        ensures falls { OnOk result (OnlyFalls C.ops self.old self.new) }
+        ensures grows { OnOk result (OnlyGrows C.ops (T.space steps.now) [] self.old self.new) }
         ensures expanded { OnOk result (Expanded C.ops (T.space steps.now) (label_of self.new.labels) node.vertex node.cost) }
         ensures rows { OnOk result (AreBounds C.ops (T.space steps.now) (label_of self.new.labels) (value_of self.new.rows.rows)) }
     {
@@ -122,6 +124,7 @@ impl<C: Cost> Search<C> {
     }
 
     // Offers a label along each arc out of the node, whose row has this name.
+    #[inline(always)]
     fn expand_arcs<T: Steps<C>>(
         &mut self,
         steps: &T,
@@ -155,11 +158,12 @@ impl<C: Cost> Search<C> {
     ) -> Result<(), AllocError>
         requires ready { T.ready steps.now }
         requires at_work { IsAtWork C.ops (T.space steps.now) self.old at node }
+        requires near { C.ops.units node.cost (2 ^ 30) }
         requires rows { AreBounds C.ops (T.space steps.now) (label_of self.old.labels) (value_of self.old.rows.rows) }
         requires row { row ≡ (T.space steps.now).row node.vertex }
         requires same { (u : ℕ) → (T.space steps.now).row u ≡ (T.space steps.now).row node.vertex → (T.space steps.now).heads u ≡ (T.space steps.now).heads node.vertex }
         ensures at_work { OnOk result (IsAtWork C.ops (T.space steps.now) self.new at node) }
-        ensures falls { OnOk result (OnlyFalls C.ops self.old self.new) }
+        ensures grows { OnOk result (OnlyGrows C.ops (T.space steps.now) [] self.old self.new) }
         ensures found { OnOk result ((j w : ℕ) (s : _) → slice_get ((T.space steps.now).heads node.vertex) j ≡ Some w → (T.space steps.now).Costs node.vertex j s → LabelWithin C.ops (label_of self.new.labels) w (C.ops.plus node.cost s)) }
         ensures rows { OnOk result (AreBounds C.ops (T.space steps.now) (label_of self.new.labels) (value_of self.new.rows.rows)) }
     {
@@ -173,7 +177,7 @@ impl<C: Cost> Search<C> {
             heads,
             costs: &costs,
         };
-        self.offer_improved(steps, at, node, &places)?;
+        self.offer_improved(steps, at, node, row, &places)?;
         Ok(())
     }
 
@@ -183,22 +187,104 @@ impl<C: Cost> Search<C> {
         steps: &T,
         at: usize,
         node: Node<C>,
+        row: (u32, u32),
         places: &Places<C>,
     ) -> Result<(), AllocError>
+        requires ready { T.ready steps.now }
         requires at_work { IsAtWork C.ops (T.space steps.now) self.old at node }
+        requires near { C.ops.units node.cost (2 ^ 30) }
+        requires row { row ≡ (T.space steps.now).row node.vertex }
         requires heads { places.now.heads.now ≡ (T.space steps.now).heads node.vertex }
         requires costs { (j : ℕ) (s : _) → slice_get places.now.costs.now j ≡ Some (Some s) → (T.space steps.now).Costs node.vertex j s }
         requires within { (j : ℕ) → Contains self.old.rows.improved.items j → j < length places.now.heads.now }
         ensures at_work { OnOk result (IsAtWork C.ops (T.space steps.now) self.new at node) }
-        ensures falls { OnOk result (OnlyFalls C.ops self.old self.new) }
+        ensures grows { OnOk result (OnlyGrows C.ops (T.space steps.now) [] self.old self.new) }
         ensures rows { OnOk result (self.new.rows ≡ self.old.rows) }
         ensures found { OnOk result ((j w : ℕ) (s : _) → Contains self.old.rows.improved.items j → slice_get places.now.heads.now j ≡ Some w → slice_get places.now.costs.now j ≡ Some (Some s) → LabelWithin C.ops (label_of self.new.labels) w (C.ops.plus node.cost s)) }
     {
         for k in 0..self.rows.improved.len() {
             let place = self.rows.improved[k];
             let hop = hop_at(places.heads, places.costs, place);
-            self.relax(steps, at, node, hop)?;
+            self.go_by_row(steps, at, node, row, hop)?;
         }
+        Ok(())
+    }
+
+    // Goes along a hop of the node's row, which has this name, where that way is open: leads on from its head where nothing
+    // but arcs leads out of that, and else offers it a label.
+    #[inline(always)]
+    fn go_by_row<T: Steps<C>>(
+        &mut self,
+        steps: &T,
+        at: usize,
+        node: Node<C>,
+        row: (u32, u32),
+        hop: Option<Hop<C>>,
+    ) -> Result<(), AllocError>
+        requires ready { T.ready steps.now }
+        requires at_work { IsAtWork C.ops (T.space steps.now) self.old at node }
+        requires near { C.ops.units node.cost (2 ^ 30) }
+        requires row { row ≡ (T.space steps.now).row node.vertex }
+        requires hop { IfSome hop (λ h. HasHop (T.space steps.now) node.vertex h.head h.cost) }
+        requires head { IfSome hop (λ h. Contains ((T.space steps.now).heads node.vertex) h.head) }
+        ensures at_work { OnOk result (IsAtWork C.ops (T.space steps.now) self.new at node) }
+        ensures grows { OnOk result (OnlyGrows C.ops (T.space steps.now) [] self.old self.new) }
+        ensures found { OnOk result ((w : ℕ) (s : _) → hop ≡ Some (record { head = w; cost = s }) → LabelWithin C.ops (label_of self.new.labels) w (C.ops.plus node.cost s)) }
+        ensures rows { OnOk result (self.new.rows ≡ self.old.rows) }
+    {
+        match hop {
+            None => Ok(()),
+            Some(on) => {
+                if steps.leads_on(on.head, row) {
+                    self.lead_on(steps, at, node, row, on)?;
+                    return Ok(());
+                }
+                self.relax(steps, at, node, Some(on))?;
+                Ok(())
+            }
+        }
+    }
+
+    // Leads on from the head of a hop, whose row has this name, but no costs: where the hop improves its label, that is put,
+    // with its node in the tree, and labels are offered along its arcs. So the head is expanded at its label, and isn't
+    // queued: an entry at an older, dearer label is passed over.
+    #[inline(always)]
+    fn lead_on<T: Steps<C>>(
+        &mut self,
+        steps: &T,
+        at: usize,
+        node: Node<C>,
+        row: (u32, u32),
+        hop: Hop<C>,
+    ) -> Result<(), AllocError>
+        requires ready { T.ready steps.now }
+        requires at_work { IsAtWork C.ops (T.space steps.now) self.old at node }
+        requires near { C.ops.units node.cost (2 ^ 30) }
+        requires hop { HasHop (T.space steps.now) node.vertex hop.head hop.cost }
+        requires row { row ≡ (T.space steps.now).row hop.head }
+        requires arcs { (j : ℕ) (s : _) → ¬ (T.space steps.now).Costs hop.head j s }
+        ensures at_work { OnOk result (IsAtWork C.ops (T.space steps.now) self.new at node) }
+        ensures grows { OnOk result (OnlyGrows C.ops (T.space steps.now) [] self.old self.new) }
+        ensures found { OnOk result (LabelWithin C.ops (label_of self.new.labels) hop.head (C.ops.plus node.cost hop.cost)) }
+        ensures rows { OnOk result (self.new.rows ≡ self.old.rows) }
+    {
+        let paid = node.cost.plus(hop.cost);
+        if self.labels.is_within(hop.head, paid) {
+            return Ok(());
+        }
+        let here = self.tree.len();
+        let next = Node {
+            cost: paid,
+            vertex: hop.head,
+            before: Link::to(at)?,
+        };
+        self.tree.push(next)?;
+        let label = Label {
+            cost: paid,
+            node: at,
+        };
+        self.labels.put(hop.head, label)?;
+        self.expand_arcs(steps, here, next, row)?;
         Ok(())
     }
 
@@ -264,6 +350,31 @@ impl<C: Cost> Search<C> {
         self.queue.push(label.cost, v)?;
         Ok(())
     }
+}
+
+// Settles the vertex of an entry that was taken from the queue, and gives its label, unless the entry is passed over. A
+// vertex whose label is cheaper than the entry's key is settled already, or has led on since it was queued.
+#[inline(always)]
+fn settle_at<C: Cost>(labels: &mut Labels<C>, entry: (C, u32)) -> Option<Label<C>>
+    ensures label { label_of labels.new ≡ label_of labels.old }
+    ensures some { IfSome result (λ l. (label_of labels.old entry.1 ≡ Some l) × (settled_of labels.old entry.1 ≡ false) × NoDearer C.ops entry.0 l.cost × (settled_of labels.new ≡ changed (settled_of labels.old) entry.1 true)) }
+    ensures none { IfNone result (IsPassed C.ops (label_of labels.old) (settled_of labels.old) entry.0 entry.1) }
+    ensures same { IfNone result (settled_of labels.new ≡ settled_of labels.old) }
+{
+    let label = labels.label(entry.1)?;
+    if is_less(label.cost, entry.0) {
+        return None;
+    }
+    labels.settle(entry.1)
+}
+
+// Whether `a` is less than `b`.
+#[inline(always)]
+fn is_less<C: Cost>(a: C, b: C) -> bool
+    ensures yes { OnTrue result (C.ops.cmp a b ≡ Less) }
+    ensures no { OnFalse result (NoDearer C.ops b a) }
+{
+    a.cmp(&b).is_lt()
 }
 
 // The hop by a place of a row, where that has a cost.

@@ -1,1 +1,2 @@
+mod LeadingRing
 mod RingOfSix

@@ -1,1 +1,2 @@
 pub mod RingOfSix
+pub mod LeadingRing

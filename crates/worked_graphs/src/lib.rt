@@ -9,6 +9,8 @@ mod graphs;
 #[cfg(test)]
 mod heads;
 #[cfg(test)]
+mod leading;
+#[cfg(test)]
 mod plain;
 #[cfg(test)]
 mod rings;

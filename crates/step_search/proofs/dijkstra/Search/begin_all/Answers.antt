@@ -22,5 +22,5 @@ loop-start-preserved g c =
     record {
       begun = subst (λ ss. IsBegun g.C.Cost.ops (g.T.Steps.space c.args.steps.now) c.args.starts.now ss c.begin_at.new.self)
           (ap (λ x. take c.loop-start.start-index c.args.starts.now ++ x ∷ []) c.start-item.is ∙ sym (take_more c.args.starts.now c.loop-start.start-index c.start-item.result c.loop-start-test.true)) more;
-      unsettled = λ v. ap (λ f. f v) c.in_ok-begin_at.ensures.begins.settled ∙ c.loop-start.invariant.unsettled v;
+      unsettled = λ v. ap (λ f. f v) c.in_ok-begin_at.ensures.begins.grows.settled ∙ c.loop-start.invariant.unsettled v;
     }

@@ -1,11 +1,14 @@
--- The search is done with a vertex that is settled, and with each once the queue is empty.
-use Rattle.std.proofs.Common.{sym}
-use Rattle.step_search.proofs.Answered.{beyond, done_settled, done_empty, where_none}
+-- The search is done with a vertex that is settled, with each once the queue is empty, and with one whose label is within a limit that no key is below.
+use Rattle.step_search.proofs.Answered.{beyond_if_not, done_if_within, done_settled, done_empty, where_none}
 use Rattle.step_search.proofs.dijkstra.Search.run_below.Goals as goal
+
+pub returns-then-is_beyond-clause-done : goal.returns-then-is_beyond-clause-done
+returns-then-is_beyond-clause-done g c =
+    done_if_within g.met.C.Cost.laws (g.T.Steps.space c.args.steps.now) c.args.starts.now c.loop-limit.self c.loop-limit.invariant c.args.until c.args.limit c.if-is_beyond.ensures.yes c.is_within.result c.is_within.ensures.yes c.is_within.ensures.no
 
 pub returns-then-is_beyond-clause-beyond : goal.returns-then-is_beyond-clause-beyond
 returns-then-is_beyond-clause-beyond g c =
-    beyond g.met.C.Cost.laws (g.T.Steps.space c.args.steps.now) c.args.starts.now c.loop-limit.self c.loop-limit.invariant c.args.until c.args.limit (sym c.loop-limit-test.ensures) c.if-is_beyond.ensures.yes
+    beyond_if_not g.met.C.Cost.laws (g.T.Steps.space c.args.steps.now) c.args.starts.now c.loop-limit.self c.loop-limit.invariant c.args.until c.args.limit c.if-is_beyond.ensures.yes c.is_within.result c.is_within.ensures.yes c.is_within.ensures.no
 
 pub returns-then-is_none-clause-done : goal.returns-then-is_none-clause-done
 returns-then-is_none-clause-done g c =

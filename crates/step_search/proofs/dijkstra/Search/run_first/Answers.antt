@@ -1,8 +1,8 @@
--- The search is done with a target that is settled; once the queue is empty no path leads to those that aren't.
+-- The search is done with a target that is settled, and once the queue is empty with each; then no path leads to those without a label.
 use Rattle.std.proofs.Common.{inl, inr, true, refl, sym, ◌∙◌, ap}
 use Rattle.search_labels.specs.Labelled.{settled_of}
 use Rattle.search_labels.specs.ChangedLaws.{same_place, changed-here, changed-there}
-use Rattle.step_search.proofs.Answered.{done_settled, no_path_left}
+use Rattle.step_search.proofs.Answered.{done_empty, done_settled, no_path_left, IfNone-map, IfSome-map}
 use Rattle.step_search.proofs.dijkstra.Search.run_first.Goals as goal
 
 pub returns-in-Some-clause-first : goal.returns-in-Some-clause-first
@@ -32,7 +32,14 @@ loop-v-preserved g c =
       ];
     }
 
+pub returns-clause-first : goal.returns-clause-first
+returns-clause-first g c =
+    let S = g.T.Steps.space c.args.steps.now in
+    let end = c.settle_next.new.self in
+    IfSome-map c.first_labelled.result (λ k h. (h.0, h.1, done_empty g.met.C.Cost.laws S c.args.starts.now end c.in_ok-v.ensures.under_way h.0 (rw c.in_default-2.is at c.in_ok-v.ensures.empty))) c.first_labelled.ensures.some
+
 pub returns-clause-none : goal.returns-clause-none
-returns-clause-none g c = λ t h.
-    no_path_left g.met.C.Cost.laws (g.T.Steps.space c.args.steps.now) c.args.starts.now c.settle_next.new.self c.in_ok-v.ensures.under_way t (rw c.in_default-2.is at c.in_ok-v.ensures.empty)
-    (ap (λ f. f t) (rw c.in_default-2.is at c.in_ok-v.ensures.same) ∙ c.loop-v.invariant.unsettled t h)
+returns-clause-none g c =
+    let S = g.T.Steps.space c.args.steps.now in
+    let end = c.settle_next.new.self in
+    IfNone-map c.first_labelled.result (λ h t i. no_path_left g.met.C.Cost.laws S c.args.starts.now end c.in_ok-v.ensures.under_way t (rw c.in_default-2.is at c.in_ok-v.ensures.empty) (h t i)) c.first_labelled.ensures.none

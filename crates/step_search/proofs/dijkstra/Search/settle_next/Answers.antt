@@ -19,10 +19,10 @@ returns-in_ok-put_node-in-Some-clause-fewer g c =
     (still_tree g.met.C.Cost.laws (g.T.Steps.space c.args.steps.now) c.args.starts.now c.args.self.now c.requires.under_way c.nearest.new.self c.in-Some.ensures.labels c.in-Some.ensures.tree)
     (still_expanded g.met.C.Cost.laws (g.T.Steps.space c.args.steps.now) c.args.starts.now c.args.self.now c.requires.under_way c.nearest.new.self c.in-Some.ensures.labels c.in-Some.ensures.tree)
     (still_starts g.met.C.Cost.laws (g.T.Steps.space c.args.steps.now) c.args.starts.now c.args.self.now c.requires.under_way c.nearest.new.self c.in-Some.ensures.labels c.in-Some.ensures.tree)
-    taken c.in_ok-put_node-in-Some.ensures.puts c.args.self.now c.in-Some.ensures.some.unsettled (c.in_ok-put_node-in-Some.ensures.puts.settled ∙ c.in-Some.ensures.settles)
+    taken c.in_ok-put_node-in-Some.ensures.grows c.args.self.now c.in-Some.ensures.some.unsettled (c.in_ok-put_node-in-Some.ensures.grows.settled ∙ c.in-Some.ensures.settles)
 
 pub returns-in_ok-put_node-in-Some-clause-settles : goal.returns-in_ok-put_node-in-Some-clause-settles
-returns-in_ok-put_node-in-Some-clause-settles g c = c.in_ok-put_node-in-Some.ensures.puts.settled ∙ c.in-Some.ensures.settles
+returns-in_ok-put_node-in-Some-clause-settles g c = c.in_ok-put_node-in-Some.ensures.grows.settled ∙ c.in-Some.ensures.settles
 
 pub returns-in_ok-put_node-in-Some-clause-under_way : goal.returns-in_ok-put_node-in-Some-clause-under_way
 returns-in_ok-put_node-in-Some-clause-under_way g c =
@@ -31,7 +31,7 @@ returns-in_ok-put_node-in-Some-clause-under_way g c =
     (still_tree g.met.C.Cost.laws (g.T.Steps.space c.args.steps.now) c.args.starts.now c.args.self.now c.requires.under_way c.nearest.new.self c.in-Some.ensures.labels c.in-Some.ensures.tree)
     (still_expanded g.met.C.Cost.laws (g.T.Steps.space c.args.steps.now) c.args.starts.now c.args.self.now c.requires.under_way c.nearest.new.self c.in-Some.ensures.labels c.in-Some.ensures.tree)
     (still_starts g.met.C.Cost.laws (g.T.Steps.space c.args.steps.now) c.args.starts.now c.args.self.now c.requires.under_way c.nearest.new.self c.in-Some.ensures.labels c.in-Some.ensures.tree)
-    taken c.in_ok-put_node-in-Some.ensures.puts c.in_ok-put_node-in-Some.ensures.expanded c.in_ok-put_node-in-Some.ensures.rows
+    taken c.in_ok-put_node-in-Some.ensures.grows c.in_ok-put_node-in-Some.ensures.rows
 
 pub returns-in-None-clause-under_way : goal.returns-in-None-clause-under_way
 returns-in-None-clause-under_way g c =
