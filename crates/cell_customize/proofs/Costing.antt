@@ -7,12 +7,12 @@ use Rattle.search_graph.specs.Digraph.{Weighting}
 use Rattle.step_search.specs.Paths.{IsLeastPathCost}
 use Rattle.cell_frame.specs.declared.cells.Cell.{Cell}
 use Rattle.cell_frame.specs.Borders.{Framed, Holds, at_cell}
-use Rattle.cell_frame.specs.Cliqued.{Rows}
+use Rattle.cell_frame.specs.Cliqued.{CliqueLists}
 use Rattle.cell_frame.specs.Inside.{IsInsideValue}
 use Rattle.cell_customize.specs.Inner.{inner_space, IsInner}
 use Rattle.cell_customize.specs.InnerLaws.{inside_least, inside_none}
 
-pub inside_value : {C : Type 0} {ops : CostOps C} (laws : CostLaws ops) (f : Framed) (w : Weighting C) (cliques : List (Rows C)) (k : Cell) (inner : IsInner ops f w cliques k)
+pub inside_value : {C : Type 0} {ops : CostOps C} (laws : CostLaws ops) (f : Framed) (w : Weighting C) (cliques : CliqueLists C) (k : Cell) (inner : IsInner ops f w cliques k)
     (entry : ℕ) (among : Contains (at_cell f.entries k) entry) (exit : ℕ) (is : Contains (at_cell f.exits k) exit) (other : entry ≢ exit)
     (starts : List (Start C)) (one : starts ≡ record { vertex = entry; cost = ops.zero } ∷ []) (cost : Option C) →
     IsLeastPathCost ops (inner_space ops f w k) starts exit cost → IsInsideValue ops f.graph w (Holds f.cells k) entry exit cost

@@ -13,12 +13,12 @@ use Rattle.cut_walks.specs.Cutting.{run_valid, over_valid, goes_from_pass, pass_
 use Rattle.cut_walks.specs.Bounds.{Chain-few, pass_from_path, path_from_pass}
 use Rattle.cell_frame.specs.declared.cells.Cell.{Cell}
 use Rattle.cell_frame.specs.Borders.{Framed, Holds}
-use Rattle.cell_frame.specs.Cliqued.{Rows}
+use Rattle.cell_frame.specs.Cliqued.{CliqueLists}
 use Rattle.cell_frame.specs.Parts.{part_cut}
 use Rattle.cell_customize.specs.Inner.{inner_space, IsInner}
 use Rattle.cell_customize.specs.Leaping.{ArcHop, RowHop, IsJoinable}
 
-module _ {C : Type 0} {ops : CostOps C} (laws : CostLaws ops) (f : Framed) (w : Weighting C) (cliques : List (Rows C)) (k : Cell) (inner : IsInner ops f w cliques k) where
+module _ {C : Type 0} {ops : CostOps C} (laws : CostLaws ops) (f : Framed) (w : Weighting C) (cliques : CliqueLists C) (k : Cell) (inner : IsInner ops f w cliques k) where
   abbrev K : Cut C
   K = part_cut ops f.graph f.cells w (Holds f.cells k) (λ v. k.level - 1)
 
@@ -45,13 +45,13 @@ module _ {C : Type 0} {ops : CostOps C} (laws : CostLaws ops) (f : Framed) (w : 
   -- and a shortcut a place of a row
   row_of : (u v : ℕ) (s : C) → K.Shortcut u v s → RowHop S u v s
   row_of u v s h = elim ((inner.lawful.over u v s).1 (inr h)) [
-    | inl p ↦ absurd (p.1.7 h.1)
+    | inl p ↦ absurd (p.1.9 h.1)
     | inr p ↦ p
   ]
 
   -- an arc is a move, from one part to another
   move_of : (u v : ℕ) (s : C) → ArcHop S u v s → K.Hop u v s
-  move_of u v s p = (p.1.6, (p.1.0, p.1.1, (p.0, p.1.2, p.1.3), p.1.4, p.1.5))
+  move_of u v s p = (p.1.8, (p.1.1, p.1.2, (p.1.0, p.1.4, p.1.5), p.1.6, p.1.7))
 
   shortcut_units : (u v : ℕ) (s : C) → K.Shortcut u v s → ops.units s (f.graph.vertices * 2)
   shortcut_units u v s h =
@@ -89,7 +89,7 @@ module _ {C : Type 0} {ops : CostOps C} (laws : CostLaws ops) (f : Framed) (w : 
       let cut = inner.lawful.cut in
       let few : f.graph.vertices ≤ 2 ^ 27 = inner.small.few in
       let move : K.Hop x v t = move_of x v t arc in
-      let ends : MayEnd K x = elim (cut.joined_or_not x x) [ inl j ↦ inr (cut.leaves x v t move arc.1.7 j) | inr a ↦ inl a ] in
+      let ends : MayEnd K x = elim (cut.joined_or_not x x) [ inl j ↦ inr (cut.leaves x v t move arc.1.9 j) | inr a ↦ inl a ] in
       let pass : Passes ops K u vs x c = pass_from_path laws K cut S inner.lawful.over u x ops.zero c vs path in
       let vc : ops.valid c = Chain-valid laws (over_valid laws K cut) u x ops.zero c vs laws.zero_valid pass in
       let goes = goes_from_pass laws K cut u x ops.zero c vs laws.zero_valid pass in

@@ -10,7 +10,7 @@ use Rattle.step_search.specs.Spaces.{IsSpace}
 use Rattle.step_search.specs.Paths.{IsLeastPathCost}
 use Rattle.cell_frame.specs.declared.cells.Cell.{Cell}
 use Rattle.cell_frame.specs.Borders.{Framed, IsCell, Holds, at_cell, cell_of}
-use Rattle.cell_frame.specs.Cliqued.{Rows}
+use Rattle.cell_frame.specs.Cliqued.{CliqueLists}
 use Rattle.cell_frame.specs.Inside.{IsInsideValue}
 use Rattle.cell_frame.specs.PartSpace.{row_heads}
 use Rattle.cell_customize.specs.declared.local.Local.{Local}
@@ -28,7 +28,7 @@ use Rattle.cell_customize.proofs.Joined.{IsJoinable-inner}
 use Rattle.cell_customize.proofs.Leapt.{IsLeaping, IsSpace-leaps, cost_leapt}
 use Rattle.cell_customize.proofs.Renumbered.{IsSpace-renamed, IsJoinable-renamed, cost_renamed, none_renamed}
 
-module _ {C : Type 0} (ops : CostOps C) (f : Framed) (w : Weighting C) (cliques : List (Rows C)) (k : Cell) (inner : IsInner ops f w cliques k) where
+module _ {C : Type 0} (ops : CostOps C) (f : Framed) (w : Weighting C) (cliques : CliqueLists C) (k : Cell) (inner : IsInner ops f w cliques k) where
   exits_below : (u : ℕ) → u < f.graph.vertices → AreBelow f.graph.vertices (row_heads f (λ v. k.level - 1) u)
   exits_below u lt j v e = elim (eqb_tells (k.level - 1) 0) [
     | inl p ↦
@@ -70,7 +70,7 @@ module _ {C : Type 0} (ops : CostOps C) (f : Framed) (w : Weighting C) (cliques 
     pub IsSpace-small : IsSpace ops (small_space ops f w k local)
     IsSpace-small = IsSpace-numbered local filled.whole filled.distinct
 
-module _ {C : Type 0} {ops : CostOps C} (laws : CostLaws ops) (f : Framed) (w : Weighting C) (cliques : List (Rows C)) (k : Cell) (inner : IsInner ops f w cliques k) (local : Local C) (filled : IsFilled ops f w k local) (leaps : Leaps C) (leapt : IsLeapt ops f w k local leaps) where
+module _ {C : Type 0} {ops : CostOps C} (laws : CostLaws ops) (f : Framed) (w : Weighting C) (cliques : CliqueLists C) (k : Cell) (inner : IsInner ops f w cliques k) (local : Local C) (filled : IsFilled ops f w k local) (leaps : Leaps C) (leapt : IsLeapt ops f w k local leaps) where
   joinable : IsJoinable ops (small_space ops f w k local)
   joinable = IsJoinable-renamed ops (inner_space ops f w k) (small_space ops f w k local) local.numbers (renames ops f w cliques k inner local filled) (IsJoinable-inner laws f w cliques k inner)
 
@@ -89,7 +89,7 @@ module _ {C : Type 0} {ops : CostOps C} (laws : CostLaws ops) (f : Framed) (w : 
       (slice_get_within local.numbers start entry named) (leapt.goals exit until is aim) (λ same. other (same_Some entry exit (sym named ∙ ap (slice_get local.numbers) same ∙ aim))) cost h
 
 -- what the search finds under other numbers is the least cost inside the cell
-pub found_inside : {C : Type 0} {ops : CostOps C} (laws : CostLaws ops) (f : Framed) (w : Weighting C) (cliques : List (Rows C)) (k : Cell) (inner : IsInner ops f w cliques k) (local : Local C) → IsFilled ops f w k local →
+pub found_inside : {C : Type 0} {ops : CostOps C} (laws : CostLaws ops) (f : Framed) (w : Weighting C) (cliques : CliqueLists C) (k : Cell) (inner : IsInner ops f w cliques k) (local : Local C) → IsFilled ops f w k local →
     (entry : ℕ) → Contains (at_cell f.entries k) entry → (exit : ℕ) → Contains (at_cell f.exits k) exit → entry ≢ exit → (start until : ℕ) → slice_get local.numbers start ≡ Some entry → slice_get local.numbers until ≡ Some exit →
     (cost : Option C) → IsLeastPathCost ops (small_space ops f w k local) (record { vertex = start; cost = ops.zero } ∷ []) until cost → IsInsideValue ops f.graph w (Holds f.cells k) entry exit cost
 found_inside {C} {ops} laws f w cliques k inner local filled entry among exit is other start until named aim cost h =
@@ -98,7 +98,7 @@ found_inside {C} {ops} laws f w cliques k inner local filled entry among exit is
     (cost_renamed ops (inner_space ops f w k) (small_space ops f w k local) local.numbers renaming start entry named until exit aim cost h)
 
 -- and where the exit has no number there is no walk
-pub none_inside : {C : Type 0} {ops : CostOps C} (laws : CostLaws ops) (f : Framed) (w : Weighting C) (cliques : List (Rows C)) (k : Cell) (inner : IsInner ops f w cliques k) (local : Local C) → IsFilled ops f w k local →
+pub none_inside : {C : Type 0} {ops : CostOps C} (laws : CostLaws ops) (f : Framed) (w : Weighting C) (cliques : CliqueLists C) (k : Cell) (inner : IsInner ops f w cliques k) (local : Local C) → IsFilled ops f w k local →
     (entry : ℕ) → Contains (at_cell f.entries k) entry → (exit : ℕ) → Contains (at_cell f.exits k) exit → entry ≢ exit → (start : ℕ) → slice_get local.numbers start ≡ Some entry → ((b : ℕ) → ¬ (slice_get local.numbers b ≡ Some exit)) →
     IsInsideValue ops f.graph w (Holds f.cells k) entry exit None
 none_inside {C} {ops} laws f w cliques k inner local filled entry among exit is other start named none =

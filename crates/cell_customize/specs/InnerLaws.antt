@@ -12,7 +12,7 @@ use Rattle.cut_walks.specs.Cut.{Cut, MayEnd, AreAcross}
 use Rattle.cut_walks.specs.Answering.{only_one, goes_from_path, path_from_goes}
 use Rattle.cell_frame.specs.declared.cells.Cell.{Cell}
 use Rattle.cell_frame.specs.Borders.{Framed, Holds, IsEntry, at_cell}
-use Rattle.cell_frame.specs.Cliqued.{Rows}
+use Rattle.cell_frame.specs.Cliqued.{CliqueLists}
 use Rattle.cell_frame.specs.Inside.{IsMoveIn, IsInside, IsLeastInside}
 use Rattle.cell_frame.specs.Parts.{ShareCell, part_cut}
 use Rattle.cell_customize.specs.Inner.{inner_space, IsInner}
@@ -25,7 +25,7 @@ closed_none {C} ops g w In u v vs d none h = let e : ◌≡◌ {A = Option C} No
 pub one_is : {C : Type 0} (u : ℕ) {a b : C} → a ≡ b → ◌≡◌ {A = List (Start C)} (record { vertex = u; cost = a } ∷ []) (record { vertex = u; cost = b } ∷ [])
 one_is u e = cc
 
-module _ {C : Type 0} {ops : CostOps C} (laws : CostLaws ops) (f : Framed) (w : Weighting C) (cliques : List (Rows C)) (k : Cell) (inner : IsInner ops f w cliques k) (entry : ℕ) (among : Contains (at_cell f.entries k) entry) where
+module _ {C : Type 0} {ops : CostOps C} (laws : CostLaws ops) (f : Framed) (w : Weighting C) (cliques : CliqueLists C) (k : Cell) (inner : IsInner ops f w cliques k) (entry : ℕ) (among : Contains (at_cell f.entries k) entry) where
   abbrev the_start : Start C
   the_start = record { vertex = entry; cost = ops.zero }
 

@@ -12,7 +12,7 @@ use Rattle.search_graph.specs.Digraph.{Weighting}
 use Rattle.cell_partition.specs.Partition.{level_at}
 use Rattle.cell_frame.specs.declared.cells.Cell.{Cell}
 use Rattle.cell_frame.specs.Borders.{Framed, Holds, at_cell}
-use Rattle.cell_frame.specs.Cliqued.{Rows, HasRow, IsRow, AreExact}
+use Rattle.cell_frame.specs.Cliqued.{AreExact, CliqueLists, HasRow, IsRow, Rows, with_level}
 use Rattle.cell_frame.specs.Inside.{IsInsideValue}
 use Rattle.cell_customize.specs.Levels.{AreRows, IsClique, IsRowOf, AreMade, IsExactLevel, behind}
 use Rattle.cell_customize.specs.Slices.{range_in_front, range_behind, range_of_range}
@@ -174,18 +174,17 @@ module _ {C : Type 0} (ops : CostOps C) (f : Framed) (w : Weighting C) where
       let r : IsRowOf ops f w k rows k.number = subst (λ (z : Cell). IsRowOf ops f w z rows k.number) (cell_same k level (0 + k.number) e (sym number)) (all.each k.number few) in
       r i u entry
 
-  -- without levels nothing is asked
-  pub AreExact-none : AreExact ops f w [] 0
-  AreExact-none k i u is_cell low e = let some : 1 ≤ k.level = is_cell.0 in absurd (omega arith)
-
-  -- an exact level on top of exact ones
-  pub AreExact-push : (cliques : List (Rows C)) (top : ℕ) (new : Rows C) → length cliques ≡ top → AreExact ops f w cliques top → IsExactLevel ops f w new (top + 1) → AreExact ops f w (cliques ++ new ∷ []) (top + 1)
-  AreExact-push cliques top new count exact level k i u is_cell low e = elim (cases_lt top k.level) [
-    | inl lt ↦
-        let r = level k i u is_cell (omega arith) e in
-        let place : length cliques ≡ k.level - 1 = omega arith in
-        (r.0, record { rows = new; level = subst (λ (n : ℕ). slice_get (cliques ++ new ∷ []) n ≡ Some new) place (get_pushed cliques new); has = r.1 }, r.2)
-    | inr le ↦
-        let r = exact k i u is_cell le e in
-        (r.0, record { rows = r.1.rows; level = get_append cliques (new ∷ []) (k.level - 1) r.1.rows r.1.level; has = r.1.has }, r.2)
-  ]
+  -- with one level more they are exact up to it
+  pub AreExact-push : (cliques : CliqueLists C) (top : ℕ) (new : Rows C) → length cliques.rows ≡ top → AreExact ops f w cliques top → IsExactLevel ops f w new (top + 1) → AreExact ops f w (with_level cliques new) (top + 1)
+  AreExact-push cliques top new count exact level = record {
+    rows = λ k i u is_cell low e. elim (cases_lt top k.level) [
+      | inl lt ↦
+          let r = level k i u is_cell (omega arith) e in
+          let place : length cliques.rows ≡ k.level - 1 = omega arith in
+          (r.0, record { rows = new; level = subst (λ (n : ℕ). slice_get (cliques.rows ++ new ∷ []) n ≡ Some new) place (get_pushed cliques.rows new); has = r.1 }, r.2)
+      | inr le ↦
+          let r = exact.rows k i u is_cell le e in
+          (r.0, record { rows = r.1.rows; level = get_append cliques.rows (new ∷ []) (k.level - 1) r.1.rows r.1.level; has = r.1.has }, r.2)
+    ];
+    crossing = exact.crossing;
+  }

@@ -44,7 +44,7 @@ pub fn customize<C: Cost>(
     ensures { IfOk result (λ cliques. AreExact C.ops frame.now weights.now cliques (length frame.now.cells.levels)) }
 {
     let mut scratch = Scratch::new(alloc);
-    let mut cliques = Cliques::new(alloc);
+    let mut cliques = Cliques::new(alloc, frame, weights)?;
     for below in 0..frame.levels() {
         let level = level_cliques(alloc, frame, weights, &cliques, below + 1, &mut scratch)?;
         cliques.push(level)?;

@@ -134,7 +134,7 @@ pub fn customize_in_threads<C: Cost + Send + Sync>(
     requires weights { AreSmall C.ops frame.now.graph weights.now }
     ensures { IfOk result (λ cliques. AreExact C.ops frame.now weights.now cliques (length frame.now.cells.levels)) }
 {
-    let mut cliques = Cliques::new(alloc);
+    let mut cliques = Cliques::new(alloc, frame, weights)?;
     for below in 0..frame.levels() {
         let level = level_in_threads(rt, alloc, frame, weights, &cliques, below + 1)?;
         cliques.push(level)?;

@@ -14,6 +14,9 @@ use Rattle.cell_frame.specs.Borders.{Listed, list_at, list_of, at_cell, IsCell, 
 use Rattle.cell_frame.specs.Marks.{IsEnd, AreMarked, AreChosen}
 use Rattle.cell_frame.specs.Listing.{AreListed}
 use Rattle.cell_frame.specs.Bordering.{IsBorder, AreBorders}
+use Rattle.cell_frame.specs.Spots.{AreSpots}
+use Rattle.cell_frame.specs.declared.spots.Spots.{Spots}
+use Rattle.cell_frame.proofs.Leaving.{leaving_out, leaving_all}
 
 -- the lists of the marked vertices are those of the ends of arcs between cells
 pub IsBorder-listed : (g : Digraph) (p : Partition) (level : ℕ) (side : Side) (marks : List Bool) (chosen : List ℕ) (b : Listed) → p.vertices ≡ g.vertices →
@@ -89,9 +92,10 @@ module _ (g : Digraph) (p : Partition) where
   )
 
   -- a frame's lists
-  pub IsFramed-built : (entries exits : List Listed) → AllInRange g.vertices g.arcs → p.vertices ≡ g.vertices → IsKept p →
-      AreBorders g p Entries entries (length p.levels) → AreBorders g p Exits exits (length p.levels) → IsFramed (record { graph = g; cells = p; entries = entries; exits = exits })
-  IsFramed-built entries exits in_range same kept en ex = record {
+  pub IsFramed-built : (entries exits : List Listed) (known : Spots) → AllInRange g.vertices g.arcs → p.vertices ≡ g.vertices → IsKept p →
+      AreBorders g p Entries entries (length p.levels) → AreBorders g p Exits exits (length p.levels) → AreSpots g p entries known g.vertices →
+      IsFramed (record { graph = g; cells = p; entries = entries; exits = exits; crossings = known.crossings.items; spots = known.spots.items; tells = known.tells.items })
+  IsFramed-built entries exits known in_range same kept en ex spots = record {
     in_range = in_range;
     vertices = same;
     kept = kept;
@@ -107,4 +111,7 @@ module _ (g : Digraph) (p : Partition) where
         at_is exits k b.0 b.1 (λ (vs : List ℕ). Contains vs v ↔ IsExit g p k v) ((λ h. r.0 ((b.2.holds k.number v is_cell.2).0 h)), (λ h. (b.2.holds k.number v is_cell.2).1 (r.1 h)));
     entries_ascend = λ k is_cell. let b = border_at Entries entries en k is_cell in at_is entries k b.0 b.1 IsStrictlyIncreasing (b.2.ascends k.number is_cell.2);
     exits_ascend = λ k is_cell. let b = border_at Exits exits ex k is_cell in at_is exits k b.0 b.1 IsStrictlyIncreasing (b.2.ascends k.number is_cell.2);
+    arcs = spots.arcs;
+    out = λ level v i low high lv h. leaving_out g p entries known spots level v i low high lv h;
+    all = λ level v w arc low high lv is apart. leaving_all g p entries known spots level v w arc low high lv is apart;
   }

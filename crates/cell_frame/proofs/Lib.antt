@@ -1,8 +1,11 @@
 pub mod CellLists
+pub mod Costing
+pub mod Crossed
 pub mod Entering
 pub mod Framing
-pub mod Heights
 pub mod Known
+pub mod Leading
+pub mod Leaving
 pub mod Levels
 pub mod Marking
 pub mod Parting

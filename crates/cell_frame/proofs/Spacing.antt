@@ -5,7 +5,7 @@ use Rattle.std.proofs.lemmas.Option.{same_Some, slice_get_within}
 use Rattle.std.proofs.lemmas.Bool.Decides.{eqb_tells}
 use Rattle.list_lemmas.proofs.Gets.{get_Contains, get_some}
 use Rattle.search_graph.specs.Costs.{CostOps, CostLaws}
-use Rattle.search_graph.specs.Digraph.{Weighting, IsOpen}
+use Rattle.search_graph.specs.Digraph.{Weighting, IsArc, IsOpen}
 use Rattle.search_graph.specs.Walks.{IsMove}
 use Rattle.search_graph.specs.OrderLaws.{same_from_le}
 use Rattle.search_graph.specs.ChainLaws.{Chain-valid}
@@ -13,11 +13,11 @@ use Rattle.step_search.specs.Spaces.{HasHop}
 use Rattle.cut_walks.specs.Cut.{IsCut, IsSmall, OverHop, MayBegin}
 use Rattle.cut_walks.specs.Bounds.{IsSpace-over}
 use Rattle.cell_frame.specs.declared.cells.Cell.{Cell}
-use Rattle.cell_frame.specs.Borders.{Framed, IsFramed, Holds, IsCell, at_cell}
-use Rattle.cell_frame.specs.Cliqued.{Rows, AreExact}
+use Rattle.cell_frame.specs.Borders.{AreApart, Framed, IsFramed, Holds, IsCell, at_cell}
+use Rattle.cell_frame.specs.Cliqued.{AreExact, CliqueLists}
 use Rattle.cell_frame.specs.Inside.{IsMoveIn, IsLeastInside, IsInsideValue}
 use Rattle.cell_frame.specs.Parts.{whole_at, ShareCell, AreParts, part_cut}
-use Rattle.cell_frame.specs.PartSpace.{row_heads, part_space, IsLawful}
+use Rattle.cell_frame.specs.PartSpace.{NamesArc, row_heads, part_space, IsLawful}
 use Rattle.search_graph.specs.Weighted.{AreSmall}
 use Rattle.cell_frame.proofs.Parting.{IsCut-parts, AreValued}
 use Rattle.cell_frame.proofs.Levels.{IsCell-of}
@@ -46,7 +46,7 @@ module _ {C : Type 0} {ops : CostOps C} (laws : CostLaws ops) (f : Framed) (fram
       let vs : ops.valid s = least_inside_valid k u v s least in
       ap Some (same_from_le laws x s vx vs (some.least least.walk s least.leads) (least.least some.walk x some.leads))
 
-  module _ (In : ℕ → Type 0) (level : ℕ → ℕ) (parts : AreParts f.cells In level) (cliques : List (Rows C)) (top : ℕ) (exact : AreExact ops f w cliques top)
+  module _ (In : ℕ → Type 0) (level : ℕ → ℕ) (parts : AreParts f.cells In level) (cliques : CliqueLists C) (top : ℕ) (exact : AreExact ops f w cliques top)
       (high : (v : ℕ) → level v ≤ top) (most : top ≤ length f.cells.levels) where
     abbrev at : ℕ → Cell
     at u = whole_at f.cells level u
@@ -62,7 +62,7 @@ module _ {C : Type 0} {ops : CostOps C} (laws : CostLaws ops) (f : Framed) (fram
         let is_cell : IsCell f.cells (at u) = whole_is_cell u (held_below (at u) u enter.0) some in
         let e = get_Contains (at_cell f.entries (at u)) u ((framed.entries (at u) u is_cell).1 enter) in
         let x = get_Contains (at_cell f.exits (at u)) v ((framed.exits (at u) v is_cell).1 exit) in
-        let r = exact (at u) e.0 u is_cell (high u) e.1 in
+        let r = exact.rows (at u) e.0 u is_cell (high u) e.1 in
         let size : length r.0 ≡ length (at_cell f.exits (at u)) = r.2.size in
         let within : x.0 < length (at_cell f.exits (at u)) = slice_get_within (at_cell f.exits (at u)) x.0 v x.1 in
         let o = get_some r.0 x.0 (omega arith) in
@@ -79,13 +79,28 @@ module _ {C : Type 0} {ops : CostOps C} (laws : CostLaws ops) (f : Framed) (fram
 
     over_from_hop : (u v : ℕ) (s : C) → HasHop (part_space ops f w In level) u v s → OverHop (part_cut ops f.graph f.cells w In level) u v s
     over_from_hop u v s h = elim h [
-      | inl p ↦ inl (p.1.7, (p.1.6, (p.1.0, p.1.1, (p.0, p.1.2, p.1.3), p.1.4, p.1.5)))
+      | inl p ↦ inl (p.1.9, (p.1.8, (p.1.1, p.1.2, (p.1.0, p.1.4, p.1.5), p.1.6, p.1.7)))
       | inr p ↦ let same : p.2.0 ≡ v = same_Some p.2.0 v (sym p.2.1 ∙ p.1) in inr (subst (λ (x : ℕ). (part_cut ops f.graph f.cells w In level).Shortcut u x s) same p.2.2)
+    ]
+
+    -- an arc that leaves its part has a name
+    named : (u v arc : ℕ) → IsArc f.graph arc u v → (¬ ShareCell f.cells level u v) → (i : ℕ) × NamesArc f level u i arc
+    named u v arc is out = elim (eqb_tells (level u) 0) [
+      | inl p ↦ (arc, inl (p.1, refl))
+      | inr p ↦
+          let ne : level u ≢ 0 = p.1 in
+          let some : 1 ≤ level u = omega arith in
+          let le : level u ≤ top = high u in
+          let ends = framed.in_range arc u v is in
+          let n : f.cells.vertices ≡ f.graph.vertices = framed.vertices in
+          let apart : AreApart f.cells (level u) u v = λ same. out (some, (omega (arith, ends.0), refl), (omega (arith, ends.1), sym same)) in
+          let c = framed.all (level u) u v arc some (omega (arith, le, most)) ends.0 is apart in
+          (c.0, inr (some, c.1, c.2, c.3, c.4))
     ]
 
     hop_from_over : (u v : ℕ) (s : C) → OverHop (part_cut ops f.graph f.cells w In level) u v s → HasHop (part_space ops f w In level) u v s
     hop_from_over u v s h = elim h [
-      | inl p ↦ let m = p.1.1 in inl (m.2.0, (m.0, m.1, m.2.1, m.2.2, m.3, m.4, p.1.0, p.0))
+      | inl p ↦ let m = p.1.1 in let n = named u v m.2.0 m.2.1 p.0 in inl (n.0, (m.2.0, m.0, m.1, n.1, m.2.1, m.2.2, m.3, m.4, p.1.0, p.0))
       | inr p ↦
           let is_cell : IsCell f.cells (at u) = whole_is_cell u (held_below (at u) u p.1.1) p.1.0 in
           let x = get_Contains (at_cell f.exits (at u)) v ((framed.exits (at u) v is_cell).1 p.3) in

@@ -9,7 +9,7 @@ use Rattle.search_graph.specs.Digraph.{Weighting}
 use Rattle.cell_partition.specs.Partition.{Partition, level_at, number_of}
 use Rattle.cell_frame.specs.declared.cells.Cell.{Cell}
 use Rattle.cell_frame.specs.Borders.{Framed, IsFramed, Holds, IsCell, IsEntry, IsExit, at_cell, cell_of}
-use Rattle.cell_frame.specs.Cliqued.{Rows, HasCellRow, IsRow, AreExact}
+use Rattle.cell_frame.specs.Cliqued.{AreExact, CliqueLists, HasCellRow, IsRow, Rows}
 use Rattle.cell_frame.specs.Inside.{IsLeastInside}
 use Rattle.cell_frame.specs.Parts.{whole_at, AreParts, ShareCell, part_cut}
 use Rattle.cell_frame.specs.PartSpace.{row_heads, row_name, part_space}
@@ -69,7 +69,7 @@ get_nothing : {A : Type 0} (xs : List A) (j : ℕ) (x : A) → xs ≡ [] → ¬ 
 get_nothing {A} xs j x e h = let lt : j < length {A = A} [] = slice_get_within [] j x (ap (λ (ys : List A). slice_get ys j) (sym e) ∙ h) in omega arith
 
 -- a clique has one row at a place
-row_same : {C : Type 0} (f : Framed) (cliques : List (Rows C)) (k : Cell) (i : ℕ) (row other : List (Option C)) → HasCellRow f cliques k i row → HasCellRow f cliques k i other → row ≡ other
+row_same : {C : Type 0} (f : Framed) (cliques : CliqueLists C) (k : Cell) (i : ℕ) (row other : List (Option C)) → HasCellRow f cliques k i row → HasCellRow f cliques k i other → row ≡ other
 row_same {C} f cliques k i row other a b =
     let rows : a.rows ≡ b.rows = same_Some a.rows b.rows (sym a.level ∙ b.level) in
     let begins : slice_get b.rows.first k.number ≡ Some a.has.first = subst (λ (r : Rows C). slice_get r.first k.number ≡ Some a.has.first) rows a.has.begins in
@@ -79,7 +79,7 @@ row_same {C} f cliques k i row other a b =
     here ∙ ap (λ (n : ℕ). slice_range b.rows.values (n + i * width) (n + i * width + width)) first ∙ sym b.has.row_is
 
 module _ {C : Type 0} {ops : CostOps C} (laws : CostLaws ops) (f : Framed) (framed : IsFramed f) (w : Weighting C) (small : AreSmall ops f.graph w)
-    (In : ℕ → Type 0) (level : ℕ → ℕ) (parts : AreParts f.cells In level) (cliques : List (Rows C)) (top : ℕ) (exact : AreExact ops f w cliques top)
+    (In : ℕ → Type 0) (level : ℕ → ℕ) (parts : AreParts f.cells In level) (cliques : CliqueLists C) (top : ℕ) (exact : AreExact ops f w cliques top)
     (high : (v : ℕ) → level v ≤ top) (most : top ≤ length f.cells.levels) (u : ℕ) where
   -- where u is alone nothing costs
   pub costs_alone : level u ≡ 0 → (j : ℕ) (s : C) → ¬ (part_space ops f w In level).Costs u j s
@@ -105,11 +105,11 @@ module _ {C : Type 0} {ops : CostOps C} (laws : CostLaws ops) (f : Framed) (fram
     module _ (i : ℕ) (entry : slice_get (at_cell f.entries k) i ≡ Some u) where
       -- there is a row
       pub row_has : (row : List (Option C)) × HasCellRow f cliques k i row
-      row_has = let r = exact k i u is_cell at_top entry in (r.0, r.1)
+      row_has = let r = exact.rows k i u is_cell at_top entry in (r.0, r.1)
 
       module _ (row : List (Option C)) (has : HasCellRow f cliques k i row) where
         is_row : IsRow ops f w k u row
-        is_row = let r = exact k i u is_cell at_top entry in subst (IsRow ops f w k u) (row_same f cliques k i r.0 row r.1 has) r.2
+        is_row = let r = exact.rows k i u is_cell at_top entry in subst (IsRow ops f w k u) (row_same f cliques k i r.0 row r.1 has) r.2
 
         -- what it has is what its places cost
         pub costs_row : In u → (j : ℕ) (s : C) → slice_get row j ≡ Some (Some s) → (part_space ops f w In level).Costs u j s

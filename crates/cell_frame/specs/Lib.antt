@@ -2,7 +2,6 @@ pub mod Bordering
 pub mod Borders
 pub mod Cliqued
 pub mod Free
-pub mod Heights
 pub mod Inside
 pub mod Listing
 pub mod Marks

@@ -1,20 +1,18 @@
 //! A graph and its cells.
 
-ghost use Rattle.std.specs.Prelude.{◌≡◌, ℕ, ◌<◌, ◌≤◌, length, All, IfSome, IfNone, IfOk, Some, false, nat_eq};
-ghost use Rattle.std.specs.Bool.{OnTrue, OnFalse};
+ghost use Rattle.std.specs.Prelude.{◌≡◌, ℕ, ◌+◌, ◌<◌, ◌≤◌, ◌^◌, length, All, IfSome, IfNone, IfOk, Some, false, nat_eq};
 ghost use Rattle.std.specs.List.{Contains, slice_get, list_any};
 ghost use Rattle.cell_partition.specs.Partition.{level_at, number_of};
-ghost use Rattle.cell_frame.specs.Borders.{IsFramed, IsCell, at_cell, cell_of};
-ghost use Rattle.search_graph.specs.Digraph.{IsArc, Leaves};
-ghost use Rattle.cell_frame.specs.Heights.{AreApart};
+ghost use Rattle.cell_frame.specs.Borders.{IsFramed, IsCell, at_cell, cell_of, leaving_at, names_by};
+ghost use Rattle.cell_frame.specs.Spots.{TellsEntry};
 ghost use Rattle.cell_frame.specs.Free.{has_terminal, free_level, part_at};
 
 use crate::borders::Border;
 use crate::building::borders;
 use crate::cells::{Cell, Part};
-use crate::crossing::{are_apart, heights_of};
+use crate::crossings::Crossing;
 use crate::side::Side;
-use crate::spots::{Cut, Spots, spots_of};
+use crate::spots::{Cut, Spots, Tell, spots_of};
 use cell_partition::Cells;
 use search_graph::{ArcRow, Graph};
 use std::alloc::{AllocError, Global};
@@ -26,8 +24,6 @@ pub struct Frame {
     cells: Cells,
     entries: Vec<Border>,
     exits: Vec<Border>,
-    // for each arc the highest level at which its ends lie in different cells
-    heights: Vec<u8>,
     // what is known beforehand of each vertex
     spots: Spots,
 }
@@ -39,29 +35,26 @@ impl Drop for Frame {
             cells: _cells,
             entries: _entries,
             exits: _exits,
-            heights: _heights,
             spots: _spots,
         } = self;
     }
 }
 
 impl Model for Frame {
-    ghost use Rattle.std.specs.Prelude.{length};
     ghost use Rattle.cell_frame.specs.Borders.{Framed, IsFramed};
     ghost use Rattle.cell_frame.specs.Spots.{AreSpots};
-    ghost use Rattle.cell_frame.specs.Heights.{AreHeights};
 
     ghost Value = { Framed };
 
-    ghost view = { λ f. record { graph = f.graph; cells = f.cells; entries = f.entries.items; exits = f.exits.items } };
+    ghost view = { λ f. record { graph = f.graph; cells = f.cells; entries = f.entries.items; exits = f.exits.items; crossings = f.spots.crossings.items; spots = f.spots.spots.items; tells = f.spots.tells.items } };
 
-    ghost invariant = { λ f. IsFramed (record { graph = f.graph; cells = f.cells; entries = f.entries.items; exits = f.exits.items }) × AreHeights f.graph f.cells f.heights.items (length f.graph.arcs) × AreSpots f.graph f.cells f.entries.items f.spots f.graph.vertices };
+    ghost invariant = { λ f. IsFramed (record { graph = f.graph; cells = f.cells; entries = f.entries.items; exits = f.exits.items; crossings = f.spots.crossings.items; spots = f.spots.spots.items; tells = f.spots.tells.items }) × AreSpots f.graph f.cells f.entries.items f.spots f.graph.vertices };
 }
 
 impl Frame {
     /// The frame of a graph and its cells: a copy of the graph, and the entries and exits of each cell.
     ///
-    /// It takes a pass over the arcs and one over the vertices for each level, twice. It answers the error where memory
+    /// It takes a pass over the arcs and one over the vertices for each level, twice, and one over the vertices and their arcs. It answers the error where memory
     /// runs out.
     pub fn of(alloc: Global, graph: &Graph, cells: Cells) -> Result<Frame, AllocError>
         requires { cells.vertices ≡ graph.now.vertices }
@@ -72,19 +65,17 @@ impl Frame {
         let graph = graph.copy()?;
         let entries = borders(alloc, &graph, &cells, Side::Entries)?;
         let exits = borders(alloc, &graph, &cells, Side::Exits)?;
-        let heights = heights_of(alloc, &graph, &cells)?;
         let cut = Cut {
             graph: &graph,
             cells: &cells,
             entries: &entries,
         };
-        let spots = spots_of(alloc, &cut, &heights)?;
+        let spots = spots_of(alloc, &cut)?;
         Ok(Frame {
             graph,
             cells,
             entries,
             exits,
-            heights,
             spots,
         })
     }
@@ -131,18 +122,6 @@ impl Frame {
         Cell { level, number }
     }
 
-    /// Whether the ends of an arc lie in different cells of a level.
-    #[inline(always)]
-    pub fn crosses(&self, level: u32, arc: u32) -> bool
-        requires above { 1 ≤ level }
-        requires below { level ≤ length self.now.cells.levels }
-        requires arc { arc < length self.now.graph.arcs }
-        ensures yes { OnTrue result ((u v : ℕ) → IsArc self.now.graph arc u v → AreApart self.now.cells level u v) }
-        ensures no { OnFalse result ((u v : ℕ) → IsArc self.now.graph arc u v → ¬ AreApart self.now.cells level u v) }
-    {
-        are_apart(&self.heights, &self.graph, &self.cells, level, arc)
-    }
-
     /// The entries of a cell, ascending.
     pub fn entries(&self, cell: Cell) -> &[u32]
         requires { IsCell self.now.cells cell }
@@ -181,22 +160,44 @@ impl Frame {
         ensures some { IfSome result (λ i. slice_get (at_cell self.now.entries (cell_of self.now.cells level v)) i ≡ Some v) }
         ensures none { IfNone result (¬ Contains (at_cell self.now.entries (cell_of self.now.cells level v)) v) }
     {
-        self.spots.spot(v).place(&self.spots.words, level)
+        let tell = self.tell(level, v)?;
+        tell.entry()
     }
 
-    /// The arcs out of a vertex, of which some that stay in the cell of the vertex at a level may be left out.
+    /// The arcs between cells, vertex by vertex.
+    #[inline(always)]
+    pub fn crossings(&self) -> &[Crossing]
+        ensures { result.now ≡ self.now.crossings }
+    {
+        self.spots.crossings.as_slice()
+    }
+
+    /// Where among the arcs between cells those out of a vertex stand that lead to other cells of a level.
     #[inline(always)]
     pub fn leaving(&self, level: u32, v: u32) -> ArcRow<'_>
         requires above { 1 ≤ level }
         requires below { level ≤ length self.now.cells.levels }
         requires vertex { v < self.now.graph.vertices }
-        ensures out { (i : ℕ) → Contains result i → Leaves self.now.graph i v }
-        ensures all { (i w : ℕ) → IsArc self.now.graph i v w → AreApart self.now.cells level v w → Contains result i }
+        ensures { result ≡ leaving_at self.now level v }
     {
-        if self.spots.spot(v).is_low(&self.spots.words, level) {
-            return ArcRow::range(0, 0);
+        match self.tell(level, v) {
+            None => ArcRow::range(0, 0),
+            Some(tell) => ArcRow::range(tell.first, tell.count),
         }
-        self.graph.out(v)
+    }
+
+    // What is told of a vertex at a level.
+    #[inline(always)]
+    fn tell(&self, level: u32, v: u32) -> Option<Tell>
+        requires above { 1 ≤ level }
+        requires below { level ≤ length self.now.cells.levels }
+        requires vertex { v < self.now.graph.vertices }
+        ensures leaving { names_by result ≡ leaving_at self.now level v }
+        ensures few { IfSome result (λ t. t.first + t.count ≤ 2 ^ 32) }
+        ensures entered { IfSome result (λ t. TellsEntry self.now.cells self.now.entries v level t.place) }
+        ensures none { IfNone result (¬ Contains (at_cell self.now.entries (cell_of self.now.cells level v)) v) }
+    {
+        self.spots.spot(v).tell(&self.spots.tells, level)
     }
 
     /// The number of the cell of a vertex at the lowest level.

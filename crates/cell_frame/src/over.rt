@@ -2,10 +2,12 @@
 
 ghost use Rattle.std.specs.Prelude.{◌≡◌, ℕ, ◌<◌, ◌≤◌, ◌⊎◌, length, IfSome, IfNone, Some};
 ghost use Rattle.std.specs.Bool.{OnTrue, OnFalse};
-ghost use Rattle.search_graph.specs.Digraph.{IsArc, IsOpen};
+ghost use Rattle.std.specs.List.{slice_get};
+ghost use Rattle.search_graph.specs.Digraph.{IsArc, IsOpen, Leaves};
 ghost use Rattle.cell_frame.specs.Borders.{IsFramed, IsCell, IsEntry};
 ghost use Rattle.cell_frame.specs.Cliqued.{AreExact};
-ghost use Rattle.cell_frame.specs.Parts.{ShareCell, whole_at};
+ghost use Rattle.cell_frame.specs.Parts.{whole_at};
+ghost use Rattle.cell_frame.specs.declared.crossings.Crossing.{Crossing};
 ghost use Rattle.cell_frame.specs.PartSpace.{part_space, row_name, IsLawful};
 ghost use Rattle.search_graph.specs.Weighted.{AreSmall};
 
@@ -60,21 +62,48 @@ impl<'a, C: Cost, P: Parts> Over<'a, C, P> {
         Some(Cell { level, number })
     }
 
-    // Whether an arc from `v` to `head` stays in the part of `v`, which has this name, and that is a cell.
+    // The hop by an arc out of a vertex that is alone.
     #[inline(always)]
-    fn stays(&self, v: u32, row: (u32, u32), arc: u32, head: u32) -> bool
+    fn along(&self, v: u32, arc: u32) -> Option<Hop<C>>
+        requires weights { AreSmall C.ops self.now.frame.now.graph self.now.weights.now }
         requires ready { P.ready self.now.parts.now self.now.frame.now }
-        requires vertex { v < self.now.frame.now.graph.vertices }
-        requires row { row ≡ row_name self.now.frame.now (P.level self.now.parts.now self.now.frame.now) v }
-        requires arc { IsArc self.now.frame.now.graph arc v head }
-        requires head { head < self.now.frame.now.graph.vertices }
-        ensures yes { OnTrue result (ShareCell self.now.frame.now.cells (P.level self.now.parts.now self.now.frame.now) v head) }
-        ensures no { OnFalse result (¬ ShareCell self.now.frame.now.cells (P.level self.now.parts.now self.now.frame.now) v head) }
+        requires leaves { Leaves self.now.frame.now.graph arc v }
+        ensures some { IfSome result (λ h. (a : C) × (x : C) × IsArc self.now.frame.now.graph arc v h.head × (slice_get self.now.weights.now.arc arc ≡ Some a) × IsOpen self.now.weights.now h.head x × (h.cost ≡ C.ops.plus a x) × P.within self.now.parts.now self.now.frame.now h.head) }
+        ensures all { (w : ℕ) (a x : C) → IsArc self.now.frame.now.graph arc v w → slice_get self.now.weights.now.arc arc ≡ Some a → IsOpen self.now.weights.now w x → P.within self.now.parts.now self.now.frame.now w → result ≡ Some (record { head = w; cost = C.ops.plus a x }) }
     {
         self.frame.known();
-        match self.part_named(v, row) {
-            None => false,
-            Some(part) => !self.frame.crosses(part.level, arc),
+        let _ = v;
+        let head = self.frame.graph().arc(arc).1;
+        if !self.parts.within(self.frame, head) {
+            return None;
+        }
+        match self.weights.vertex(head) {
+            None => None,
+            Some(cost) => {
+                let cost = self.weights.arc(arc).plus(cost);
+                Some(Hop { head, cost })
+            }
+        }
+    }
+
+    // The hop by an arc between cells, by its place among these.
+    #[inline(always)]
+    fn across(&self, i: u32) -> Option<Hop<C>>
+        requires weights { AreSmall C.ops self.now.frame.now.graph self.now.weights.now }
+        requires cliques { AreExact C.ops self.now.frame.now self.now.weights.now self.now.cliques.now (P.top self.now.parts.now self.now.frame.now) }
+        requires ready { P.ready self.now.parts.now self.now.frame.now }
+        requires arc { i < length self.now.frame.now.crossings }
+        ensures some { IfSome result (λ h. (c : Crossing) × (a : C) × (x : C) × (slice_get self.now.frame.now.crossings i ≡ Some c) × (h.head ≡ c.head) × (slice_get self.now.weights.now.arc c.arc ≡ Some a) × IsOpen self.now.weights.now c.head x × (h.cost ≡ C.ops.plus a x) × P.within self.now.parts.now self.now.frame.now c.head) }
+        ensures all { (c : Crossing) (a x : C) → slice_get self.now.frame.now.crossings i ≡ Some c → slice_get self.now.weights.now.arc c.arc ≡ Some a → IsOpen self.now.weights.now c.head x → P.within self.now.parts.now self.now.frame.now c.head → result ≡ Some (record { head = c.head; cost = C.ops.plus a x }) }
+    {
+        self.frame.known();
+        let head = self.frame.crossings()[i as usize].head;
+        if !self.parts.within(self.frame, head) {
+            return None;
+        }
+        match self.cliques.crossing(i) {
+            None => None,
+            Some(cost) => Some(Hop { head, cost }),
         }
     }
 }
@@ -125,7 +154,7 @@ impl<'a, C: Cost, P: Parts> Steps<C> for Over<'a, C, P> {
     }
 
     fn arcs(&self, v: u32) -> ArcRow<'_> {
-        self.frame.graph().out(v)
+        self.arcs_named(v, self.row(v))
     }
 
     fn by_arc(&self, v: u32, i: u32) -> Option<Hop<C>> {
@@ -147,6 +176,7 @@ impl<'a, C: Cost, P: Parts> Steps<C> for Over<'a, C, P> {
 
     fn arcs_named(&self, v: u32, row: (u32, u32)) -> ArcRow<'_> {
         self.frame.known();
+        self.parts.known(self.frame);
         match self.part_named(v, row) {
             None => self.frame.graph().out(v),
             Some(part) => self.frame.leaving(part.level, v),
@@ -156,19 +186,24 @@ impl<'a, C: Cost, P: Parts> Steps<C> for Over<'a, C, P> {
     #[inline(always)]
     fn by_arc_named(&self, v: u32, row: (u32, u32), i: u32) -> Option<Hop<C>> {
         self.frame.known();
-        let head = self.frame.graph().arc(i).1;
-        if !self.parts.within(self.frame, head) {
-            return None;
+        self.parts.known(self.frame);
+        match self.part_named(v, row) {
+            None => self.along(v, i),
+            Some(_) => self.across(i),
         }
-        if self.stays(v, row, i, head) {
-            return None;
+    }
+
+    #[inline(always)]
+    fn leads_on(&self, v: u32, row: (u32, u32)) -> bool {
+        self.frame.known();
+        self.parts.known(self.frame);
+        let (level, _) = row;
+        if level == 0 {
+            return false;
         }
-        match self.weights.vertex(head) {
-            None => None,
-            Some(cost) => {
-                let cost = self.weights.arc(i).plus(cost);
-                Some(Hop { head, cost })
-            }
+        match self.frame.entry_at(level, v) {
+            Some(_) => false,
+            None => true,
         }
     }
 

@@ -10,7 +10,7 @@ use Rattle.search_graph.specs.Walks.{Chain, Paying}
 use Rattle.cell_partition.specs.Partition.{level_at}
 use Rattle.cell_frame.specs.declared.cells.Cell.{Cell}
 use Rattle.cell_frame.specs.Borders.{Framed, Holds, IsCell, at_cell}
-use Rattle.cell_frame.specs.Cliqued.{Rows, HasRow, HasCellRow, HasCellClique, IsRow, AreExact}
+use Rattle.cell_frame.specs.Cliqued.{AreExact, CliqueLists, HasCellClique, HasCellRow, HasRow, IsRow, Rows}
 use Rattle.cell_frame.specs.Inside.{IsMoveIn, IsInside, IsInsideValue}
 use Rattle.cell_customize.specs.Levels.{IsClique}
 use Rattle.cell_customize.specs.Slices.{range_of_range}
@@ -59,12 +59,12 @@ AgreeIn-untouched f before after vertices arcs k differ free = record {
   arc = λ i u v is tail head. differ.arc i (λ listed. free (inr (i, u, v, listed, is, tail, head)));
 }
 
-module _ {C : Type 0} (ops : CostOps C) (f : Framed) (w : Weighting C) (old : List (Rows C)) (vertices arcs : List ℕ) (were : WereExact ops f w old vertices arcs) where
+module _ {C : Type 0} (ops : CostOps C) (f : Framed) (w : Weighting C) (old : CliqueLists C) (vertices arcs : List ℕ) (were : WereExact ops f w old vertices arcs) where
   -- the old rows of an untouched cell are exact
   HasExactRows-untouched : (k : Cell) → IsCell f.cells k → ¬ IsTouched f vertices arcs k → HasExactRows ops f w old k
   HasExactRows-untouched k is_cell free i u e =
       let agree : AgreeIn f.graph (Holds f.cells k) were.0 w = AgreeIn-untouched f were.0 w vertices arcs k were.1 free in
-      let r = were.2 k i u is_cell is_cell.1 e in
+      let r = were.2.rows k i u is_cell is_cell.1 e in
       let row : IsRow ops f were.0 k u r.0 = r.2 in
       (r.0, r.1, record { size = row.size; each = λ j v o ex er. value_same ops f.graph (Holds f.cells k) were.0 w agree u v o (row.each j v o ex er) })
 
@@ -76,7 +76,7 @@ module _ {C : Type 0} (ops : CostOps C) (f : Framed) (w : Weighting C) (old : Li
       HasExactRows-untouched (record { level = level; number = n }) (above, below, low) (λ touched. true≢false (same_Some true false (sym (marked.found n low touched) ∙ e)))
 
   -- so where the marks are those of the changes, a level can be made
-  pub IsPrepared-marked : AreSmall ops f.graph w → (cliques : List (Rows C)) (below : ℕ) (marks : List Bool) → below + 1 ≤ length f.cells.levels → AreExact ops f w cliques below → AreMarked f vertices arcs (below + 1) marks →
+  pub IsPrepared-marked : AreSmall ops f.graph w → (cliques : CliqueLists C) (below : ℕ) (marks : List Bool) → below + 1 ≤ length f.cells.levels → AreExact ops f w cliques below → AreMarked f vertices arcs (below + 1) marks →
       IsPrepared ops f w old cliques marks (below + 1)
   IsPrepared-marked small cliques below marks within exact marked =
       let same : below ≡ below + 1 - 1 = omega arith in
@@ -103,20 +103,20 @@ HasRow-same rows n i width a b h g =
     let first : h.first ≡ g.first = same_Some h.first g.first (sym h.begins ∙ g.begins) in
     h.row_is ∙ ap (λ (x : ℕ). slice_range rows.values (x + i * width) (x + i * width + width)) first ∙ sym g.row_is
 
-HasCellRow-same : {C : Type 0} (f : Framed) (cliques : List (Rows C)) (k : Cell) (i : ℕ) (a b : List (Option C)) → HasCellRow f cliques k i a → HasCellRow f cliques k i b → a ≡ b
+HasCellRow-same : {C : Type 0} (f : Framed) (cliques : CliqueLists C) (k : Cell) (i : ℕ) (a b : List (Option C)) → HasCellRow f cliques k i a → HasCellRow f cliques k i b → a ≡ b
 HasCellRow-same {C} f cliques k i a b h g =
     let rows : h.rows ≡ g.rows = same_Some h.rows g.rows (sym h.level ∙ g.level) in
     HasRow-same g.rows k.number i (length (at_cell f.exits k)) a b (subst (λ (r : Rows C). HasRow r k.number i (length (at_cell f.exits k)) a) rows h.has) g.has
 
 -- so each row that is found is exact
-pub exact_row : {C : Type 0} (ops : CostOps C) (f : Framed) (w : Weighting C) (old : List (Rows C)) (k : Cell) (i u : ℕ) (row : List (Option C)) →
+pub exact_row : {C : Type 0} (ops : CostOps C) (f : Framed) (w : Weighting C) (old : CliqueLists C) (k : Cell) (i u : ℕ) (row : List (Option C)) →
     HasExactRows ops f w old k → slice_get (at_cell f.entries k) i ≡ Some u → HasCellRow f old k i row → IsRow ops f w k u row
 exact_row {C} ops f w old k i u row exact e has =
     let r = exact i u e in
     subst (λ (x : List (Option C)). IsRow ops f w k u x) (HasCellRow-same f old k i r.0 row r.1 has) r.2
 
 -- the rows of a cell that has entries make a clique
-pub clique_found : {C : Type 0} (ops : CostOps C) (f : Framed) (w : Weighting C) (old : List (Rows C)) (k : Cell) (last u : ℕ) →
+pub clique_found : {C : Type 0} (ops : CostOps C) (f : Framed) (w : Weighting C) (old : CliqueLists C) (k : Cell) (last u : ℕ) →
     HasExactRows ops f w old k → slice_get (at_cell f.entries k) last ≡ Some u → last + 1 ≡ length (at_cell f.entries k) → (values : List (Option C)) × HasCellClique f old k values
 clique_found ops f w old k last u exact e all =
     let width : ℕ = length (at_cell f.exits k) in
@@ -128,7 +128,7 @@ clique_found ops f w old k last u exact e all =
     (slice_range rows.values first (first + count * width), record { rows = rows; level = r.level; has = record { first = first; begins = r.has.begins; within = omega (arith, r.has.within, end); values_are = refl } })
 
 -- each row is a part of the clique
-row_of_clique : {C : Type 0} (f : Framed) (old : List (Rows C)) (k : Cell) (values : List (Option C)) (i : ℕ) → HasCellClique f old k values → i < length (at_cell f.entries k) →
+row_of_clique : {C : Type 0} (f : Framed) (old : CliqueLists C) (k : Cell) (values : List (Option C)) (i : ℕ) → HasCellClique f old k values → i < length (at_cell f.entries k) →
     HasCellRow f old k i (slice_range values (i * length (at_cell f.exits k)) (i * length (at_cell f.exits k) + length (at_cell f.exits k)))
 row_of_clique f old k values i h lt =
     let width : ℕ = length (at_cell f.exits k) in
@@ -147,7 +147,7 @@ row_of_clique f old k values i h lt =
     }
 
 -- so the clique that is found is exact
-pub exact_clique : {C : Type 0} (ops : CostOps C) (f : Framed) (w : Weighting C) (old : List (Rows C)) (k : Cell) (values : List (Option C)) →
+pub exact_clique : {C : Type 0} (ops : CostOps C) (f : Framed) (w : Weighting C) (old : CliqueLists C) (k : Cell) (values : List (Option C)) →
     HasExactRows ops f w old k → HasCellClique f old k values → IsClique ops f w k values
 exact_clique ops f w old k values exact h =
     let width : ℕ = length (at_cell f.exits k) in

@@ -6,7 +6,7 @@ use Rattle.search_graph.specs.Costs.{CostOps}
 use Rattle.search_graph.specs.Digraph.{Weighting, IsArc}
 use Rattle.cell_frame.specs.declared.cells.Cell.{Cell}
 use Rattle.cell_frame.specs.Borders.{Framed, Holds, IsCell, at_cell}
-use Rattle.cell_frame.specs.Cliqued.{Rows, AreExact}
+use Rattle.cell_frame.specs.Cliqued.{AreExact, CliqueLists}
 
 -- two weightings give one cost to each vertex but these and to each arc but these
 pub record DifferOnlyAt {C : Type 0} (before after : Weighting C) (vertices arcs : List ℕ) : Type 0 where
@@ -14,7 +14,7 @@ pub record DifferOnlyAt {C : Type 0} (before after : Weighting C) (vertices arcs
   pub arc : (i : ℕ) → ¬ Contains arcs i → slice_get before.arc i ≡ slice_get after.arc i
 
 -- the cliques of all levels are exact for weights that differ from w only there
-abbrev pub WereExact : {C : Type 0} → CostOps C → Framed → Weighting C → List (Rows C) → List ℕ → List ℕ → Type 0
+abbrev pub WereExact : {C : Type 0} → CostOps C → Framed → Weighting C → CliqueLists C → List ℕ → List ℕ → Type 0
 WereExact {C} ops f w cliques vertices arcs = (before : Weighting C) × DifferOnlyAt before w vertices arcs × AreExact ops f before cliques (length f.cells.levels)
 
 -- cell k holds one of the vertices

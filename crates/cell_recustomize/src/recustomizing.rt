@@ -65,7 +65,7 @@ pub fn recustomize<C: Cost>(
 {
     let changes = Changes { vertices, arcs };
     let mut scratch = Scratch::new(alloc);
-    let mut cliques = Cliques::new(alloc);
+    let mut cliques = Cliques::new(alloc, frame, weights)?;
     let mut searches = 0;
     for below in 0..frame.levels() {
         let level = below + 1;

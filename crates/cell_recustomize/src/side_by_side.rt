@@ -110,7 +110,7 @@ pub fn recustomize_in_threads<C: Cost + Send + Sync>(
     ensures searches { IfOk result (λ made. IsTouchedCount frame.now vertices.now arcs.now made.searches) }
 {
     let changes = Changes { vertices, arcs };
-    let mut cliques = Cliques::new(alloc);
+    let mut cliques = Cliques::new(alloc, frame, weights)?;
     let mut searches = 0;
     for below in 0..frame.levels() {
         let level = below + 1;

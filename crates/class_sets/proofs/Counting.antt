@@ -6,13 +6,13 @@ use Rattle.list_lemmas.proofs.Fronts.{all_zip-more}
 use Rattle.search_graph.specs.Costs.{CostOps}
 use Rattle.search_graph.specs.Digraph.{Weighting}
 use Rattle.cell_frame.specs.Borders.{Framed}
-use Rattle.cell_frame.specs.Cliqued.{Rows}
+use Rattle.cell_frame.specs.Cliqued.{CliqueLists}
 use Rattle.cell_recustomize.specs.declared.places.Changed.{Changed}
 use Rattle.cell_recustomize.specs.Touched.{IsTouchedCount, WereExact}
 use Rattle.class_sets.specs.Exacting.{IsKept, AreCounted}
 
 -- the changes by their lists
-pub kept_at : {C : Type 0} (ops : CostOps C) (f : Framed) (w : Weighting C) (old : List (Rows C)) (c : Changed) (vertices arcs : List ℕ) → vertices ≡ c.vertices → arcs ≡ c.arcs →
+pub kept_at : {C : Type 0} (ops : CostOps C) (f : Framed) (w : Weighting C) (old : CliqueLists C) (c : Changed) (vertices arcs : List ℕ) → vertices ≡ c.vertices → arcs ≡ c.arcs →
     IsKept ops f w old c → WereExact ops f w old vertices arcs
 kept_at ops f w old c vertices arcs e g h =
     subst (λ (vs : List ℕ). WereExact ops f w old vs arcs) (sym e)

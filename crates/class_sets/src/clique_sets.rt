@@ -20,9 +20,9 @@ impl<C: Cost> Drop for CliqueSets<C> {
 
 impl<C: Cost> Model for CliqueSets<C> {
     ghost use Rattle.std.specs.Prelude.{List};
-    ghost use Rattle.cell_frame.specs.Cliqued.{Rows};
+    ghost use Rattle.cell_frame.specs.Cliqued.{CliqueLists};
 
-    ghost Value = { List (List (Rows C)) };
+    ghost Value = { List (CliqueLists C) };
 
     ghost view = { λ c. c.sets.items };
 }

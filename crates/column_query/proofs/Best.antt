@@ -12,7 +12,7 @@ use Rattle.search_graph.specs.OrderLaws.{le_trans, plus_le, plus_le_left}
 use Rattle.step_search.specs.Paths.{IsPathTo, IsLeastPathCost}
 use Rattle.step_search.specs.ArcSpace.{arc_space}
 use Rattle.cell_frame.specs.Borders.{Framed, Holds, at_cell}
-use Rattle.cell_frame.specs.Cliqued.{Rows}
+use Rattle.cell_frame.specs.Cliqued.{CliqueLists}
 use Rattle.cell_frame.specs.Free.{free_level}
 use Rattle.cell_frame.specs.Inside.{IsLeastInside, IsInsideValue}
 use Rattle.cell_frame.specs.Parts.{whole_at}
@@ -26,7 +26,7 @@ pub record IsBest {C : Type 0} (ops : CostOps C) (f : Framed) (w : Weighting C) 
   pub reached : IfSome best (λ b. (walk : List ℕ) × IsPathTo ops (arc_space ops f.graph w) starts t walk b)
   pub least : (i e : ℕ) (d : C) → i < m → slice_get entries i ≡ Some e → GoesBy ops f w vertices starts t e d → IsAtMost ops best d
 
-module _ {C : Type 0} {ops : CostOps C} (laws : CostLaws ops) (f : Framed) (w : Weighting C) (cliques : List (Rows C)) (vertices : List ℕ) (starts : List (Start C)) (ready : IsReady ops f w cliques vertices starts)
+module _ {C : Type 0} {ops : CostOps C} (laws : CostLaws ops) (f : Framed) (w : Weighting C) (cliques : CliqueLists C) (vertices : List ℕ) (starts : List (Start C)) (ready : IsReady ops f w cliques vertices starts)
     (t : ℕ) (below : t < f.graph.vertices) (some : 1 ≤ free_level f.cells vertices t) where
   abbrev In : ℕ → Type 0
   In = Holds f.cells (whole_at f.cells (free_level f.cells vertices) t)

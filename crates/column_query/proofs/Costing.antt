@@ -16,13 +16,13 @@ use Rattle.step_search.specs.TargetLaws.{NoneBetween-from_path, path_parts, rest
 use Rattle.cut_walks.specs.Cut.{AreAlone}
 use Rattle.cut_walks.specs.Answering.{IsLeastPath-whole, NoPathTo-whole}
 use Rattle.cell_frame.specs.Borders.{Framed}
-use Rattle.cell_frame.specs.Cliqued.{Rows}
+use Rattle.cell_frame.specs.Cliqued.{CliqueLists}
 use Rattle.cell_frame.specs.Free.{free_level}
 use Rattle.cell_frame.specs.Parts.{ShareCell}
 use Rattle.column_query.specs.Rows.{IsReady, row_space}
 use Rattle.column_query.proofs.Ways.{row_cut, AreStarts-arcs, valid_start, whole, start_alone, may_begin}
 
-module _ {C : Type 0} {ops : CostOps C} (laws : CostLaws ops) (f : Framed) (w : Weighting C) (cliques : List (Rows C)) (vertices : List ℕ) (starts : List (Start C)) (ready : IsReady ops f w cliques vertices starts) where
+module _ {C : Type 0} {ops : CostOps C} (laws : CostLaws ops) (f : Framed) (w : Weighting C) (cliques : CliqueLists C) (vertices : List ℕ) (starts : List (Start C)) (ready : IsReady ops f w cliques vertices starts) where
   module _ (t : ℕ) (alone : free_level f.cells vertices t ≡ 0) where
     are_alone : AreAlone ops (row_cut laws f w cliques vertices starts ready) (row_space ops f w vertices) (arc_space ops f.graph w) starts t
     are_alone = record {

@@ -17,14 +17,14 @@ use Rattle.cut_walks.specs.Cut.{OverHop, MayBegin, MayEnd}
 use Rattle.cut_walks.specs.Cutting.{over_valid, goes_from_pass, pass_from_goes}
 use Rattle.cut_walks.specs.Bounds.{Chain-ends, pass_from_path, path_from_pass}
 use Rattle.cell_frame.specs.Borders.{Framed, Holds, IsEntry, at_cell}
-use Rattle.cell_frame.specs.Cliqued.{Rows}
+use Rattle.cell_frame.specs.Cliqued.{CliqueLists}
 use Rattle.cell_frame.specs.Free.{free_level}
 use Rattle.cell_frame.specs.Inside.{IsMoveIn}
 use Rattle.column_query.specs.Rows.{IsReady, row_space}
 use Rattle.column_query.proofs.Entering.{entered}
 use Rattle.column_query.proofs.Ways.{GoesBy, row_cut, valid_start, may_begin, start_alone, part, held, part_is_cell, held_or_not, start_outside, apart}
 
-module _ {C : Type 0} {ops : CostOps C} (laws : CostLaws ops) (f : Framed) (w : Weighting C) (cliques : List (Rows C)) (vertices : List ℕ) (starts : List (Start C)) (ready : IsReady ops f w cliques vertices starts)
+module _ {C : Type 0} {ops : CostOps C} (laws : CostLaws ops) (f : Framed) (w : Weighting C) (cliques : CliqueLists C) (vertices : List ℕ) (starts : List (Start C)) (ready : IsReady ops f w cliques vertices starts)
     (t : ℕ) (below : t < f.graph.vertices) (some : 1 ≤ free_level f.cells vertices t) where
   -- a path to an entry and a walk on are a walk to t
   pub path_from_way : (e : ℕ) (d : C) → GoesBy ops f w vertices starts t e d → (walk : List ℕ) × IsPathTo ops (arc_space ops f.graph w) starts t walk d

@@ -10,7 +10,7 @@ use Rattle.step_search.specs.ArcLaws.{move_from_hop, hop_from_move}
 use Rattle.cut_walks.specs.Cut.{Cut, IsWhole}
 use Rattle.cell_frame.specs.declared.cells.Cell.{Cell}
 use Rattle.cell_frame.specs.Borders.{Framed, Holds, IsCell, at_cell}
-use Rattle.cell_frame.specs.Cliqued.{Rows}
+use Rattle.cell_frame.specs.Cliqued.{CliqueLists}
 use Rattle.cell_frame.specs.Free.{free_level}
 use Rattle.cell_frame.specs.Inside.{IsInside}
 use Rattle.cell_frame.specs.Parts.{ShareCell, whole_at, part_cut}
@@ -26,7 +26,7 @@ pub record GoesBy {C : Type 0} (ops : CostOps C) (f : Framed) (w : Weighting C) 
   pub inside : IsInside ops f.graph w (Holds f.cells (whole_at f.cells (free_level f.cells vertices) t)) e t rest more
   pub sum : d ≡ ops.plus paid more
 
-module _ {C : Type 0} {ops : CostOps C} (laws : CostLaws ops) (f : Framed) (w : Weighting C) (cliques : List (Rows C)) (vertices : List ℕ) (starts : List (Start C)) (ready : IsReady ops f w cliques vertices starts) where
+module _ {C : Type 0} {ops : CostOps C} (laws : CostLaws ops) (f : Framed) (w : Weighting C) (cliques : CliqueLists C) (vertices : List ℕ) (starts : List (Start C)) (ready : IsReady ops f w cliques vertices starts) where
   abbrev pub row_cut : Cut C
   row_cut = part_cut ops f.graph f.cells w (λ v. Unit {0}) (free_level f.cells vertices)
 

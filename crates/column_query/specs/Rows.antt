@@ -8,7 +8,7 @@ use Rattle.search_graph.specs.Weighted.{AreSmall}
 use Rattle.step_search.specs.Spaces.{Space}
 use Rattle.step_search.specs.Paths.{IsLeastPathCost}
 use Rattle.cell_frame.specs.Borders.{Framed, IsFramed}
-use Rattle.cell_frame.specs.Cliqued.{Rows, AreExact}
+use Rattle.cell_frame.specs.Cliqued.{AreExact, CliqueLists}
 use Rattle.cell_frame.specs.Free.{free_level}
 use Rattle.cell_frame.specs.PartSpace.{part_space, IsLawful}
 
@@ -17,7 +17,7 @@ abbrev pub row_space : {C : Type 0} → CostOps C → Framed → Weighting C →
 row_space ops f w vertices = part_space ops f w (λ v. Unit {0}) (free_level f.cells vertices)
 
 -- what it stands on: exact cliques of small weights, parts that make a lawful cut, and starts, of which each is alone
-pub record IsReady {C : Type 0} (ops : CostOps C) (f : Framed) (w : Weighting C) (cliques : List (Rows C)) (vertices : List ℕ) (starts : List (Start C)) : Type 0 where
+pub record IsReady {C : Type 0} (ops : CostOps C) (f : Framed) (w : Weighting C) (cliques : CliqueLists C) (vertices : List ℕ) (starts : List (Start C)) : Type 0 where
   pub framed : IsFramed f
   pub small : AreSmall ops f.graph w
   pub exact : AreExact ops f w cliques (length f.cells.levels)

@@ -14,7 +14,7 @@ use Rattle.cut_walks.specs.Cutting.{over_valid, goes_from_pass, pass_from_goes, 
 use Rattle.cut_walks.specs.Bounds.{Chain-few}
 use Rattle.cell_frame.specs.declared.cells.Cell.{Cell}
 use Rattle.cell_frame.specs.Borders.{Framed, Holds, IsCell, IsEntry, at_cell}
-use Rattle.cell_frame.specs.Cliqued.{Rows}
+use Rattle.cell_frame.specs.Cliqued.{CliqueLists}
 use Rattle.cell_frame.specs.Inside.{IsMoveIn, IsLeastInside}
 use Rattle.cell_frame.specs.Parts.{ShareCell}
 use Rattle.column_search.specs.Toward.{level_toward, IsToward}
@@ -37,7 +37,7 @@ module _ {C : Type 0} {ops : CostOps C} (laws : CostLaws ops) (g : Digraph) (w :
 abbrev IsLeastPass : {C : Type 0} → CostOps C → Cut C → ℕ → ℕ → C → Type 0
 IsLeastPass {C} ops K u z d = (vs : List ℕ) (e : C) → Passes ops K u vs z e → NoDearer ops d e
 
-module _ {C : Type 0} {ops : CostOps C} (laws : CostLaws ops) (f : Framed) (w : Weighting C) (cliques : List (Rows C)) (k : Cell) (t : ℕ) (to : IsToward ops f w cliques k t) where
+module _ {C : Type 0} {ops : CostOps C} (laws : CostLaws ops) (f : Framed) (w : Weighting C) (cliques : CliqueLists C) (k : Cell) (t : ℕ) (to : IsToward ops f w cliques k t) where
   abbrev cut : Cut C
   cut = toward_cut ops f w k t
 

@@ -16,7 +16,7 @@ use Rattle.cut_walks.specs.Cutting.{goes_from_pass, pass_from_goes}
 use Rattle.cut_walks.specs.Bounds.{Chain-ends}
 use Rattle.cell_frame.specs.declared.cells.Cell.{Cell}
 use Rattle.cell_frame.specs.Borders.{Framed, Holds, IsEntry, at_cell}
-use Rattle.cell_frame.specs.Cliqued.{Rows}
+use Rattle.cell_frame.specs.Cliqued.{CliqueLists}
 use Rattle.cell_frame.specs.Inside.{IsMoveIn, IsInside, IsLeastInside, IsInsideValue}
 use Rattle.cell_frame.specs.Parts.{ShareCell}
 use Rattle.column_search.specs.Toward.{level_toward, IsToward}
@@ -33,7 +33,7 @@ none_some x e = cc
 pub one_is : {C : Type 0} (u : ℕ) {a b : C} → a ≡ b → ◌≡◌ {A = List (Start C)} (record { vertex = u; cost = a } ∷ []) (record { vertex = u; cost = b } ∷ [])
 one_is u e = cc
 
-module _ {C : Type 0} {ops : CostOps C} (laws : CostLaws ops) (f : Framed) (w : Weighting C) (cliques : List (Rows C)) (k : Cell) (t : ℕ) (to : IsToward ops f w cliques k t) where
+module _ {C : Type 0} {ops : CostOps C} (laws : CostLaws ops) (f : Framed) (w : Weighting C) (cliques : CliqueLists C) (k : Cell) (t : ℕ) (to : IsToward ops f w cliques k t) where
   abbrev cut : Cut C
   cut = toward_cut ops f w k t
 

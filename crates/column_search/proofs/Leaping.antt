@@ -11,14 +11,14 @@ use Rattle.search_graph.specs.ChainLaws.{Chain-valid}
 use Rattle.search_graph.specs.WeightLaws.{move_valid}
 use Rattle.cell_frame.specs.declared.cells.Cell.{Cell}
 use Rattle.cell_frame.specs.Borders.{Framed, Holds, IsCell, IsExit, at_cell}
-use Rattle.cell_frame.specs.Cliqued.{Rows, HasCellRow, IsRow}
+use Rattle.cell_frame.specs.Cliqued.{CliqueLists, HasCellRow, IsRow, Rows}
 use Rattle.cell_frame.specs.Inside.{IsMoveIn, IsLeastInside, IsInsideValue}
 use Rattle.column_search.specs.Toward.{level_toward, IsToward}
 use Rattle.column_search.specs.Backward.{part_toward, IsLeapBack}
 use Rattle.column_search.proofs.Parting.{part_is_cell}
 
 -- a clique has one row at a place
-row_same : {C : Type 0} (f : Framed) (cliques : List (Rows C)) (k : Cell) (i : ℕ) (row other : List (Option C)) → HasCellRow f cliques k i row → HasCellRow f cliques k i other → row ≡ other
+row_same : {C : Type 0} (f : Framed) (cliques : CliqueLists C) (k : Cell) (i : ℕ) (row other : List (Option C)) → HasCellRow f cliques k i row → HasCellRow f cliques k i other → row ≡ other
 row_same {C} f cliques k i row other a b =
     let rows : a.rows ≡ b.rows = same_Some a.rows b.rows (sym a.level ∙ b.level) in
     let begins : slice_get b.rows.first k.number ≡ Some a.has.first = subst (λ (r : Rows C). slice_get r.first k.number ≡ Some a.has.first) rows a.has.begins in
@@ -36,14 +36,14 @@ module _ {C : Type 0} {ops : CostOps C} (laws : CostLaws ops) (g : Digraph) (w :
   value_is s None none least = absurd (none least.walk s least.leads)
   value_is s (Some x) some least = ap Some (same_from_le laws x s (least_valid x some) (least_valid s least) (some.least least.walk s least.leads) (least.least some.walk x some.leads))
 
-module _ {C : Type 0} {ops : CostOps C} (laws : CostLaws ops) (f : Framed) (w : Weighting C) (cliques : List (Rows C)) (k : Cell) (t : ℕ) (to : IsToward ops f w cliques k t)
+module _ {C : Type 0} {ops : CostOps C} (laws : CostLaws ops) (f : Framed) (w : Weighting C) (cliques : CliqueLists C) (k : Cell) (t : ℕ) (to : IsToward ops f w cliques k t)
     (v : ℕ) (lt : v < f.graph.vertices) (some : 1 ≤ level_toward f.cells k t v) (part : Cell) (is : part ≡ part_toward f k t v) where
   pub part_cell : IsCell f.cells part
   part_cell = subst (λ (x : Cell). IsCell f.cells x) (sym is) (part_is_cell f to.framed k to.is_cell t to.toward v lt some)
 
   module _ (j u : ℕ) (entry : slice_get (at_cell f.entries part) j ≡ Some u) where
     exact : (row : List (Option C)) × HasCellRow f cliques part j row × IsRow ops f w part u row
-    exact = to.exact part j u part_cell (subst (λ (x : Cell). x.level ≤ k.level - 1) (sym is) (to.toward.high v)) entry
+    exact = to.exact.rows part j u part_cell (subst (λ (x : Cell). x.level ≤ k.level - 1) (sym is) (to.toward.high v)) entry
 
     -- there is a row
     pub row_has : (row : List (Option C)) × HasCellRow f cliques part j row

@@ -11,7 +11,7 @@ use Rattle.cut_walks.specs.Cut.{Cut, OverHop, Passes}
 use Rattle.cut_walks.specs.Cutting.{over_valid}
 use Rattle.cell_frame.specs.declared.cells.Cell.{Cell}
 use Rattle.cell_frame.specs.Borders.{Framed, Holds, IsEntry, IsExit, IsCell, at_cell}
-use Rattle.cell_frame.specs.Cliqued.{Rows}
+use Rattle.cell_frame.specs.Cliqued.{CliqueLists}
 use Rattle.cell_frame.specs.Inside.{IsLeastInside}
 use Rattle.cell_frame.specs.Parts.{ShareCell}
 use Rattle.column_search.specs.Toward.{level_toward, IsToward}
@@ -23,7 +23,7 @@ use Rattle.column_search.proofs.Parting.{held_below, part_same, share_back, shar
 abbrev pub AreTo : Digraph → List (List ℕ) → Type 0
 AreTo g heads = (v : ℕ) → v < g.vertices → (i : ℕ) → Contains (arcs_to heads v) i ↔ ((u : ℕ) × IsArc g i u v)
 
-module _ {C : Type 0} {ops : CostOps C} (laws : CostLaws ops) (f : Framed) (w : Weighting C) (cliques : List (Rows C)) (k : Cell) (t : ℕ) (to : IsToward ops f w cliques k t) where
+module _ {C : Type 0} {ops : CostOps C} (laws : CostLaws ops) (f : Framed) (w : Weighting C) (cliques : CliqueLists C) (k : Cell) (t : ℕ) (to : IsToward ops f w cliques k t) where
   abbrev cut : Cut C
   cut = toward_cut ops f w k t
 

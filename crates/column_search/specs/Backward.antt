@@ -7,7 +7,7 @@ use Rattle.step_search.specs.Spaces.{Space}
 use Rattle.cut_walks.specs.Cut.{Cut}
 use Rattle.cell_frame.specs.declared.cells.Cell.{Cell}
 use Rattle.cell_frame.specs.Borders.{Framed, Holds, IsExit, at_cell}
-use Rattle.cell_frame.specs.Cliqued.{Rows}
+use Rattle.cell_frame.specs.Cliqued.{CliqueLists}
 use Rattle.cell_frame.specs.Inside.{IsLeastInside}
 use Rattle.cell_frame.specs.Parts.{whole_at, ShareCell, part_cut}
 use Rattle.head_index.specs.ByHead.{AreByHead}
@@ -60,7 +60,7 @@ back_space {C} ops f w k t heads = record {
 }
 
 -- what a search backwards stands on: that to t inside cell k, the arcs by their heads, and not too many of them
-pub record IsBackward {C : Type 0} (ops : CostOps C) (f : Framed) (w : Weighting C) (cliques : List (Rows C)) (k : Cell) (t : ℕ) (heads : List (List ℕ)) : Type 0 where
+pub record IsBackward {C : Type 0} (ops : CostOps C) (f : Framed) (w : Weighting C) (cliques : CliqueLists C) (k : Cell) (t : ℕ) (heads : List (List ℕ)) : Type 0 where
   pub toward : IsToward ops f w cliques k t
   pub by_head : AreByHead f.graph heads
   pub few : length f.graph.arcs < 2 ^ 32 - 2 ^ 27

@@ -7,7 +7,7 @@ use Rattle.search_graph.specs.Weighted.{AreSmall}
 use Rattle.cell_partition.specs.Partition.{Partition, level_at, number_of}
 use Rattle.cell_frame.specs.declared.cells.Cell.{Cell}
 use Rattle.cell_frame.specs.Borders.{Framed, IsFramed, IsCell, Holds, IsEntry}
-use Rattle.cell_frame.specs.Cliqued.{Rows, AreExact}
+use Rattle.cell_frame.specs.Cliqued.{AreExact, CliqueLists}
 use Rattle.cell_frame.specs.Parts.{AreParts, whole_at}
 use Rattle.cell_frame.specs.PartSpace.{IsLawful}
 
@@ -28,7 +28,7 @@ pub record AreToward (f : Framed) (k : Cell) (t : ℕ) : Type 0 where
   pub enters : (v : ℕ) → IsEntry f.graph f.cells k v → (level_toward f.cells k t v ≡ 0) ⊎ IsEntry f.graph f.cells (whole_at f.cells (level_toward f.cells k t) v) v
 
 -- what a search to t inside cell k stands on
-pub record IsToward {C : Type 0} (ops : CostOps C) (f : Framed) (w : Weighting C) (cliques : List (Rows C)) (k : Cell) (t : ℕ) : Type 0 where
+pub record IsToward {C : Type 0} (ops : CostOps C) (f : Framed) (w : Weighting C) (cliques : CliqueLists C) (k : Cell) (t : ℕ) : Type 0 where
   pub framed : IsFramed f
   pub small : AreSmall ops f.graph w
   pub exact : AreExact ops f w cliques (k.level - 1)

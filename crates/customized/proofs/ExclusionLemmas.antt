@@ -20,7 +20,7 @@ use Rattle.metric_make.specs.AvoidLaws.{avoided-alike, avoided-small}
 use Rattle.metric_make.specs.MetricOf.{AreAlike, MetricView}
 use Rattle.metric_make.specs.RoadMetric.{road_of}
 use Rattle.cell_frame.specs.Borders.{Framed}
-use Rattle.cell_frame.specs.Cliqued.{AreExact, Rows}
+use Rattle.cell_frame.specs.Cliqued.{AreExact, CliqueLists}
 use Rattle.cell_recustomize.specs.ChangeLaws.{WereExact-changed}
 use Rattle.cell_recustomize.specs.Changes.{FitGraph}
 use Rattle.cell_recustomize.specs.declared.places.Changed.{Changed}
@@ -117,14 +117,14 @@ weights-at network bases w x set h same at =
     (sym at ∙ ap (λ (l : List (Weighting WeightDurLen)). slice_get l (place_of set)) same ∙ slice_get-map under (exclusions network) (place_of set) ∙ ap (option_map under) (exclusion-at network set h))
 
 -- so are the cliques
-pub cliques-at : (m : Customized) (set : Option ℕ) (all : List (List (Rows WeightDurLen))) (cliques : List (Rows WeightDurLen)) → ForSome set (λ k. k < length m.road.network.profile.excludable)
+pub cliques-at : (m : Customized) (set : Option ℕ) (all : List (CliqueLists WeightDurLen)) (cliques : CliqueLists WeightDurLen) → ForSome set (λ k. k < length m.road.network.profile.excludable)
     → AllZip (λ s c. IsExact (excluding s m) c) (exclusions m.road.network) all
     → slice_get all (place_of set) ≡ Some cliques
     → IsExact (excluding set m) cliques
 cliques-at m set all cliques h exact at = all_zip-at (λ s c. IsExact (excluding s m) c) (exclusions m.road.network) all (place_of set) set cliques exact (exclusion-at m.road.network set h) at
 
 -- and there are cliques for each
-pub place-below : (m : Customized) (set : Option ℕ) (all : List (List (Rows WeightDurLen))) → ForSome set (λ k. k < length m.road.network.profile.excludable)
+pub place-below : (m : Customized) (set : Option ℕ) (all : List (CliqueLists WeightDurLen)) → ForSome set (λ k. k < length m.road.network.profile.excludable)
     → AllZip (λ s c. IsExact (excluding s m) c) (exclusions m.road.network) all
     → place_of set < length all
 place-below m set all h exact =
@@ -132,18 +132,18 @@ place-below m set all h exact =
     omega (arith, within, all_zip-length (λ s c. IsExact (excluding s m) c) (exclusions m.road.network) all exact)
 
 -- the costs of each are small
-pub small-under : (m : Customized) (set : Option ℕ) (all : List (List (Rows WeightDurLen))) → AllZip (λ s c. IsExact (excluding s m) c) (exclusions m.road.network) all
+pub small-under : (m : Customized) (set : Option ℕ) (all : List (CliqueLists WeightDurLen)) → AllZip (λ s c. IsExact (excluding s m) c) (exclusions m.road.network) all
     → AreSmall road_cost_ops (graph_of m.road.network) (avoided m.road.network set m.road.weights)
 small-under m set all exact = avoided-small m.road.network set m.road.weights (all_zip-second (λ s c. IsExact (excluding s m) c) (exclusions m.road.network) all 0 None exact refl).1.small
 
 -- and alike for all that stands for one vertex or turn
-pub alike-under : (m : Customized) (set : Option ℕ) (all : List (List (Rows WeightDurLen))) → ForSome set (λ k. k < length m.road.network.profile.excludable)
+pub alike-under : (m : Customized) (set : Option ℕ) (all : List (CliqueLists WeightDurLen)) → ForSome set (λ k. k < length m.road.network.profile.excludable)
     → AllZip (λ s c. IsExact (excluding s m) c) (exclusions m.road.network) all
     → AreAlike m.road.network (avoided m.road.network set m.road.weights)
 alike-under m set all h exact = (all_zip-second (λ s c. IsExact (excluding s m) c) (exclusions m.road.network) all (place_of set) set exact (exclusion-at m.road.network set h)).1.alike
 
 -- what is read of a metric is exact
-pub exact-under : (m : Customized) (set : Option ℕ) (network : NetworkView) (frame : Framed) (base : MetricView) (cliques : List (Rows WeightDurLen))
+pub exact-under : (m : Customized) (set : Option ℕ) (network : NetworkView) (frame : Framed) (base : MetricView) (cliques : CliqueLists WeightDurLen)
     → network ≡ m.road.network
     → frame ≡ m.frame
     → base.weights ≡ avoided m.road.network set m.road.weights
@@ -163,7 +163,7 @@ pub fit-all : (g : Digraph) (ws : List (Weighting WeightDurLen)) → All (AreSma
 fit-all g ws small k d lt = let s = small k d lt in record { vertices = s.vertices; arcs = s.arcs }
 
 -- cliques that were made for the costs side by side are exact for each
-pub exact-for_each : (roads : RoadsView) (bases : Bases) (all : List (List (Rows WeightDurLen))) (network : NetworkView) (frame : Framed) (base : MetricView) (weights : List (Weighting WeightDurLen))
+pub exact-for_each : (roads : RoadsView) (bases : Bases) (all : List (CliqueLists WeightDurLen)) (network : NetworkView) (frame : Framed) (base : MetricView) (weights : List (Weighting WeightDurLen))
     → network ≡ roads.network
     → frame ≡ roads.frame
     → bases.plain ≡ base
@@ -197,7 +197,7 @@ exact-for_each roads bases all network frame base weights networks frames plain 
     }
 
 -- what was exact under each exclusion serves the new costs, but where they differ
-pub kept-for_each : (m : Customized) (w : Weighting WeightDurLen) (all : List (List (Rows WeightDurLen))) (changes : List Changed)
+pub kept-for_each : (m : Customized) (w : Weighting WeightDurLen) (all : List (CliqueLists WeightDurLen)) (changes : List Changed)
     → AllZip (λ s c. IsExact (excluding s m) c) (exclusions m.road.network) all
     → AllZip AreChangesBetween (zip (weights_under m.road.network m.road.weights) (weights_under m.road.network w)) changes
     → AreKept road_cost_ops m.frame (weights_under m.road.network w) all changes
@@ -206,7 +206,7 @@ kept-for_each m w all changes exact between =
     let old : Option ℕ → Weighting WeightDurLen = λ s. avoided network s m.road.weights in
     let new : Option ℕ → Weighting WeightDurLen = λ s. avoided network s w in
     let among = exclusions network in
-    let kept : (k : ℕ) (v : Weighting WeightDurLen) (cliques : List (Rows WeightDurLen)) (c : Changed) → slice_get (map new among) k ≡ Some v → slice_get all k ≡ Some cliques → slice_get changes k ≡ Some c → IsKept road_cost_ops m.frame v cliques c =
+    let kept : (k : ℕ) (v : Weighting WeightDurLen) (cliques : CliqueLists WeightDurLen) (c : Changed) → slice_get (map new among) k ≡ Some v → slice_get all k ≡ Some cliques → slice_get changes k ≡ Some c → IsKept road_cost_ops m.frame v cliques c =
     λ k v cliques c at_v at_cliques at_c.
     let within = slice_get_within (map new among) k v at_v in
     let found = get_some among k (omega (arith, within, length-map among new)) in

@@ -11,7 +11,7 @@ use Rattle.metric_make.specs.Avoiding.{avoided, avoiding}
 use Rattle.metric_make.specs.MetricOf.{AreAlike, MetricView}
 use Rattle.metric_make.specs.RoadMetric.{RoadMetric, road_of}
 use Rattle.cell_frame.specs.Borders.{Framed}
-use Rattle.cell_frame.specs.Cliqued.{AreExact, Rows}
+use Rattle.cell_frame.specs.Cliqued.{AreExact, CliqueLists}
 use Rattle.cell_recustomize.specs.Changes.{AreChanges}
 use Rattle.cell_recustomize.specs.Touched.{IsTouchedCount}
 use Rattle.cell_recustomize.specs.declared.places.Changed.{Changed}
@@ -29,7 +29,7 @@ customized_on roads base = record { road = road_of roads.network base; frame = r
 
 -- The frame is over the network's graph, the costs are small and alike for all that stands for one vertex or turn, and in all levels the cliques are the least costs inside the
 -- cells under just these costs.
-pub record IsExact (m : Customized) (cliques : List (Rows WeightDurLen)) : Type 0 where
+pub record IsExact (m : Customized) (cliques : CliqueLists WeightDurLen) : Type 0 where
   pub graph : m.frame.graph ≡ graph_of m.road.network
   pub small : AreSmall road_cost_ops (graph_of m.road.network) m.road.weights
   pub alike : AreAlike m.road.network m.road.weights
@@ -52,7 +52,7 @@ abbrev pub excluding : Option ℕ → Customized → Customized
 excluding set m = record { road = avoiding set m.road; frame = m.frame }
 
 -- The weights are those of the metric under each exclusion, and for each of them the cliques are exact for just these.
-pub record IsExactForEach (m : Customized) (bases : List (Weighting WeightDurLen)) (sets : List (List (Rows WeightDurLen))) : Type 0 where
+pub record IsExactForEach (m : Customized) (bases : List (Weighting WeightDurLen)) (sets : List (CliqueLists WeightDurLen)) : Type 0 where
   pub weights : bases ≡ weights_under m.road.network m.road.weights
   pub exact : AllZip (λ set cliques. IsExact (excluding set m) cliques) (exclusions m.road.network) sets
 

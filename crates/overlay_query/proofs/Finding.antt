@@ -17,7 +17,7 @@ use Rattle.step_search.specs.TargetLaws.{NoneBetween-from_path, path_parts, rest
 use Rattle.cut_walks.specs.Cut.{Cut, IsWhole, AreAlone}
 use Rattle.cut_walks.specs.Answering.{IsLeastPath-whole, NoPathTo-whole}
 use Rattle.cell_frame.specs.Borders.{Framed}
-use Rattle.cell_frame.specs.Cliqued.{Rows}
+use Rattle.cell_frame.specs.Cliqued.{CliqueLists}
 use Rattle.cell_frame.specs.Free.{free_level}
 use Rattle.cell_frame.specs.Parts.{ShareCell, part_cut}
 use Rattle.overlay_query.proofs.Beyond.{IsBeyond-whole}
@@ -26,7 +26,7 @@ use Rattle.overlay_query.specs.Query.{IsQuery, IsAsked, IsCostWith, query_space}
 all_contains : (P : ℕ → Type 0) (xs : List ℕ) (x : ℕ) → All P xs → Contains xs x → P x
 all_contains P xs x all h = let g = get_Contains xs x h in All_get P xs g.0 x all g.1
 
-module _ {C : Type 0} {ops : CostOps C} (laws : CostLaws ops) (f : Framed) (w : Weighting C) (cliques : List (Rows C)) (terminals : List ℕ) (starts : List (Start C)) (query : IsQuery ops f w cliques terminals starts) where
+module _ {C : Type 0} {ops : CostOps C} (laws : CostLaws ops) (f : Framed) (w : Weighting C) (cliques : CliqueLists C) (terminals : List ℕ) (starts : List (Start C)) (query : IsQuery ops f w cliques terminals starts) where
   abbrev K : Cut C
   K = part_cut ops f.graph f.cells w (λ v. Unit {0}) (free_level f.cells terminals)
 

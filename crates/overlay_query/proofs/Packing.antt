@@ -15,7 +15,7 @@ use Rattle.cut_walks.specs.Cutting.{over_valid}
 use Rattle.cell_partition.specs.Partition.{Partition}
 use Rattle.cell_frame.specs.declared.cells.Cell.{Cell}
 use Rattle.cell_frame.specs.Borders.{Framed}
-use Rattle.cell_frame.specs.Cliqued.{Rows}
+use Rattle.cell_frame.specs.Cliqued.{CliqueLists}
 use Rattle.cell_frame.specs.Free.{free_level}
 use Rattle.cell_frame.specs.Parts.{ShareCell, part_cut}
 use Rattle.overlay_query.specs.declared.packed.Hop.{Hop}
@@ -32,7 +32,7 @@ by_none : (p : Partition) (level : ℕ → ℕ) (u v : ℕ) (o : Option Cell) �
 by_none p level u v None h n = refl
 by_none p level u v (Some k) h n = absurd (n h.0)
 
-module _ {C : Type 0} {ops : CostOps C} (laws : CostLaws ops) (f : Framed) (w : Weighting C) (cliques : List (Rows C)) (terminals : List ℕ) (starts : List (Start C)) (query : IsQuery ops f w cliques terminals starts)
+module _ {C : Type 0} {ops : CostOps C} (laws : CostLaws ops) (f : Framed) (w : Weighting C) (cliques : CliqueLists C) (terminals : List ℕ) (starts : List (Start C)) (query : IsQuery ops f w cliques terminals starts)
     (t : Target C) (asked : IsAsked ops f terminals t) where
   pub IsPackedLeast-from : (walk : List ℕ) (r d : C) → IsLeastPath ops (query_space ops f w terminals) starts t.vertex walk r → IsCostWith ops f.graph w starts t r d →
       (hops : List Hop) → ArePacked f.cells (free_level f.cells terminals) walk hops → (first : ℕ) → slice_get walk 0 ≡ Some first →

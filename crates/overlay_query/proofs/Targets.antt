@@ -18,7 +18,7 @@ use Rattle.search_graph.specs.WeightLaws.{least_walk_units}
 use Rattle.search_graph.specs.OrderLaws.{le_refl, le_trans, le_from_not_less}
 use Rattle.step_search.specs.Paths.{IsBeyond}
 use Rattle.cell_frame.specs.Borders.{Framed}
-use Rattle.cell_frame.specs.Cliqued.{Rows}
+use Rattle.cell_frame.specs.Cliqued.{CliqueLists}
 use Rattle.overlay_query.specs.declared.nearest.Priced.{Priced}
 use Rattle.overlay_query.specs.declared.packed.PackedFound.{PackedFound}
 use Rattle.overlay_query.specs.Answers.{IsPackedFound, IsPackedCheapest}
@@ -139,7 +139,7 @@ module _ {C : Type 0} {ops : CostOps C} (laws : CostLaws ops) (f : Framed) (w : 
       )
 
 -- the limit of a search is within its bounds, and beyond it no walk costs less than the best so far
-module _ {C : Type 0} {ops : CostOps C} (laws : CostLaws ops) (f : Framed) (w : Weighting C) (cliques : List (Rows C)) (terminals : List ℕ) (starts : List (Start C)) (query : IsQuery ops f w cliques terminals starts)
+module _ {C : Type 0} {ops : CostOps C} (laws : CostLaws ops) (f : Framed) (w : Weighting C) (cliques : CliqueLists C) (terminals : List ℕ) (starts : List (Start C)) (query : IsQuery ops f w cliques terminals starts)
     (b : Priced C) (priced : IsPriced ops f w terminals starts b) (t : Target C) (asked : IsAsked ops f terminals t) (x : C) (o : IsOpen w t.vertex x) where
   few : ops.units b.cost (2 * f.graph.vertices + 1)
   few = least_walk_units laws f.graph w query.small starts b.target query.starts_unit priced.asked.unit priced.walk b.cost priced.least

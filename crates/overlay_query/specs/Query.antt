@@ -9,7 +9,7 @@ use Rattle.search_graph.specs.Walks.{IsLeastWalk}
 use Rattle.search_graph.specs.Weighted.{AreSmall}
 use Rattle.step_search.specs.Spaces.{Space}
 use Rattle.cell_frame.specs.Borders.{Framed, IsFramed}
-use Rattle.cell_frame.specs.Cliqued.{Rows, AreExact}
+use Rattle.cell_frame.specs.Cliqued.{AreExact, CliqueLists}
 use Rattle.cell_frame.specs.Free.{free_level}
 use Rattle.cell_frame.specs.PartSpace.{part_space, IsLawful}
 
@@ -18,7 +18,7 @@ abbrev pub query_space : {C : Type 0} → CostOps C → Framed → Weighting C �
 query_space ops f w terminals = part_space ops f w (λ v. Unit {0}) (free_level f.cells terminals)
 
 -- what it stands on: exact cliques of small weights, parts that make a lawful cut, and starts that are terminals, each alone
-pub record IsQuery {C : Type 0} (ops : CostOps C) (f : Framed) (w : Weighting C) (cliques : List (Rows C)) (terminals : List ℕ) (starts : List (Start C)) : Type 0 where
+pub record IsQuery {C : Type 0} (ops : CostOps C) (f : Framed) (w : Weighting C) (cliques : CliqueLists C) (terminals : List ℕ) (starts : List (Start C)) : Type 0 where
   pub framed : IsFramed f
   pub small : AreSmall ops f.graph w
   pub exact : AreExact ops f w cliques (length f.cells.levels)

@@ -17,7 +17,7 @@ use Rattle.cut_walks.specs.Answering.{goes_from_path}
 use Rattle.cell_partition.specs.Partition.{Partition}
 use Rattle.cell_frame.specs.declared.cells.Cell.{Cell}
 use Rattle.cell_frame.specs.Borders.{Framed, Holds, IsCell, at_cell}
-use Rattle.cell_frame.specs.Cliqued.{Rows, HasCellRow, IsRow, AreExact}
+use Rattle.cell_frame.specs.Cliqued.{AreExact, CliqueLists, HasCellRow, IsRow, Rows}
 use Rattle.cell_frame.specs.Inside.{IsLeastInside}
 use Rattle.cell_frame.specs.Parts.{ShareCell, whole_at, part_cut}
 use Rattle.cell_customize.specs.Inner.{inner_space, IsInner}
@@ -55,7 +55,7 @@ if_some N P None h = tt
 if_some N P (Some d) h = h
 
 -- a clique has one row at a place
-row_same : {C : Type 0} (f : Framed) (cliques : List (Rows C)) (k : Cell) (i : ℕ) (row other : List (Option C)) → HasCellRow f cliques k i row → HasCellRow f cliques k i other → row ≡ other
+row_same : {C : Type 0} (f : Framed) (cliques : CliqueLists C) (k : Cell) (i : ℕ) (row other : List (Option C)) → HasCellRow f cliques k i row → HasCellRow f cliques k i other → row ≡ other
 row_same {C} f cliques k i row other a b =
     let rows : a.rows ≡ b.rows = same_Some a.rows b.rows (sym a.level ∙ b.level) in
     let begins : slice_get b.rows.first k.number ≡ Some a.has.first = subst (λ (r : Rows C). slice_get r.first k.number ≡ Some a.has.first) rows a.has.begins in
@@ -64,14 +64,14 @@ row_same {C} f cliques k i row other a b =
     let here : row ≡ slice_range b.rows.values (a.has.first + i * width) (a.has.first + i * width + width) = subst (λ (r : Rows C). row ≡ slice_range r.values (a.has.first + i * width) (a.has.first + i * width + width)) rows a.has.row_is in
     here ∙ ap (λ (n : ℕ). slice_range b.rows.values (n + i * width) (n + i * width + width)) first ∙ sym b.has.row_is
 
-module _ {C : Type 0} (ops : CostOps C) (f : Framed) (w : Weighting C) (cliques : List (Rows C)) (k : Cell) (is_cell : IsCell f.cells k) (exact : AreExact ops f w cliques k.level) (entry i : ℕ) (at : slice_get (at_cell f.entries k) i ≡ Some entry) where
+module _ {C : Type 0} (ops : CostOps C) (f : Framed) (w : Weighting C) (cliques : CliqueLists C) (k : Cell) (is_cell : IsCell f.cells k) (exact : AreExact ops f w cliques k.level) (entry i : ℕ) (at : slice_get (at_cell f.entries k) i ≡ Some entry) where
   -- the clique of a cell has a row for each entry
   pub row_has : (row : List (Option C)) × HasCellRow f cliques k i row
-  row_has = let r = exact k i entry is_cell (omega arith) at in (r.0, r.1)
+  row_has = let r = exact.rows k i entry is_cell (omega arith) at in (r.0, r.1)
 
   module _ (row : List (Option C)) (has : HasCellRow f cliques k i row) where
     is_row : IsRow ops f w k entry row
-    is_row = let r = exact k i entry is_cell (omega arith) at in subst (IsRow ops f w k entry) (row_same f cliques k i r.0 row r.1 has) r.2
+    is_row = let r = exact.rows k i entry is_cell (omega arith) at in subst (IsRow ops f w k entry) (row_same f cliques k i r.0 row r.1 has) r.2
 
     module _ (j exit : ℕ) (leads : slice_get (at_cell f.exits k) j ≡ Some exit) where
       -- with a place for each exit
@@ -92,7 +92,7 @@ least_same laws f w small k u v s r by least =
     same_from_le laws r s (by_valid laws f w small u v (Some k) r (by.0, by.1, by.2, least)) (by_valid laws f w small u v (Some k) s by)
     (least.least by.3.walk s by.3.leads) (by.3.least least.walk r least.leads)
 
-module _ {C : Type 0} {ops : CostOps C} (laws : CostLaws ops) (f : Framed) (w : Weighting C) (cliques : List (Rows C)) (k : Cell) (inner : IsInner ops f w cliques k) (entry exit : ℕ) (starts : List (Start C)) (one : starts ≡ record { vertex = entry; cost = ops.zero } ∷ []) (shortcut : (s : C) × IsBy ops f w entry exit (Some k) s) where
+module _ {C : Type 0} {ops : CostOps C} (laws : CostLaws ops) (f : Framed) (w : Weighting C) (cliques : CliqueLists C) (k : Cell) (inner : IsInner ops f w cliques k) (entry exit : ℕ) (starts : List (Start C)) (one : starts ≡ record { vertex = entry; cost = ops.zero } ∷ []) (shortcut : (s : C) × IsBy ops f w entry exit (Some k) s) where
   pub among : Contains (at_cell f.entries k) entry
   among = (inner.framed.entries k entry inner.is_cell).1 shortcut.1.1
 

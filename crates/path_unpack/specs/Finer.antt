@@ -5,12 +5,12 @@ use Rattle.search_graph.specs.Digraph.{Weighting}
 use Rattle.search_graph.specs.Weighted.{AreSmall}
 use Rattle.cell_frame.specs.declared.cells.Cell.{Cell}
 use Rattle.cell_frame.specs.Borders.{Framed, IsFramed}
-use Rattle.cell_frame.specs.Cliqued.{Rows, AreExact}
+use Rattle.cell_frame.specs.Cliqued.{AreExact, CliqueLists}
 use Rattle.overlay_query.specs.declared.packed.Hop.{Hop}
 use Rattle.overlay_query.specs.Packed.{IsBy, PackedChain}
 
 -- what unpacking stands on: a frame, small weights and their exact cliques
-pub record IsOverlay {C : Type 0} (ops : CostOps C) (f : Framed) (w : Weighting C) (cliques : List (Rows C)) : Type 0 where
+pub record IsOverlay {C : Type 0} (ops : CostOps C) (f : Framed) (w : Weighting C) (cliques : CliqueLists C) : Type 0 where
   pub framed : IsFramed f
   pub small : AreSmall ops f.graph w
   pub exact : AreExact ops f w cliques (length f.cells.levels)

@@ -7,12 +7,12 @@ use Rattle.search_graph.specs.Digraph.{Weighting}
 use Rattle.search_graph.specs.Weighted.{AreSmall}
 use Rattle.head_index.specs.ByHead.{AreByHead}
 use Rattle.cell_frame.specs.Borders.{Framed}
-use Rattle.cell_frame.specs.Cliqued.{Rows, AreExact}
+use Rattle.cell_frame.specs.Cliqued.{AreExact, CliqueLists}
 use Rattle.column_query.specs.Columns.{AreColumns}
 use Rattle.column_query.specs.declared.columns.TargetPoint.{TargetPoint}
 
 -- small weights, exact cliques of them, and the arcs by their heads
-pub record IsOverlay {C : Type 0} (ops : CostOps C) (f : Framed) (w : Weighting C) (cliques : List (Rows C)) (heads : List (List ℕ)) : Type 0 where
+pub record IsOverlay {C : Type 0} (ops : CostOps C) (f : Framed) (w : Weighting C) (cliques : CliqueLists C) (heads : List (List ℕ)) : Type 0 where
   pub small : AreSmall ops f.graph w
   pub exact : AreExact ops f w cliques (length f.cells.levels)
   pub by_head : AreByHead f.graph heads
@@ -30,7 +30,7 @@ abbrev pub AreMade : {C : Type 0} → CostOps C → Framed → Weighting C → L
 AreMade ops f w all points = (points ≡ []) ⊎ ArePoints ops f w all points
 
 -- exact cliques of small weights, and the targets of all columns, one behind the other, with their points where these were made
-pub record AreReady {C : Type 0} (ops : CostOps C) (f : Framed) (w : Weighting C) (cliques : List (Rows C)) (targets : List (List (Target C))) (all : List (Target C)) (points : List (TargetPoint C)) : Type 0 where
+pub record AreReady {C : Type 0} (ops : CostOps C) (f : Framed) (w : Weighting C) (cliques : CliqueLists C) (targets : List (List (Target C))) (all : List (Target C)) (points : List (TargetPoint C)) : Type 0 where
   pub small : AreSmall ops f.graph w
   pub exact : AreExact ops f w cliques (length f.cells.levels)
   pub joined : all ≡ flat_map (λ list. list) targets

@@ -1,16 +1,19 @@
 -- One vertex more is known.
-use Rattle.std.proofs.Common.{refl}
-use Rattle.cell_frame.proofs.Known.{AreSpots-border, AreSpots-inner}
+use Rattle.std.proofs.Common.{◌++◌, ◌∷◌, [], List, append-nil, arith, refl, sym, ◌∙◌, ap}
+use Rattle.cell_frame.specs.declared.spots.Spot.{Spot}
+use Rattle.cell_frame.proofs.Known.{AreArcs-none, AreSpots-border, AreSpots-inner}
 use Rattle.cell_frame.proofs.spots.push_spot.Goals as goal
 
-pub returns-in_default : goal.returns-in_default
-returns-in_default c =
+pub returns-then-is_inner : goal.returns-then-is_inner
+returns-then-is_inner c =
     let cut = c.args.cut.now in
-    AreSpots-inner cut.graph.now cut.cells.now cut.entries.now c.args.known.now c.args.v c.lowest-lowest.result _ c.requires.known c.lowest-lowest.ensures c.in_ok-push.ensures.items (rw c.in_default.is at c.requires.left) _ refl refl
+    let known = c.args.known.now in
+    AreSpots-inner cut.graph.now cut.cells.now cut.entries.now known _ c.args.v c.lowest-lowest.result _ [] [] c.requires.known c.lowest-lowest.ensures c.in_ok-push.ensures.items (sym (append-nil known.tells.items)) (sym (append-nil known.crossings.items)) (AreArcs-none cut.graph.now) refl c.if-is_inner.ensures
 
 pub returns : goal.returns
 returns c =
     let cut = c.args.cut.now in
-    let words = c.in_ok-border.ensures.words in
-    let first = c.in_ok-border.ensures.first in
-    AreSpots-border cut.graph.now cut.cells.now cut.entries.now c.args.known.now c.args.v c.lowest-lowest.result _ c.requires.known c.lowest-lowest.ensures c.in_ok-border.border c.in-Some.highest words.0 first.0 first.1 (rw c.in-Some.is at c.requires.left) words.2 c.in_ok-push-2.ensures.items _ refl words.1
+    let known = c.args.known.now in
+    let told = c.in_ok-push_tells.ensures in
+    let spot : Spot = record { lowest = c.lowest-lowest.result; border = c.in_ok-border.border } in
+    AreSpots-border cut.graph.now cut.cells.now cut.entries.now known _ c.args.v c.lowest-lowest.result c.in_ok-border.border told.tells.0 told.crossings.0 c.requires.known c.lowest-lowest.ensures (c.in_ok-push-2.ensures.items ∙ ap (λ (ss : List Spot). ss ++ spot ∷ []) told.spots) told.tells.1 told.crossings.1 told.crossings.2 (omega (arith, c.in_ok-border.ensures.0, c.len.ensures)) c.in_ok-border.ensures.1 told.tells.2

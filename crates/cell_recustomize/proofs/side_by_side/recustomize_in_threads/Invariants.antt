@@ -7,7 +7,7 @@ use Rattle.cell_recustomize.proofs.side_by_side.recustomize_in_threads.Given as 
 -- the levels so far are exact, and the entries of their touched cells counted
 abbrev pub invariant-loop-below : goal.invariant-loop-below
 invariant-loop-below g l = record {
-  count : length l.cliques ≡ l.below;
+  count : length l.cliques.rows ≡ l.below;
   exact : AreExact g.C.Cost.ops l.frame l.weights l.cliques l.below;
   touched : IsEntryCount l.frame (IsTouchedUpTo l.frame l.vertices l.arcs l.below) l.searches;
   few : l.searches ≤ l.below * 2 ^ 32;

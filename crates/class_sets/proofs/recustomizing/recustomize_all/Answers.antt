@@ -5,7 +5,7 @@ use Rattle.std.proofs.lemmas.Option.{same_Some, slice_get-get_or}
 use Rattle.list_lemmas.proofs.Fronts.{all_zip-more}
 use Rattle.list_lemmas.proofs.Gets.{get_is}
 use Rattle.search_graph.specs.Digraph.{Weighting}
-use Rattle.cell_frame.specs.Cliqued.{Rows, AreExact}
+use Rattle.cell_frame.specs.Cliqued.{AreExact, CliqueLists}
 use Rattle.cell_recustomize.specs.declared.places.Changed.{Changed}
 use Rattle.cell_recustomize.specs.Touched.{IsTouchedCount}
 use Rattle.class_sets.proofs.Counting.{kept_at, counted_more}
@@ -42,10 +42,10 @@ loop-k-preserved g c =
     let first = slice_get-get_or changed k c.index-changed-k.result lt in
     let same : other ≡ one = same_Some other one (sym (slice_get-get_or changed k c.index-changed-k-in-loop-k.result lt) ∙ first) in
     let arcs = c.as_slice-arcs.ensures ∙ ap (λ (x : Changed). x.arcs) same in
-    let R : Weighting _ → List (Rows _) → Type 0 = λ w cliques. AreExact g.C.Cost.ops frame w cliques (length frame.cells.levels) in
+    let R : Weighting _ → CliqueLists _ → Type 0 = λ w cliques. AreExact g.C.Cost.ops frame w cliques (length frame.cells.levels) in
     record {
       exact =
-          subst (λ (sets : List (List (Rows _))). AllZip R (take (k + 1) weights) sets) (sym c.in_ok-push.ensures.items)
+          subst (λ (sets : List (CliqueLists _)). AllZip R (take (k + 1) weights) sets) (sym c.in_ok-push.ensures.items)
           (all_zip-more R weights c.loop-k.sets.items k w c.in_ok-made.made.cliques c.loop-k.invariant.exact at c.in_ok-made.ensures.cliques);
       counted = counted_more frame changed c.loop-k.searches k one c.in_ok-made.made.searches c.saturating_add-searches.result c.loop-k.invariant.counted first
           (subst (λ (vs : List _). IsTouchedCount frame vs one.arcs c.in_ok-made.made.searches) c.as_slice-vertices.ensures

@@ -5,7 +5,7 @@ use Rattle.cell_frame.specs.Borders.{Holds}
 use Rattle.worked_cells.proofs.columns.column_told.Goals as goal
 
 pub column-requires-clause-cliques : goal.column-requires-clause-cliques
-column-requires-clause-cliques c = λ k i u is le e. c.requires.cliques k i u is is.1 e
+column-requires-clause-cliques c = record { rows = λ k i u is le e. c.requires.cliques.rows k i u is is.1 e; crossing = c.requires.cliques.crossing }
 
 pub column-requires-clause-target : goal.column-requires-clause-target
 column-requires-clause-target c =

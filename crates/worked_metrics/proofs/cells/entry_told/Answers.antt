@@ -9,5 +9,5 @@ use Rattle.worked_metrics.proofs.cells.entry_told.Goals as goal
 pub row-row-requires-clause-has : goal.row-row-requires-clause-has
 row-row-requires-clause-has c =
     let entries = at_cell c.args.under.now.frame.entries c.args.cell in
-    let exact = c.cliques.ensures c.args.cell c.args.i (get_or entries c.args.i 0) c.requires.cell c.requires.cell.1 (slice_get-get_or entries c.args.i 0 c.requires.entry) in
+    let exact = c.cliques.ensures.rows c.args.cell c.args.i (get_or entries c.args.i 0) c.requires.cell c.requires.cell.1 (slice_get-get_or entries c.args.i 0 c.requires.entry) in
     subst (λ (f : Framed). (row : List (Option WeightDurLen)) × HasCellRow f c.cliques.result.now c.args.cell c.args.i row) (sym c.frame.ensures.value) (exact.0, exact.1)

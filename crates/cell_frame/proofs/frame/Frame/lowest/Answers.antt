@@ -8,4 +8,4 @@ pub returns : goal.returns
 returns c =
     let f = c.self.inside in
     let some : 1 ≤ length f.cells.levels = subst (λ (x : Framed). 1 ≤ length x.cells.levels) (sym c.self.view_is) c.requires.some in
-    subst (λ (x : Framed). c.spot.result.lowest ≡ number_of (level_at x.cells 1) c.args.v) c.self.view_is ((c.self.invariant.2.each c.args.v c.spot.result c.spot.ensures).lowest some)
+    subst (λ (x : Framed). c.spot.result.lowest ≡ number_of (level_at x.cells 1) c.args.v) c.self.view_is ((c.self.invariant.1.each c.args.v c.spot.result c.spot.ensures).lowest some)

@@ -27,6 +27,10 @@ all_levels : {C : Type 0} (ops : CostOps C) (f : Framed) (w : Weighting C) (t be
     ((i : ℕ) (column : List (Option C)) → slice_get levels i ≡ Some column → IsColumn ops f w (cell_of f.cells (i + 1) t) t column) → AreColumns ops f w t made
 all_levels {C} ops f w t below end made levels is ends high low n each = subst (λ (x : List (List (Option C))). AreColumns ops f w t x) (sym is) (record { size = omega (arith, ends, high, low, n); each = each })
 
+-- what is exact in all levels is exact below each
+pub column-requires-clause-cliques : goal.column-requires-clause-cliques
+column-requires-clause-cliques g c = record { rows = λ k i u at le e. c.requires.cliques.rows k i u at at.1 e; crossing = c.requires.cliques.crossing }
+
 pub loop-below-preserved : goal.loop-below-preserved
 loop-below-preserved g c = record {
   size = rw c.in_ok-push.ensures.items (omega (arith, length-append c.loop-below.levels.items (c.of.result ∷ []), c.loop-below.invariant.size));
