@@ -63,13 +63,13 @@ fn options() -> Options {
     o
 }
 
-fn megabytes(key: &str) -> u64 {
+fn megabytes(key: &str) -> f64 {
     let s = std::fs::read_to_string("/proc/self/status").unwrap_or_default();
     let kb = s
         .lines()
         .find(|l| l.starts_with(key))
-        .and_then(|l| l.split_whitespace().nth(1)?.parse::<u64>().ok());
-    kb.unwrap_or(0) / 1024
+        .and_then(|l| l.split_whitespace().nth(1)?.parse::<f64>().ok());
+    kb.unwrap_or(0.0) / 1024.0
 }
 
 struct Random(u64);
@@ -231,7 +231,7 @@ fn run<C: Cost>(net: &Network, o: &Options) {
     let custom = t.elapsed().as_secs_f64();
     println!("customization: {custom:.3} s, by level {levels:.3?}");
     println!(
-        "memory: {} MB now, {} MB at its peak",
+        "memory: {:.1} MB now, {:.1} MB at its peak",
         megabytes("VmRSS"),
         megabytes("VmHWM")
     );
@@ -402,7 +402,7 @@ fn main() {
         return;
     }
     println!(
-        "read and built: {:.3} s, {} MB",
+        "read and built: {:.3} s, {:.1} MB",
         t.elapsed().as_secs_f64(),
         megabytes("VmRSS")
     );
