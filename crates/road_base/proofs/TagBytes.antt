@@ -1,15 +1,16 @@
 -- The bytes in which tags are kept, and the tags in them.
-use Rattle.std.proofs.Common.{◌≡◌, ℕ, ◌+◌, ◌/◌, ◌%◌, ◌<◌, inl, inr, Bool, true, false, ◌&&◌, eqb, ltb, List, [], ◌∷◌, ◌++◌, refl, sym, ap, subst, cond, Some, ◌∙◌, All, arith, append_assoc}
-use Rattle.std.specs.List.{slice_split}
+use Rattle.std.proofs.Common.{◌≡◌, ℕ, zero, suc, ◌+◌, ◌/◌, ◌%◌, ◌<◌, ◌≤◌, inl, inr, Bool, true, false, not, ◌&&◌, eqb, ltb, List, [], ◌∷◌, ◌++◌, length, take, drop, refl, sym, ap, ap₂, subst, cond, Some, ◌∙◌, All, arith, append_assoc, length-append, length-drop, eq-eqb}
+use Rattle.std.proofs.Math.Seq.{take-append_seam, drop-append_seam}
+use Rattle.std.specs.List.{position_or_len, before_first, after_first}
 use Rattle.std.specs.Str.{IsUtf8}
 use Rattle.std.proofs.lemmas.Bool.{ne_eqb, ltb-true}
+use Rattle.std.proofs.lemmas.List.{append-nil}
 use Rattle.std.proofs.lemmas.List.Elements.{All-nil, All-cons, All-head, All-tail, All-append, All-push}
-use Rattle.std.proofs.lemmas.List.Splits.{slice_split_at}
 use lib.Utf8.{scalar, scalars, encode, encodes, scalar_cases, next}
 use Rattle.std.specs.Prelude.{bytes_eq}
 use Rattle.std.proofs.lemmas.Option.{same_Some}
 use Rattle.road_base.specs.TagValue.{value_of}
-use Rattle.road_base.specs.TagBytes.{tags_in, in_pairs, bytes_of, IsTag, AreTagBytes}
+use Rattle.road_base.specs.TagBytes.{is_end, texts_within, texts_in, text_bytes, tags_in, in_pairs, bytes_of, IsTag, AreTagBytes}
 
 abbrev IsNoEnd : ℕ → Type 0
 IsNoEnd b = eqb b 255 ≡ false
@@ -63,27 +64,120 @@ none_in_chars (c ∷ cs) h =
 none_in_text : (text : List ℕ) → IsUtf8 text → All IsNoEnd text
 none_in_text text utf8 = subst (λ (l : List ℕ). All IsNoEnd l) utf8.1.1 (none_in_chars utf8.0 utf8.1.0)
 
-split_text : (text more : List ℕ) → IsUtf8 text → slice_split (λ b. eqb b 255) (text ++ 255 ∷ more) ≡ text ∷ slice_split (λ b. eqb b 255) more
-split_text text more utf8 = slice_split_at (λ b. eqb b 255) text 255 more (none_in_text text utf8) refl
+-- the first end stands behind a text
+end_behind : (text more : List ℕ) → All IsNoEnd text → position_or_len is_end (text ++ 255 ∷ more) ≡ length text
+end_behind [] more all = refl
+end_behind (b ∷ text) more all =
+    let first : eqb b 255 ≡ false = All-head IsNoEnd b text all in
+    let next = end_behind text more (All-tail IsNoEnd b text all) in
+    let n = position_or_len is_end (text ++ 255 ∷ more) in
+    let step : 1 + n ≡ suc (length text) = omega arith in
+    ap (λ t. cond (not t) (1 + n) 0) first ∙ step
+
+after_seam : (text more : List ℕ) → drop (length text + 1) (text ++ 255 ∷ more) ≡ more
+after_seam [] more = refl
+after_seam (b ∷ text) more =
+    let one : suc (length text) + 1 ≡ suc (length text + 1) = omega arith in
+    ap (λ n. drop n (b ∷ (text ++ 255 ∷ more))) one ∙ after_seam text more
+
+before_end : (text more : List ℕ) → All IsNoEnd text → before_first is_end (text ++ 255 ∷ more) ≡ text
+before_end text more all = ap (λ n. take n (text ++ 255 ∷ more)) (end_behind text more all) ∙ take-append_seam text (255 ∷ more)
+
+after_end : (text more : List ℕ) → All IsNoEnd text → after_first is_end (text ++ 255 ∷ more) ≡ more
+after_end text more all = ap (λ n. drop (n + 1) (text ++ 255 ∷ more)) (end_behind text more all) ∙ after_seam text more
+
+-- the bytes of a text, for a test whether it is short
+abbrev written : Bool → List ℕ → List ℕ
+written short text = cond short (length text ∷ text) (255 ∷ (text ++ 255 ∷ []))
+
+texts_case : (most : ℕ) (text more : List ℕ) (short : Bool) → All IsNoEnd text → ltb (length text) 255 ≡ short
+    → texts_within (suc most) (written short text ++ more) ≡ text ∷ texts_within most more
+texts_case most text more true all h =
+    let few : eqb (length text) 255 ≡ false = none (length text) (ltb-true (length text) 255 h) in
+    let rest = text ++ more in
+    ap (λ t. cond t (before_first is_end rest ∷ texts_within most (after_first is_end rest)) (take (length text) rest ∷ texts_within most (drop (length text) rest))) few
+    ∙ ap₂ (λ (a b : List ℕ). a ∷ texts_within most b) (take-append_seam text more) (drop-append_seam text more)
+texts_case most text more false all h =
+    ap (λ (bytes : List ℕ). before_first is_end bytes ∷ texts_within most (after_first is_end bytes)) (append_assoc text (255 ∷ []) more)
+    ∙ ap₂ (λ (a b : List ℕ). a ∷ texts_within most b) (before_end text more all) (after_end text more all)
+
+-- the first text in the bytes of a text and more is that one
+texts_within-text : (most : ℕ) (text more : List ℕ) → IsUtf8 text → texts_within (suc most) (text_bytes text ++ more) ≡ text ∷ texts_within most more
+texts_within-text most text more utf8 = texts_case most text more (ltb (length text) 255) (none_in_text text utf8) refl
+
+none_within : (most : ℕ) → texts_within most [] ≡ []
+none_within zero = refl
+none_within (suc most) = refl
+
+-- as many as there are bytes are all
+enough : (a b : ℕ) (bytes : List ℕ) → length bytes ≤ a → length bytes ≤ b → texts_within a bytes ≡ texts_within b bytes
+enough a b [] ha hb = none_within a ∙ sym (none_within b)
+enough zero b (size ∷ bytes) ha hb = absurd (omega arith)
+enough (suc a) zero (size ∷ bytes) ha hb = absurd (omega arith)
+enough (suc a) (suc b) (size ∷ bytes) ha hb =
+    let long = after_first is_end bytes in
+    let short = drop size bytes in
+    let first : texts_within a long ≡ texts_within b long = enough a b long (omega (arith, length-drop (position_or_len is_end bytes + 1) bytes)) (omega (arith, length-drop (position_or_len is_end bytes + 1) bytes)) in
+    let second : texts_within a short ≡ texts_within b short = enough a b short (omega (arith, length-drop size bytes)) (omega (arith, length-drop size bytes)) in
+    ap₂ (λ (u v : List (List ℕ)). cond (eqb size 255) (before_first is_end bytes ∷ u) (take size bytes ∷ v)) first second
+
+-- behind a long text stand the texts that are left
+pub texts_in-long : (size : ℕ) (bytes : List ℕ) → size ≡ 255 → texts_in (size ∷ bytes) ≡ before_first is_end bytes ∷ texts_in (after_first is_end bytes)
+texts_in-long size bytes is =
+    let long = after_first is_end bytes in
+    let short = drop size bytes in
+    let n = length bytes in
+    let left : texts_within n long ≡ texts_in long = enough n (length long) long (omega (arith, length-drop (position_or_len is_end bytes + 1) bytes)) (omega arith) in
+    ap (λ t. cond t (before_first is_end bytes ∷ texts_within n long) (take size bytes ∷ texts_within n short)) (eq-eqb size 255 is)
+    ∙ ap (λ (more : List (List ℕ)). before_first is_end bytes ∷ more) left
+
+-- and behind a short one
+pub texts_in-short : (size : ℕ) (bytes : List ℕ) → (size ≡ 255 → ⊥) → texts_in (size ∷ bytes) ≡ take size bytes ∷ texts_in (drop size bytes)
+texts_in-short size bytes not =
+    let long = after_first is_end bytes in
+    let short = drop size bytes in
+    let n = length bytes in
+    let left : texts_within n short ≡ texts_in short = enough n (length short) short (omega (arith, length-drop size bytes)) (omega arith) in
+    ap (λ t. cond t (before_first is_end bytes ∷ texts_within n long) (take size bytes ∷ texts_within n short)) (ne_eqb size 255 not)
+    ∙ ap (λ (more : List (List ℕ)). take size bytes ∷ more) left
+
+-- the bytes of a text are one more than it has, at least
+longer : (text : List ℕ) (short : Bool) → length text < length (written short text)
+longer text true = omega arith
+longer text false = omega (arith, length-append text (255 ∷ []))
+
+fewer : (text more : List ℕ) (most : ℕ) → length (text_bytes text ++ more) ≤ most → length more < most
+fewer text more most h = omega (arith, length-append (text_bytes text) more, longer text (ltb (length text) 255))
+
+one_tag : (most : ℕ) (tag : List ℕ × List ℕ) (more : List ℕ) → IsTag tag → in_pairs (texts_within (suc (suc most)) (text_bytes tag.0 ++ (text_bytes tag.1 ++ more))) ≡ tag ∷ in_pairs (texts_within most more)
+one_tag most tag more texts =
+    ap in_pairs (texts_within-text (suc most) tag.0 (text_bytes tag.1 ++ more) texts.key ∙ ap (λ l. tag.0 ∷ l) (texts_within-text most tag.1 more texts.value))
+
+tags_within : (most : ℕ) (tags : List (List ℕ × List ℕ)) → All IsTag tags → length (bytes_of tags) ≤ most → in_pairs (texts_within most (bytes_of tags)) ≡ tags
+tags_within most [] all room = ap in_pairs (none_within most)
+tags_within zero (tag ∷ tags) all room = absurd (omega (arith, fewer tag.0 (text_bytes tag.1 ++ bytes_of tags) zero room))
+tags_within (suc zero) (tag ∷ tags) all room =
+    absurd (omega (arith, fewer tag.1 (bytes_of tags) 0 (let less = fewer tag.0 (text_bytes tag.1 ++ bytes_of tags) 1 room in omega arith)))
+tags_within (suc (suc most)) (tag ∷ tags) all room =
+    let behind_key = fewer tag.0 (text_bytes tag.1 ++ bytes_of tags) (suc (suc most)) room in
+    let behind = fewer tag.1 (bytes_of tags) (suc most) (omega arith) in
+    one_tag most tag (bytes_of tags) (All-head IsTag tag tags all)
+    ∙ ap (λ l. tag ∷ l) (tags_within most tags (All-tail IsTag tag tags all) (omega arith))
 
 -- the tags in the bytes of tags are these
 pub tags_in-bytes_of : (tags : List (List ℕ × List ℕ)) → All IsTag tags → tags_in (bytes_of tags) ≡ tags
-tags_in-bytes_of [] all = refl
-tags_in-bytes_of (tag ∷ tags) all =
-    let first = All-head IsTag tag tags all in
-    ap in_pairs (split_text tag.0 (tag.1 ++ 255 ∷ bytes_of tags) first.key ∙ ap (λ l. tag.0 ∷ l) (split_text tag.1 (bytes_of tags) first.value))
-    ∙ ap (λ l. tag ∷ l) (tags_in-bytes_of tags (All-tail IsTag tag tags all))
+tags_in-bytes_of tags all = tags_within (length (bytes_of tags)) tags all (omega arith)
 
 -- the bytes of one tag
 abbrev pub tag_bytes : List ℕ → List ℕ → List ℕ
-tag_bytes key value = key ++ 255 ∷ (value ++ 255 ∷ [])
+tag_bytes key value = text_bytes key ++ text_bytes value
 
 bytes_of-push : (tags : List (List ℕ × List ℕ)) (key value : List ℕ) → bytes_of (tags ++ (key, value) ∷ []) ≡ bytes_of tags ++ tag_bytes key value
-bytes_of-push [] key value = refl
+bytes_of-push [] key value = ap (λ l. text_bytes key ++ l) (append-nil (text_bytes value))
 bytes_of-push (tag ∷ tags) key value =
-    ap (λ l. tag.0 ++ 255 ∷ (tag.1 ++ 255 ∷ l)) (bytes_of-push tags key value)
-    ∙ ap (λ l. tag.0 ++ 255 ∷ l) (sym (append_assoc tag.1 (255 ∷ bytes_of tags) (tag_bytes key value)))
-    ∙ sym (append_assoc tag.0 (255 ∷ (tag.1 ++ 255 ∷ bytes_of tags)) (tag_bytes key value))
+    ap (λ l. text_bytes tag.0 ++ (text_bytes tag.1 ++ l)) (bytes_of-push tags key value)
+    ∙ ap (λ l. text_bytes tag.0 ++ l) (sym (append_assoc (text_bytes tag.1) (bytes_of tags) (tag_bytes key value)))
+    ∙ sym (append_assoc (text_bytes tag.0) (text_bytes tag.1 ++ bytes_of tags) (tag_bytes key value))
 
 -- the bytes with one more tag's behind them
 pub record HasPushed (bytes key value all : List ℕ) : Type 0 where
@@ -105,13 +199,9 @@ pushed bytes key value all old utf8_key utf8_value same =
       };
     }
 
--- that is how they are written, one part after another
-pub four_parts : (bytes key value a b c all : List ℕ) → a ≡ bytes ++ key → b ≡ a ++ 255 ∷ [] → c ≡ b ++ value → all ≡ c ++ 255 ∷ [] → all ≡ bytes ++ tag_bytes key value
-four_parts bytes key value a b c all e1 e2 e3 e4 =
-    e4 ∙ ap (λ l. l ++ 255 ∷ []) (e3 ∙ ap (λ l. l ++ value) (e2 ∙ ap (λ l. l ++ 255 ∷ []) e1))
-    ∙ append_assoc ((bytes ++ key) ++ 255 ∷ []) value (255 ∷ [])
-    ∙ append_assoc (bytes ++ key) (255 ∷ []) (value ++ 255 ∷ [])
-    ∙ append_assoc bytes key (255 ∷ (value ++ 255 ∷ []))
+-- that is how they are written, one text after another
+pub two_texts : (bytes key value a all : List ℕ) → a ≡ bytes ++ text_bytes key → all ≡ a ++ text_bytes value → all ≡ bytes ++ tag_bytes key value
+two_texts bytes key value a all e1 e2 = e2 ∙ ap (λ l. l ++ text_bytes value) e1 ∙ append_assoc bytes (text_bytes key) (text_bytes value)
 
 text_case : (first : List ℕ × List ℕ) (tags : List (List ℕ × List ℕ)) (key value : List ℕ) (same : Bool) → IsTag first → (value_of tags key ≡ Some value → IsUtf8 value)
     → cond same (Some first.1) (value_of tags key) ≡ Some value → IsUtf8 value

@@ -3,7 +3,7 @@ use Rattle.std.proofs.Common.{sym, ap, ap₂, ◌∙◌, List, ℕ, All, subst}
 use Rattle.road_base.specs.TagValue.{value_of}
 use Rattle.road_base.specs.TagBytes.{tags_in, IsTag}
 use Rattle.road_base.proofs.TagBytes.{value_of-text}
-use Rattle.road_base.proofs.tag_lists.Tags.get.Goals as goal
+use Rattle.road_base.proofs.tag_lists.Tags.found.Goals as goal
 
 pub text_in-requires : goal.text_in-requires
 text_in-requires c =
