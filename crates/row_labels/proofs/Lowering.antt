@@ -15,7 +15,7 @@ use Rattle.search_graph.specs.Ranks.{AreRanks, AreOwnRanks}
 use Rattle.search_graph.specs.OrderLaws.{le_from_not_less}
 use Rattle.row_labels.specs.Worded.{IsWithinRank}
 use Rattle.row_labels.specs.Rowed.{LowersRow}
-use Rattle.row_labels.specs.Lowered.{value_on, AreAdded, IsNoLess, IsOver, IsOffered, LowersAt, Lowers}
+use Rattle.row_labels.specs.Lowered.{value_on, AreAdded, IsToldOver, IsNoLess, IsOver, IsOffered, LowersAt, Lowers}
 use Rattle.row_labels.specs.Lowered.IsOffered.{left, lowered}
 use Rattle.row_labels.specs.Lowered.LowersAt.{closed, offered}
 
@@ -65,26 +65,24 @@ on_true false h f = tt
 below_most : (w m : ℕ) → w < 2 ^ 64 - 1 → (w + 1) % 2 ^ 64 ≤ m → w < m
 below_most w m lt le = omega (arith, lt, le)
 
-least_sum : (rank w sum : ℕ) → rank < 2 ^ 62 → w < 2 ^ 62 → sum ≡ min (rank + w) (2 ^ 64 - 1) → sum ≡ rank + w
-least_sum rank w sum h k e = grind (arith, nat_tests)
+least_sum : (rank w value : ℕ) → rank < 2 ^ 62 → w < 2 ^ 62 → value ≤ min (rank + w) (2 ^ 64 - 1) → value ≤ rank + w
+least_sum rank w value h k e = grind (arith, nat_tests)
 
--- where the word of a place is a rank or that of no cost, so that the next word is no more than `below`, the words tell that the
--- offer improves nothing, or that there is none
-pub told_over : {C : Type 0} {narrowed ranked : C → Option ℕ} {most : ℕ} → AreOwnRanks narrowed ranked most → most ≤ 2 ^ 62 → (values : List (Option C)) (i : ℕ) (paid : C) (costs : List (Option C)) (place rank below w sum : ℕ) (within : Bool) →
-    AreAdded ranked most paid rank below → w < 2 ^ 64 → (w + 1) % 2 ^ 64 ≤ below → (w < 2 ^ 63 → (s : C) × (slice_get costs place ≡ Some (Some s)) × (narrowed s ≡ Some w)) → (w ≡ 2 ^ 64 - 1 → slice_get costs place ≡ Some None) →
-    sum ≡ min (rank + w) (2 ^ 64 - 1) → OnTrue within (sum < 2 ^ 63 → IsWithinRank ranked values i sum) → OnTrue within (IsOver ranked values i paid costs place)
-told_over {C} {narrowed} {ranked} {most} own few values i paid costs place rank below w sum within added fits le at none is h = on_true within h (λ tells. elim (cases_eq w (2 ^ 64 - 1)) [
+-- where the words of a place tell that its offer is no less than its value, it is so
+pub told_over : {C : Type 0} {narrowed ranked : C → Option ℕ} {most : ℕ} → AreOwnRanks narrowed ranked most → most ≤ 2 ^ 62 → (values : List (Option C)) (i : ℕ) (paid : C) (costs : List (Option C)) (place rank ranks word value : ℕ) →
+    AreAdded ranked most paid rank ranks → word < 2 ^ 64 → (word < 2 ^ 63 → (s : C) × (slice_get costs place ≡ Some (Some s)) × (narrowed s ≡ Some word)) → (word ≡ 2 ^ 64 - 1 → slice_get costs place ≡ Some None) →
+    (value < 2 ^ 63 → IsWithinRank ranked values i value) → IsToldOver word value rank ranks → IsOver ranked values i paid costs place
+told_over own few values i paid costs place rank ranks word value added fits at none within told = elim (cases_eq word (2 ^ 64 - 1)) [
   | inl last ↦ inl (none last)
   | inr other ↦
-      let lt : w < below = below_most w below (omega (arith, fits, other)) le in
-      let a = added w lt in
-      let less : w < most = a.0 in
-      let low : rank < 2 ^ 62 = a.2 in
-      let short : w < 2 ^ 62 = omega (arith, less, few) in
-      let s = at (omega (arith, short)) in
-      let total : sum ≡ rank + w = least_sum rank w sum low short is in
-      inr (s.0, rank, w, s.1, a.1, own s.0 w s.2 less, subst (IsWithinRank ranked values i) total (tells (omega (arith, total, low, short))))
-])
+      let lt : word < ranks = below_most word ranks (omega (arith, fits, other)) told.0 in
+      let a = added word lt in
+      let less : word < 2 ^ 62 = omega (arith, a.0, few) in
+      let s = at (omega (arith, less)) in
+      let le : value ≤ rank + word = least_sum rank word value a.2 less told.1 in
+      let is = within (omega (arith, le, a.2, less)) in
+      inr (s.0, rank, word, s.1, a.1, own s.0 word s.2 a.0, (is.0, is.1, is.2, is.3, omega (arith, is.4, le)))
+]
 
 -- where the word of a cost is a rank and so is the sum with that of what is paid, it is the rank of the offer
 pub summed : {C : Type 0} {ops : CostOps C} {narrowed ranked : C → Option ℕ} {unranked : ℕ → C} {most : ℕ} → AreRanks ops ranked unranked → AreOwnRanks narrowed ranked most → most ≤ 2 ^ 62 → (paid : C) (costs : List (Option C)) (place rank ranks w sum : ℕ) (found : Option ℕ) →

@@ -1,5 +1,5 @@
 -- Private to this crate: what offers along a row leave of the list of values, where the row's begin at `first`.
-use Rattle.std.specs.Prelude.{◌≡◌, ◌⊎◌, ℕ, ◌+◌, ◌<◌, ◌^◌, List, [], Option, Some, None, slice_index_or, set, ◌∷◌, ◌++◌}
+use Rattle.std.specs.Prelude.{◌≡◌, ◌⊎◌, ℕ, ◌+◌, ◌-◌, ◌%◌, ◌<◌, ◌≤◌, ◌^◌, min, List, [], Option, Some, None, slice_index_or, set, ◌∷◌, ◌++◌}
 use Rattle.std.specs.List.{Contains, slice_get}
 use Rattle.search_graph.specs.Costs.{CostOps, NoDearer}
 use Rattle.row_labels.specs.Rowed.{IsImproved}
@@ -12,6 +12,10 @@ value_on values i = slice_index_or values i None
 -- where a word below `ranks` is, it is below `most`, and `rank` is that of what is paid and below 2^62
 abbrev pub AreAdded : {C : Type 0} → (C → Option ℕ) → ℕ → C → ℕ → ℕ → Type 0
 AreAdded ranked most paid rank ranks = (w : ℕ) → w < ranks → (w < most) × (ranked paid ≡ Some rank) × (rank < 2 ^ 62)
+
+-- the words of a cost and of a value, and what is added, tell that the offer is no less than the value, or that there is no cost
+abbrev pub IsToldOver : ℕ → ℕ → ℕ → ℕ → Type 0
+IsToldOver word value rank ranks = ((word + 1) % 2 ^ 64 ≤ ranks) × (value ≤ min (rank + word) (2 ^ 64 - 1))
 
 -- the rank of what is paid and that of the cost at a place are together no less than the rank of the value at place i
 abbrev pub IsNoLess : {C : Type 0} → (C → Option ℕ) → List (Option C) → ℕ → C → List (Option C) → ℕ → Type 0

@@ -5,7 +5,7 @@ ghost use Rattle.std.specs.Bool.{OnTrue, OnFalse};
 ghost use Rattle.std.specs.List.{slice_get};
 ghost use Rattle.row_labels.specs.Rowed.{span_of, value_in, value_of, LowersRow};
 ghost use Rattle.row_labels.specs.Blocks.{AreApart};
-ghost use Rattle.row_labels.specs.Lowered.{AreAdded, IsOver, IsOffered, LowersAt, Lowers};
+ghost use Rattle.row_labels.specs.Lowered.{AreAdded, IsToldOver, IsOver, IsOffered, LowersAt, Lowers};
 
 use crate::blocks::{Blocks, Span};
 use crate::words::Words;
@@ -229,7 +229,7 @@ fn lower_values<C: Cost>(
 
 // Passes over the places from `from` on where words alone tell that the offer improves nothing, and gives the place behind them:
 // most are passed over here, and nothing is written meanwhile.
-#[inline(always)]
+#[inline(never)]
 fn pass_over<C: Cost>(words: &Words<C>, first: usize, offers: &Offers<C>, from: usize) -> usize
     requires ranks { AreAdded C.ranked C.RANKS offers.now.paid offers.now.rank offers.now.ranks }
     requires from { from ≤ offers.now.count }
@@ -240,8 +240,11 @@ fn pass_over<C: Cost>(words: &Words<C>, first: usize, offers: &Offers<C>, from: 
     ensures count { result ≤ offers.now.count }
     ensures over { (j : ℕ) → from ≤ j → j < result → IsOver C.ranked words.now (first + j) offers.now.paid offers.now.costs.now j }
 {
+    let costs = offers.costs.words();
+    let values = words.block(first, offers.count);
+    let (rank, ranks) = (offers.rank, offers.ranks);
     for place in from..offers.count {
-        if !is_over(words, first, offers, place) {
+        if !is_over(costs[place], values[place], rank, ranks) {
             return place;
         }
     }
@@ -252,19 +255,10 @@ fn pass_over<C: Cost>(words: &Words<C>, first: usize, offers: &Offers<C>, from: 
 // than the value. The word of no cost is the greatest: one more is 0, as for no other word, and the sum saturates, so that no
 // value is above it. Which places have no cost is hard to foresee, so no branch asks that.
 #[inline(always)]
-fn is_over<C: Cost>(words: &Words<C>, first: usize, offers: &Offers<C>, place: usize) -> bool
-    requires ranks { AreAdded C.ranked C.RANKS offers.now.paid offers.now.rank offers.now.ranks }
-    requires place { place < offers.now.count }
-    requires long { offers.now.count ≤ length offers.now.costs.now }
-    requires room { first + offers.now.count ≤ length words.now }
-    requires small { first + offers.now.count < 2 ^ 64 }
-    ensures { OnTrue result (IsOver C.ranked words.now (first + place) offers.now.paid offers.now.costs.now place) }
+fn is_over(word: u64, value: u64, rank: u64, ranks: u64) -> bool
+    ensures { OnTrue result (IsToldOver word value rank ranks) }
 {
-    let word = offers.costs.word(place);
-    if word.wrapping_add(1) > offers.ranks {
-        return false;
-    }
-    words.is_within(first + place, offers.rank.saturating_add(word))
+    word.wrapping_add(1) <= ranks && value <= rank.saturating_add(word)
 }
 
 // Offers a cost along one place, if it has one: by words, where they tell all.

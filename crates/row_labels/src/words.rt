@@ -1,7 +1,7 @@
 //! A list of costs, of which each may be missing, in a word each. Most words are ranks, which tell without a look at costs how
 //! a sum of two compares.
 
-ghost use Rattle.std.specs.Prelude.{◌≡◌, ◌+◌, ◌^◌, ◌<◌, ◌++◌, List, [], length, replicate, set, Some, None, IfOk, OnOk, OnErr};
+ghost use Rattle.std.specs.Prelude.{◌≡◌, ℕ, ◌+◌, ◌^◌, ◌<◌, ◌≤◌, ◌++◌, List, [], length, replicate, set, Some, None, IfOk, OnOk, OnErr};
 ghost use Rattle.std.specs.Bool.{OnTrue, OnFalse};
 ghost use Rattle.std.specs.List.{slice_get};
 ghost use Rattle.row_labels.specs.Worded.{value_at, IsPlaced, IsRankOrPlace, IsWithinRank};
@@ -86,14 +86,17 @@ impl<C: Cost> Words<C> {
         value(self.words[i], self.others.as_slice())
     }
 
-    /// Whether the word of place `i` is no more than this number. Where the number is below 2^63, that says that the cost there has
-    /// a rank, which is no more. It looks at no cost.
+    /// The words of `count` places from `first` on. One below 2^63 says that the cost at its place has a rank, which is the word.
+    /// It looks at no cost.
     #[inline(always)]
-    pub fn is_within(&self, i: usize, rank: u64) -> bool
-        requires { i < length self.now }
-        ensures { OnTrue result (rank < 2 ^ 63 → IsWithinRank C.ranked self.now i rank) }
+    pub fn block(&self, first: usize, count: usize) -> &[u64]
+        requires within { first + count ≤ length self.now }
+        requires small { first + count < 2 ^ 64 }
+        ensures long { length result.now ≡ count }
+        ensures ranks { (i w : ℕ) → slice_get result.now i ≡ Some w → w < 2 ^ 63 → IsWithinRank C.ranked self.now (first + i) w }
     {
-        self.words[i] <= rank
+        let words = self.words.as_slice();
+        &words[first..first + count]
     }
 
     /// Puts the cost of a rank at place `i` if there is none, or one of a higher rank, and tells whether it did. It looks at no
