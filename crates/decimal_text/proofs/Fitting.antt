@@ -13,7 +13,7 @@ digits_value_after-ge n [] = omega arith
 digits_value_after-ge n (d ∷ ds) = omega (arith, digits_value_after-ge (n * 10 + digit_value d) ds)
 
 -- the number stays below the next greater one with as many zeros behind it
-below_next : (n : ℕ) (ds : List ℕ) → list_all (λ b. is_ascii_digit b) ds ≡ true → digits_value_after 10 n ds + 1 ≤ (n + 1) * 10 ^ length ds
+pub below_next : (n : ℕ) (ds : List ℕ) → list_all (λ b. is_ascii_digit b) ds ≡ true → digits_value_after 10 n ds + 1 ≤ (n + 1) * 10 ^ length ds
 below_next n [] h = omega arith
 below_next n (d ∷ ds) h =
     let parts = and_parts _ _ h in

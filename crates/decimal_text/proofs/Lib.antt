@@ -3,3 +3,4 @@ pub mod Fitting
 pub mod Parts
 pub mod KeptDigits
 pub mod Ranges
+pub mod Usual

@@ -1,6 +1,6 @@
 -- Decimals and their value in whole millionths. A decimal is an optional `-`, one or more digits, and
 -- optionally a point and one or more digits (OPL coordinates; the rounding is this project's rule).
-use Rattle.std.specs.Prelude.{◌≡◌, true, ℕ, ℤ, ◌+◌, ◌≤◌, ◌↔◌, unsigned_abs, Bool, ◌&&◌, ◌||◌, ◌==◌, List, ◌++◌, take, min, codes, slice_index, nat_le, is_none, position, Option, Some, None, if◌then◌else◌}
+use Rattle.std.specs.Prelude.{◌≡◌, true, ℕ, ℤ, ◌+◌, ◌≤◌, ◌↔◌, unsigned_abs, Bool, ◌&&◌, ◌||◌, ◌==◌, List, ◌++◌, take, drop, length, ◌<◌, min, codes, slice_index, nat_le, is_none, position, Option, Some, None, if◌then◌else◌}
 use Rattle.std.specs.Char.{is_ascii_digit}
 use Rattle.std.specs.List.{before_first, after_first, list_all}
 use Rattle.std.specs.Str.Parse.{digits_value}
@@ -72,3 +72,14 @@ pub record ArePartsOf (text whole fraction : List ℕ) : Type 0 where
   pub after : fraction ≡ after_point text
   pub whole_digits : list_all (λ b. is_ascii_digit b) whole ≡ true
   pub fraction_digits : list_all (λ b. is_ascii_digit b) fraction ≡ true
+
+-- the parts of a text round the point that stands before its last six or seven bytes
+pub record AreUsualParts (text whole fraction : List ℕ) : Type 0 where
+  pub before : whole ≡ take (length whole) text
+  pub point : slice_index text (length whole) ≡ 46
+  pub after : fraction ≡ drop (length whole + 1) text
+  pub within : length whole < length text
+  pub some : 0 < length whole
+  pub few : length whole ≤ 13
+  pub at_least_six : 6 ≤ length fraction
+  pub at_most_seven : length fraction ≤ 7

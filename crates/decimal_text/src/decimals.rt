@@ -7,6 +7,7 @@ ghost use Rattle.std.specs.Str.Parse.{digits_value};
 ghost use Rattle.decimal_text.specs.Decimal.{farthest, kept_digits, scaled_within, TellsRanges, microdegrees_of, millionths, rounding, is_point, is_unsigned_decimal, ArePartsOf};
 
 use crate::numerals::{append_digits, is_numeral, past_minus, signed};
+use crate::usual_decimals::usual_magnitude;
 
 /// The farthest value either way that is told, in microdegrees: 1,000,000 degrees, far outside of the Earth's
 /// 180, so that a test for a range on Earth comes out as it would for the number itself.
@@ -26,7 +27,11 @@ pub fn microdegrees(bytes: &[u8]) -> Option<i64>
     ensures value { result ≡ microdegrees_of bytes.now }
     ensures ranges { IfSome result (TellsRanges bytes.now) }
 {
-    match parts(past_minus(bytes)) {
+    let text = past_minus(bytes);
+    if let Some(magnitude) = usual_magnitude(text) {
+        return Some(signed(bytes, magnitude));
+    }
+    match parts(text) {
         Some((whole, fraction)) => Some(signed(bytes, rounded(whole, fraction))),
         None => None,
     }
@@ -103,7 +108,8 @@ fn joined(whole: &[u8], fraction: &[u8], kept: usize, limit: u64) -> u64
 }
 
 // What the seventh digit after the point adds.
-fn seventh_rounding(fraction: &[u8]) -> u64
+#[inline(always)]
+pub(crate) fn seventh_rounding(fraction: &[u8]) -> u64
     ensures { result ≡ rounding fraction.now }
 {
     if fraction.len() > 6 && fraction[6] >= b'5' {

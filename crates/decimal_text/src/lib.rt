@@ -5,6 +5,7 @@
 mod decimals;
 mod numerals;
 mod object_ids;
+mod usual_decimals;
 
 pub use decimals::{FARTHEST, decimal, microdegrees};
 pub use numerals::{is_numeral, whole};
