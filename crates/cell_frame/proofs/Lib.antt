@@ -1,3 +1,4 @@
+pub mod Beside
 pub mod CellLists
 pub mod Costing
 pub mod Crossed

@@ -3,6 +3,7 @@ pub mod Borders
 pub mod Cliqued
 pub mod Free
 pub mod Inside
+pub mod Leads
 pub mod Listing
 pub mod Marks
 pub mod Parts

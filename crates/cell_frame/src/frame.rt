@@ -11,6 +11,7 @@ use crate::borders::Border;
 use crate::building::borders;
 use crate::cells::{Cell, Part};
 use crate::crossings::Crossing;
+use crate::leads::{Leads, leads_of};
 use crate::side::Side;
 use crate::spots::{Cut, Spots, Tell, spots_of};
 use cell_partition::Cells;
@@ -26,6 +27,8 @@ pub struct Frame {
     exits: Vec<Border>,
     // what is known beforehand of each vertex
     spots: Spots,
+    // what is told of the exits, for each level
+    leads: Vec<Leads>,
 }
 
 impl Drop for Frame {
@@ -36,6 +39,7 @@ impl Drop for Frame {
             entries: _entries,
             exits: _exits,
             spots: _spots,
+            leads: _leads,
         } = self;
     }
 }
@@ -43,19 +47,21 @@ impl Drop for Frame {
 impl Model for Frame {
     ghost use Rattle.cell_frame.specs.Borders.{Framed, IsFramed};
     ghost use Rattle.cell_frame.specs.Spots.{AreSpots};
+    ghost use Rattle.cell_frame.specs.Leads.{AreLevels};
+    ghost use Rattle.std.specs.Prelude.{length};
 
     ghost Value = { Framed };
 
     ghost view = { λ f. record { graph = f.graph; cells = f.cells; entries = f.entries.items; exits = f.exits.items; crossings = f.spots.crossings.items; spots = f.spots.spots.items; tells = f.spots.tells.items } };
 
-    ghost invariant = { λ f. IsFramed (record { graph = f.graph; cells = f.cells; entries = f.entries.items; exits = f.exits.items; crossings = f.spots.crossings.items; spots = f.spots.spots.items; tells = f.spots.tells.items }) × AreSpots f.graph f.cells f.entries.items f.spots f.graph.vertices };
+    ghost invariant = { λ f. IsFramed (record { graph = f.graph; cells = f.cells; entries = f.entries.items; exits = f.exits.items; crossings = f.spots.crossings.items; spots = f.spots.spots.items; tells = f.spots.tells.items }) × AreSpots f.graph f.cells f.entries.items f.spots f.graph.vertices × AreLevels f.cells f.entries.items f.spots f.exits.items (length f.cells.levels) f.leads.items };
 }
 
 impl Frame {
     /// The frame of a graph and its cells: a copy of the graph, and the entries and exits of each cell.
     ///
-    /// It takes a pass over the arcs and one over the vertices for each level, twice, and one over the vertices and their arcs. It answers the error where memory
-    /// runs out.
+    /// It takes a pass over the arcs and one over the vertices for each level, twice, one over the vertices and their arcs, and one
+    /// over the exits. It answers the error where memory runs out.
     pub fn of(alloc: Global, graph: &Graph, cells: Cells) -> Result<Frame, AllocError>
         requires { cells.vertices ≡ graph.now.vertices }
         ensures graph { IfOk result (λ f. f.graph ≡ graph.now) }
@@ -71,12 +77,14 @@ impl Frame {
             entries: &entries,
         };
         let spots = spots_of(alloc, &cut)?;
+        let leads = leads_of(alloc, &cut, &spots, &exits)?;
         Ok(Frame {
             graph,
             cells,
             entries,
             exits,
             spots,
+            leads,
         })
     }
 
@@ -118,7 +126,8 @@ impl Frame {
         ensures named { result ≡ cell_of self.now.cells level v }
         ensures cell { IsCell self.now.cells result }
     {
-        let number = self.cells.cell(level, v);
+        self.known();
+        let number = self.above(level, self.lowest(v));
         Cell { level, number }
     }
 
@@ -162,6 +171,18 @@ impl Frame {
     {
         let tell = self.tell(level, v)?;
         tell.entry()
+    }
+
+    /// Where among the arcs between cells those out of the exit of a cell at a place stand that lead to other cells of the level, if
+    /// the exit is no entry of the cell.
+    #[inline(always)]
+    pub fn lead(&self, cell: Cell, place: usize) -> Option<ArcRow<'_>>
+        requires { IsCell self.now.cells cell }
+        ensures { IfSome result (λ arcs. (v : ℕ) → slice_get (at_cell self.now.exits cell) place ≡ Some v → (¬ Contains (at_cell self.now.entries cell) v) × (arcs ≡ leaving_at self.now cell.level v)) }
+    {
+        let below = cell.level as usize - 1;
+        let lead = self.leads[below].lead(&self.exits[below], cell.number, place)?;
+        Some(ArcRow::range(lead.first, lead.count))
     }
 
     /// The arcs between cells, vertex by vertex.

@@ -13,6 +13,7 @@ mod cells;
 mod cliques;
 mod crossings;
 mod frame;
+mod leads;
 mod listing;
 mod marks;
 mod over;

@@ -194,17 +194,15 @@ impl<'a, C: Cost, P: Parts> Steps<C> for Over<'a, C, P> {
     }
 
     #[inline(always)]
-    fn leads_on(&self, v: u32, row: (u32, u32)) -> bool {
+    fn leads_on(&self, row: (u32, u32), place: usize, v: u32) -> Option<ArcRow<'_>> {
         self.frame.known();
         self.parts.known(self.frame);
-        let (level, _) = row;
+        let _ = v;
+        let (level, number) = row;
         if level == 0 {
-            return false;
+            return None;
         }
-        match self.frame.entry_at(level, v) {
-            Some(_) => false,
-            None => true,
-        }
+        self.frame.lead(Cell { level, number }, place)
     }
 
     fn heads_named(&self, v: u32, row: (u32, u32)) -> &[u32] {

@@ -2,7 +2,6 @@
 use Rattle.std.proofs.Common.{◌≡◌, ℕ, ◌+◌, ◌^◌, ◌⊎◌, inl, inr, Bool, true, false, nat_eq, Option, Some, None, IfSome, List, refl, sym, ◌∙◌, ap, subst, true≢false, arith}
 use Rattle.std.specs.List.{Contains, slice_get}
 use Rattle.std.proofs.lemmas.Option.{same_Some}
-use Rattle.list_lemmas.proofs.Gets.{Contains_get}
 use Rattle.search_graph.specs.Costs.{CostOps, CostLaws, NoDearer}
 use Rattle.search_graph.specs.OrderLaws.{le_refl, le_trans, le_from_less, not_both, plus_grows}
 use Rattle.search_graph.specs.declared.ends.Start.{Start}
@@ -199,8 +198,8 @@ pub hop_by_place : {C : Type 0} (S : Space C) (u j : ℕ) (heads : List ℕ) (co
 hop_by_place S u j heads costs None e all p = p
 hop_by_place S u j heads costs (Some h) e all p = inr (j, subst (λ (xs : List ℕ). slice_get xs j ≡ Some h.head) e p.0, all j h.cost p.1)
 
--- whose head stands in the row
+-- whose head stands there in the row
 pub head_by_place : {C : Type 0} (S : Space C) (u j : ℕ) (heads : List ℕ) (costs : List (Option C)) (o : Option (Hop C)) → heads ≡ S.heads u →
-    IfSome o (λ h. (slice_get heads j ≡ Some h.head) × (slice_get costs j ≡ Some (Some h.cost))) → IfSome o (λ h. Contains (S.heads u) h.head)
+    IfSome o (λ h. (slice_get heads j ≡ Some h.head) × (slice_get costs j ≡ Some (Some h.cost))) → IfSome o (λ h. slice_get (S.heads u) j ≡ Some h.head)
 head_by_place S u j heads costs None e p = p
-head_by_place S u j heads costs (Some h) e p = subst (λ (xs : List ℕ). Contains xs h.head) e (Contains_get heads j h.head p.0)
+head_by_place S u j heads costs (Some h) e p = subst (λ (xs : List ℕ). slice_get xs j ≡ Some h.head) e p.0

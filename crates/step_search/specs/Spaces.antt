@@ -1,6 +1,6 @@
 -- What a search goes over: a space of vertices and hops between them, and the paths through it.
 use Rattle.std.specs.Prelude.{◌≡◌, ℕ, ◌<◌, ◌^◌, ◌⊎◌, Some, List}
-use Rattle.std.specs.List.{slice_get}
+use Rattle.std.specs.List.{Contains, slice_get}
 use Rattle.search_graph.specs.Costs.{CostOps, NoDearer}
 use Rattle.search_graph.specs.Walks.{Chain, Paying}
 
@@ -21,6 +21,17 @@ pub record Space (C : Type 0) : Type 1 where
 -- a hop of either kind leads from u to v at the cost s
 abbrev pub HasHop : {C : Type 0} → Space C → ℕ → ℕ → C → Type 0
 HasHop {C} S u v s = ((i : ℕ) × S.Arc u i v s) ⊎ ((j : ℕ) × (slice_get (S.heads u) j ≡ Some v) × S.Costs u j s)
+
+-- place j of the rows of this name leads to v
+abbrev pub IsHeadAt : {C : Type 0} → Space C → ℕ × ℕ → ℕ → ℕ → Type 0
+IsHeadAt S name j v = (u : ℕ) × (u < S.vertices) × (S.row u ≡ name) × (slice_get (S.heads u) j ≡ Some v)
+
+-- the row out of v has this name and no costs, and v has these arcs: nothing else leads out of it
+pub record LeadsBy {C : Type 0} (S : Space C) (name : ℕ × ℕ) (v : ℕ) (arcs : List ℕ) : Type 0 where
+  pub row : name ≡ S.row v
+  pub no_costs : (j : ℕ) (s : C) → ¬ S.Costs v j s
+  pub named : (i : ℕ) → Contains arcs i → S.Name v i
+  pub all : (i w : ℕ) (s : C) → S.Arc v i w s → Contains arcs i
 
 -- a hop from u to v: what is paid grows from c to d by what the hop costs
 abbrev pub StepBy : {C : Type 0} → CostOps C → Space C → ℕ → ℕ → C → C → Type 0

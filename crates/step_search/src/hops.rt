@@ -3,7 +3,7 @@
 ghost use Rattle.std.specs.Prelude.{◌≡◌, ℕ, ◌<◌, IfSome, Some};
 ghost use Rattle.std.specs.Bool.{OnTrue, OnFalse};
 ghost use Rattle.std.specs.List.{Contains, slice_get};
-ghost use Rattle.step_search.specs.Spaces.{Space};
+ghost use Rattle.step_search.specs.Spaces.{Space, IsHeadAt, LeadsBy};
 
 use cost_lists::{CostRow, Narrow};
 use search_graph::ArcRow;
@@ -97,19 +97,19 @@ pub trait Steps<C: Narrow> {
         self.by_arc(v, i)
     }
 
-    /// Whether nothing but arcs leads out of `v`, where it is a head of the rows of this name. Then the row out of `v` has that
-    /// name too, and a search that comes to `v` by such a row goes on along its arcs at once, and doesn't queue it. The
-    /// answer may be no anywhere.
-    fn leads_on(&self, v: u32, row: (u32, u32)) -> bool
+    /// The names of the arcs out of `v`, where it is the head at this place of the rows of this name and nothing but arcs leads
+    /// out of it. Then the row out of `v` has that name too, and a search that comes to `v` by such a row goes on along these
+    /// arcs at once, and doesn't queue it. The answer may be none anywhere.
+    fn leads_on(&self, row: (u32, u32), place: usize, v: u32) -> Option<ArcRow<'_>>
         requires ready { ready self.now }
         requires vertex { v < (space self.now).vertices }
         requires row { (u : ℕ) × (u < (space self.now).vertices) × ((space self.now).row u ≡ row) }
-        ensures row { OnTrue result ((u : ℕ) → u < (space self.now).vertices → (space self.now).row u ≡ row → Contains ((space self.now).heads u) v → row ≡ (space self.now).row v) }
-        ensures arcs { OnTrue result ((u : ℕ) → u < (space self.now).vertices → (space self.now).row u ≡ row → Contains ((space self.now).heads u) v → (j : ℕ) (s : C) → ¬ (space self.now).Costs v j s) }
+        ensures { IfSome result (λ arcs. IsHeadAt (space self.now) row place v → LeadsBy (space self.now) row v arcs) }
     {
-        let _ = v;
         let _ = row;
-        false
+        let _ = place;
+        let _ = v;
+        None
     }
 
     /// Where the places of the row out of `v` lead, as `heads` gives it, to one who knows the row's name.

@@ -5,7 +5,7 @@ ghost use Rattle.std.specs.Bool.{OnTrue, OnFalse};
 ghost use Rattle.std.specs.List.{Contains, slice_get};
 ghost use Rattle.std.specs.declared.cmp.Ordering.TheVariants.{Less};
 ghost use Rattle.search_graph.specs.Costs.{NoDearer};
-ghost use Rattle.step_search.specs.Spaces.{HasHop};
+ghost use Rattle.step_search.specs.Spaces.{HasHop, LeadsBy};
 ghost use Rattle.search_labels.specs.Labelled.{label_of, settled_of, changed, LabelWithin};
 ghost use Rattle.row_labels.specs.Rowed.{value_of};
 ghost use Rattle.search_queue.specs.Queued.{Adds};
@@ -17,7 +17,7 @@ use crate::dijkstra::{Node, Search};
 use crate::hops::{Hop, Steps};
 use crate::links::Link;
 use cost_lists::CostRow;
-use search_graph::{Cost, Start};
+use search_graph::{ArcRow, Cost, Start};
 use search_labels::{Label, Labels};
 use std::alloc::AllocError;
 
@@ -141,6 +141,29 @@ impl<C: Cost> Search<C> {
         ensures rows { OnOk result (self.new.rows ≡ self.old.rows) }
     {
         let arcs = steps.arcs_named(node.vertex, row);
+        self.go_along(steps, at, node, row, &arcs)?;
+        Ok(())
+    }
+
+    // Offers a label along each of these arcs out of the node, whose row has this name.
+    #[inline(always)]
+    fn go_along<T: Steps<C>>(
+        &mut self,
+        steps: &T,
+        at: usize,
+        node: Node<C>,
+        row: (u32, u32),
+        arcs: &ArcRow<'_>,
+    ) -> Result<(), AllocError>
+        requires ready { T.ready steps.now }
+        requires at_work { IsAtWork C.ops (T.space steps.now) self.old at node }
+        requires row { row ≡ (T.space steps.now).row node.vertex }
+        requires named { (i : ℕ) → Contains arcs.now i → (T.space steps.now).Name node.vertex i }
+        ensures at_work { OnOk result (IsAtWork C.ops (T.space steps.now) self.new at node) }
+        ensures falls { OnOk result (OnlyFalls C.ops self.old self.new) }
+        ensures found { OnOk result ((i w : ℕ) (s : _) → Contains arcs.now i → (T.space steps.now).Arc node.vertex i w s → LabelWithin C.ops (label_of self.new.labels) w (C.ops.plus node.cost s)) }
+        ensures rows { OnOk result (self.new.rows ≡ self.old.rows) }
+    {
         for place in 0..arcs.len() {
             let hop = steps.by_arc_named(node.vertex, row, arcs.get(place));
             self.relax(steps, at, node, hop)?;
@@ -205,13 +228,13 @@ impl<C: Cost> Search<C> {
         for k in 0..self.rows.improved.len() {
             let place = self.rows.improved[k];
             let hop = hop_at(places.heads, places.costs, place);
-            self.go_by_row(steps, at, node, row, hop)?;
+            self.go_by_row(steps, at, node, row, place, hop)?;
         }
         Ok(())
     }
 
-    // Goes along a hop of the node's row, which has this name, where that way is open: leads on from its head where nothing
-    // but arcs leads out of that, and else offers it a label.
+    // Goes along a hop of the node's row, which has this name, by its place there, where that way is open: leads on from its
+    // head where nothing but arcs leads out of that, and else offers it a label.
     #[inline(always)]
     fn go_by_row<T: Steps<C>>(
         &mut self,
@@ -219,6 +242,7 @@ impl<C: Cost> Search<C> {
         at: usize,
         node: Node<C>,
         row: (u32, u32),
+        place: usize,
         hop: Option<Hop<C>>,
     ) -> Result<(), AllocError>
         requires ready { T.ready steps.now }
@@ -226,7 +250,7 @@ impl<C: Cost> Search<C> {
         requires near { C.ops.units node.cost (2 ^ 30) }
         requires row { row ≡ (T.space steps.now).row node.vertex }
         requires hop { IfSome hop (λ h. HasHop (T.space steps.now) node.vertex h.head h.cost) }
-        requires head { IfSome hop (λ h. Contains ((T.space steps.now).heads node.vertex) h.head) }
+        requires head { IfSome hop (λ h. slice_get ((T.space steps.now).heads node.vertex) place ≡ Some h.head) }
         ensures at_work { OnOk result (IsAtWork C.ops (T.space steps.now) self.new at node) }
         ensures grows { OnOk result (OnlyGrows C.ops (T.space steps.now) [] self.old self.new) }
         ensures found { OnOk result ((w : ℕ) (s : _) → hop ≡ Some (record { head = w; cost = s }) → LabelWithin C.ops (label_of self.new.labels) w (C.ops.plus node.cost s)) }
@@ -235,8 +259,8 @@ impl<C: Cost> Search<C> {
         match hop {
             None => Ok(()),
             Some(on) => {
-                if steps.leads_on(on.head, row) {
-                    self.lead_on(steps, at, node, row, on)?;
+                if let Some(arcs) = steps.leads_on(row, place, on.head) {
+                    self.lead_on(steps, at, node, row, on, &arcs)?;
                     return Ok(());
                 }
                 self.relax(steps, at, node, Some(on))?;
@@ -245,8 +269,8 @@ impl<C: Cost> Search<C> {
         }
     }
 
-    // Leads on from the head of a hop, whose row has this name, but no costs: where the hop improves its label, that is put,
-    // with its node in the tree, and labels are offered along its arcs. So the head is expanded at its label, and isn't
+    // Leads on from the head of a hop, out of which nothing but these arcs leads: where the hop improves its label, that is put,
+    // with its node in the tree, and labels are offered along the arcs. So the head is expanded at its label, and isn't
     // queued: an entry at an older, dearer label is passed over.
     #[inline(always)]
     fn lead_on<T: Steps<C>>(
@@ -256,13 +280,13 @@ impl<C: Cost> Search<C> {
         node: Node<C>,
         row: (u32, u32),
         hop: Hop<C>,
+        arcs: &ArcRow<'_>,
     ) -> Result<(), AllocError>
         requires ready { T.ready steps.now }
         requires at_work { IsAtWork C.ops (T.space steps.now) self.old at node }
         requires near { C.ops.units node.cost (2 ^ 30) }
         requires hop { HasHop (T.space steps.now) node.vertex hop.head hop.cost }
-        requires row { row ≡ (T.space steps.now).row hop.head }
-        requires arcs { (j : ℕ) (s : _) → ¬ (T.space steps.now).Costs hop.head j s }
+        requires leads { LeadsBy (T.space steps.now) row hop.head arcs.now }
         ensures at_work { OnOk result (IsAtWork C.ops (T.space steps.now) self.new at node) }
         ensures grows { OnOk result (OnlyGrows C.ops (T.space steps.now) [] self.old self.new) }
         ensures found { OnOk result (LabelWithin C.ops (label_of self.new.labels) hop.head (C.ops.plus node.cost hop.cost)) }
@@ -284,7 +308,7 @@ impl<C: Cost> Search<C> {
             node: at,
         };
         self.labels.put(hop.head, label)?;
-        self.expand_arcs(steps, here, next, row)?;
+        self.go_along(steps, here, next, row, arcs)?;
         Ok(())
     }
 

@@ -85,9 +85,16 @@ impl Steps<WeightDurLen> for Leading {
         (0, 0)
     }
 
-    fn leads_on(&self, v: u32, row: (u32, u32)) -> bool {
+    fn leads_on(&self, row: (u32, u32), place: usize, v: u32) -> Option<ArcRow<'_>> {
         let _ = row;
-        v == 1 || v == 2
+        let _ = place;
+        if v == 0 {
+            return None;
+        }
+        if v > 2 {
+            return None;
+        }
+        Some(self.arcs(v))
     }
 }
 

@@ -4,7 +4,6 @@ use Rattle.std.proofs.lemmas.Option.{none-some}
 use Rattle.search_labels.specs.Labelled.{label_of, LabelWithin}
 use Rattle.step_search.proofs.Offered.{OnlyGrows-falls, OnlyGrows-refl, each_hop, of_some}
 use Rattle.step_search.specs.Spaces.{HasHop}
-use Rattle.std.specs.List.{Contains}
 use Rattle.step_search.proofs.dijkstra.Search.go_by_row.Goals as goal
 
 pub leads_on-requires-clause-vertex : goal.leads_on-requires-clause-vertex
@@ -20,8 +19,8 @@ lead_on-requires-clause-hop g c =
     let S = g.T.Steps.space c.args.steps.now in
     of_some c.args.hop c.in-Some.on (λ h. HasHop S c.args.node.vertex h.head h.cost) c.in-Some.is c.requires.hop
 
-pub returns-then-leads_on-clause-found : goal.returns-then-leads_on-clause-found
-returns-then-leads_on-clause-found g c w s h =
+pub returns-in-Some-leads_on-clause-found : goal.returns-in-Some-leads_on-clause-found
+returns-in-Some-leads_on-clause-found g c w s h =
     each_hop (λ v x. LabelWithin g.C.Cost.ops (label_of c.lead_on.new.self.labels) v (g.C.Cost.ops.plus c.args.node.cost x)) c.in-Some.on c.in_ok-lead_on-in-Some.ensures.found w s (sym c.in-Some.is ∙ h)
 
 pub returns-in_ok-relax-in-Some-clause-found : goal.returns-in_ok-relax-in-Some-clause-found

@@ -16,8 +16,8 @@ returns-then-is_within-clause-found g c = rw (← c.plus-paid.ensures) c.if-is_w
 pub put-requires : goal.put-requires
 put-requires g c = led_unsettled g.met.C.Cost.laws (g.T.Steps.space c.args.steps.now) c.args.self.now c.args.at c.args.node c.requires.at_work c.requires.near c.args.hop.head c.args.hop.cost c.requires.hop (rw c.plus-paid.ensures at c.if-is_within.ensures.no)
 
-pub expand_arcs-requires-clause-at_work : goal.expand_arcs-requires-clause-at_work
-expand_arcs-requires-clause-at_work g c =
+pub go_along-requires-clause-at_work : goal.go_along-requires-clause-at_work
+go_along-requires-clause-at_work g c =
     rw (c.plus-paid.ensures, c.in_ok-to.ensures) (led_at_work g.met.C.Cost.laws (g.T.Steps.space c.args.steps.now) c.args.self.now c.args.at c.args.node c.requires.at_work c.requires.near c.args.hop.head c.args.hop.cost c.requires.hop (rw c.plus-paid.ensures at c.if-is_within.ensures.no)
     _ (rw (c.plus-paid.ensures, c.in_ok-to.ensures) at c.in_ok-push.ensures.items) (rw c.plus-paid.ensures at c.in_ok-put.ensures.label) c.in_ok-put.ensures.settled refl c.len-here.result (c.len-here.ensures ∙ c.args.self.now.tree.ok.0))
 
@@ -25,16 +25,17 @@ pub returns-clause-at_work : goal.returns-clause-at_work
 returns-clause-at_work g c =
     led_back g.met.C.Cost.laws (g.T.Steps.space c.args.steps.now) c.args.self.now c.args.at c.args.node c.requires.at_work c.requires.near c.args.hop.head c.args.hop.cost c.requires.hop (rw c.plus-paid.ensures at c.if-is_within.ensures.no)
     _ (rw (c.plus-paid.ensures, c.in_ok-to.ensures) at c.in_ok-push.ensures.items) (rw c.plus-paid.ensures at c.in_ok-put.ensures.label) c.in_ok-put.ensures.settled refl
-    c.expand_arcs.new.self c.len-here.result (rw (c.plus-paid.ensures, c.in_ok-to.ensures) at c.in_ok-expand_arcs.ensures.at_work) c.in_ok-expand_arcs.ensures.falls
+    c.go_along.new.self c.len-here.result (rw (c.plus-paid.ensures, c.in_ok-to.ensures) at c.in_ok-go_along.ensures.at_work) c.in_ok-go_along.ensures.falls
 
 pub returns-clause-grows : goal.returns-clause-grows
 returns-clause-grows g c =
     led_grows g.met.C.Cost.laws (g.T.Steps.space c.args.steps.now) c.args.self.now c.args.at c.args.node c.requires.at_work c.requires.near c.args.hop.head c.args.hop.cost c.requires.hop (rw c.plus-paid.ensures at c.if-is_within.ensures.no)
     _ (rw (c.plus-paid.ensures, c.in_ok-to.ensures) at c.in_ok-push.ensures.items) (rw c.plus-paid.ensures at c.in_ok-put.ensures.label) c.in_ok-put.ensures.settled refl
-    c.expand_arcs.new.self c.len-here.result (rw (c.plus-paid.ensures, c.in_ok-to.ensures) at c.in_ok-expand_arcs.ensures.at_work) c.in_ok-expand_arcs.ensures.falls c.requires.arcs (rw c.plus-paid.ensures at c.in_ok-expand_arcs.ensures.found)
+    c.go_along.new.self c.len-here.result (rw (c.plus-paid.ensures, c.in_ok-to.ensures) at c.in_ok-go_along.ensures.at_work) c.in_ok-go_along.ensures.falls c.requires.leads.no_costs
+    (λ i w t h. rw c.plus-paid.ensures at c.in_ok-go_along.ensures.found i w t (c.requires.leads.all i w t h) h)
 
 pub returns-clause-found : goal.returns-clause-found
 returns-clause-found g c =
     led_found g.met.C.Cost.laws (g.T.Steps.space c.args.steps.now) c.args.self.now c.args.at c.args.node c.requires.at_work c.requires.near c.args.hop.head c.args.hop.cost c.requires.hop (rw c.plus-paid.ensures at c.if-is_within.ensures.no)
     _ (rw (c.plus-paid.ensures, c.in_ok-to.ensures) at c.in_ok-push.ensures.items) (rw c.plus-paid.ensures at c.in_ok-put.ensures.label) c.in_ok-put.ensures.settled refl
-    c.expand_arcs.new.self c.len-here.result (rw (c.plus-paid.ensures, c.in_ok-to.ensures) at c.in_ok-expand_arcs.ensures.at_work) c.in_ok-expand_arcs.ensures.falls
+    c.go_along.new.self c.len-here.result (rw (c.plus-paid.ensures, c.in_ok-to.ensures) at c.in_ok-go_along.ensures.at_work) c.in_ok-go_along.ensures.falls

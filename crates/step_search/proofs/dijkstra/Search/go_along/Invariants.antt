@@ -3,7 +3,7 @@ use Rattle.std.proofs.Common.{◌≡◌, ℕ, ◌<◌, Some}
 use Rattle.std.specs.List.{slice_get}
 use Rattle.search_labels.specs.Labelled.{label_of, LabelWithin}
 use Rattle.step_search.specs.Stepping.{IsAtWork, OnlyFalls}
-use Rattle.step_search.proofs.dijkstra.Search.expand_arcs.Given as goal
+use Rattle.step_search.proofs.dijkstra.Search.go_along.Given as goal
 
 abbrev pub invariant-loop-place : goal.invariant-loop-place
 invariant-loop-place g l = record {
