@@ -9,3 +9,4 @@ pub mod Searches
 pub mod SeenLaws
 pub mod Splitting
 pub mod LineLaws
+pub mod PlainIds

@@ -3,6 +3,7 @@
 ghost use Rattle.std.specs.Prelude.{◌≡◌, ◌++◌, ◌∷◌, [], Ok, IfOk, IfErr, IsTrue, codes, ◌==◌};
 ghost use Rattle.std.specs.List.{before_first};
 ghost use Rattle.std.specs.Str.{byte};
+ghost use Rattle.decimal_text.specs.ObjectId.{id_of};
 ghost use Rattle.opl_read.specs.Content.{tag_of, tags_of, ref_of, refs_of, coordinate_of, deleted_of};
 ghost use Rattle.opl_read.specs.Faults.{IsLineErrorOf, mapped};
 
@@ -72,9 +73,19 @@ fn ref_of(entry: &str) -> Result<i64, LineError>
     if !text.starts_with(b"n") {
         return Err(LineError::Fault(FaultKind::BadField));
     }
-    match id(before_x(&text[1..])) {
+    match id_of_node(&text[1..]) {
         Some(id) => Ok(id),
         None => Err(LineError::Fault(FaultKind::BadNumber)),
+    }
+}
+
+// The id before the first `x`. Most have no place behind them: then there is no `x` to look for.
+fn id_of_node(text: &[u8]) -> Option<i64>
+    ensures { result ≡ id_of (before_first (λ b. b == byte "x") text.now) }
+{
+    match id(text) {
+        Some(id) => Some(id),
+        None => id(before_x(text)),
     }
 }
 
