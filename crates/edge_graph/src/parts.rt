@@ -5,7 +5,7 @@ ghost use Rattle.via_paths.specs.Copies.{copies_of};
 ghost use Rattle.via_paths.specs.Forbidden.{HasPath, IsBelow, words_in};
 ghost use Rattle.edge_graph.specs.BuildCause.{IsSearchedFault, IsTurnsFault};
 ghost use Rattle.road_turns.specs.DepartureParts.{AreDepartures};
-ghost use Rattle.road_turns.specs.Fans.{AreExits, AreFans};
+ghost use Rattle.road_turns.specs.Fans.{AreExits, AreFans, AreRestricted};
 ghost use Rattle.road_turns.specs.Leaving.{AreLeaving};
 ghost use Rattle.edge_graph.specs.Limits.{most_copies};
 ghost use Rattle.road_turns.specs.Limits.{most_turns};
@@ -39,7 +39,8 @@ fn turns_of(
     exits: &Exits,
     restrictions: &Restrictions,
 ) -> Result<Vec<(u32, u32)>, BuildFault>
-    requires fans { AreFans (vertices roads.now) 0 exits.now.fans.next.items exits.now.fans.by_node }
+    requires fans { AreFans (vertices roads.now) exits.now.fans.leaving.items exits.now.fans.begins.items exits.now.fans.restricted.items exits.now.fans.nodes.items }
+    requires restricted { AreRestricted (vertices roads.now) restrictions.now.kept exits.now.fans.restricted.items exits.now.fans.nodes.items }
     requires counts { AreExits (vertices roads.now) exits.now.counts.items }
     requires leaving { AreLeaving (vertices roads.now) restrictions.now.kept exits.now.leaving.runs exits.now.leaving.groups }
     ensures list { IfOk result (λ list. list.items ≡ turns (vertices roads.now) restrictions.now.kept) }
@@ -59,7 +60,8 @@ fn counts_and_turns(
     restrictions: &Restrictions,
     exits: Exits,
 ) -> Result<(Vec<u32>, Vec<(u32, u32)>), BuildFault>
-    requires fans { AreFans (vertices roads.now) 0 exits.fans.next.items exits.fans.by_node }
+    requires fans { AreFans (vertices roads.now) exits.fans.leaving.items exits.fans.begins.items exits.fans.restricted.items exits.fans.nodes.items }
+    requires restricted { AreRestricted (vertices roads.now) restrictions.now.kept exits.fans.restricted.items exits.fans.nodes.items }
     requires counts { AreExits (vertices roads.now) exits.counts.items }
     requires leaving { AreLeaving (vertices roads.now) restrictions.now.kept exits.leaving.runs exits.leaving.groups }
     ensures counts { IfOk result (λ found. AreExits (vertices roads.now) found.0.items) }
@@ -92,7 +94,7 @@ pub fn parts_of(
     ensures few_copies { OnOk result (length (copies_of (forbidden_on roads.now restrictions.now)) ≤ most_copies) }
     ensures err { IfErr result (IsSearchedFault (length (copies_of (forbidden_on roads.now restrictions.now))) (length (searched roads.now restrictions.now).arcs)) }
 {
-    let exits = Exits::of(alloc, roads, restrictions)?;
+    let exits = Exits::of(alloc, roads, departures, restrictions)?;
     let found = Found::of(alloc, roads, departures, restrictions, &exits.counts)?;
     let copies = copies_for(alloc, 2 * roads.len(), &found.groups)?;
     let (exits, list) = counts_and_turns(alloc, roads, restrictions, exits)?;

@@ -1,7 +1,7 @@
 -- The vertices in the order of the nodes that they leave.
 use Rattle.std.proofs.Common.{◌≡◌, ℕ, zero, suc, ℤ, pos, ◌+◌, ◌-◌, ◌<◌, ◌≤◌, List, [], ◌∷◌, length, take, drop, get_or, Option, Some, None, Bool, true, false, cond, not, ◌&&◌, All, map, filter, arith, true≢false, inl, inr, refl, sym, ap, subst, ◌∙◌}
 use Rattle.std.specs.Prelude.{option_map, int_lt}
-use Rattle.std.specs.List.{AllWithin, slice_get}
+use Rattle.std.specs.List.{AllWithin, Contains, slice_get}
 use Rattle.std.specs.List.Sorted.{IsNonDecreasingBy, IsPartitionPoint, IsPartitionedBy, IsPermutation, IsSortedByKey, IsStableByKey, ties}
 use Rattle.std.specs.Option.{option_map_or}
 use Rattle.std.specs.Ordering.{int_cmp, int_eq, is_eq, is_le, is_lt, ordering_index}
@@ -11,11 +11,11 @@ use Rattle.std.proofs.lemmas.Cmp.{int_cmp_total}
 use Rattle.std.proofs.lemmas.List.{get_or-map, length-map}
 use Rattle.std.proofs.lemmas.List.Elements.{All-head, All-tail, filter_agree}
 use Rattle.std.proofs.lemmas.List.FromFn.{get_or-enumerate_from, length-enumerate_from}
-use Rattle.std.proofs.lemmas.List.Sorted.{All-permutation, searchable_from_sorted}
+use Rattle.std.proofs.lemmas.List.Sorted.{All-permutation, Contains-permutation, length_permutation, searchable_from_sorted}
 use Rattle.std.proofs.lemmas.Bool.{cases_lt}
 use Rattle.std.proofs.lemmas.Option.{get_or_from_slice_get, same_Some, slice_get-get_or, slice_get-map, slice_get_past, slice_get_within}
 use Rattle.list_lemmas.proofs.Fronts.{map-map}
-use Rattle.list_lemmas.proofs.Gets.{get_is, get_some}
+use Rattle.list_lemmas.proofs.Gets.{Contains_get, get_Contains, get_is, get_some}
 use Rattle.road_turns.specs.DepartureParts.{AreDepartures, IsPlace, departures, tail_cmp}
 use Rattle.road_turns.specs.Departures.{vertices_from}
 use Rattle.road_turns.specs.Turn.{numbered}
@@ -23,7 +23,7 @@ use Rattle.road_segments.specs.Vertex.{Vertex}
 use Rattle.road_turns.specs.declared.departures.Departure.{Departure}
 
 -- a filter of a mapped list
-filter-map : {X Y : Type 0} (p : Y → Bool) (f : X → Y) (xs : List X) → filter p (map f xs) ≡ map f (filter (λ x. p (f x)) xs)
+pub filter-map : {X Y : Type 0} (p : Y → Bool) (f : X → Y) (xs : List X) → filter p (map f xs) ≡ map f (filter (λ x. p (f x)) xs)
 filter-map p f [] = refl
 filter-map {X} {Y} p f (x ∷ xs) = ap (λ (ys : List Y). cond (p (f x)) (f x ∷ ys) ys) (filter-map p f xs) ∙ onto (p (f x))
   where
@@ -57,7 +57,7 @@ module _ {X : Type 0} (p : X → Bool) where
       ∙ filter-window xs i n (omega arith) (λ k d a b. before (suc k) d (omega arith) (omega arith)) (λ k d a b. within (suc k) d (omega arith) (omega arith)) (λ k d a b. behind (suc k) d (omega arith) (omega arith))
 
 -- the place of a comparison among `Less`, `Equal` and `Greater`
-lt-lower : (a b : Ordering) → ordering_index a ≤ ordering_index b → is_lt b ≡ true → is_lt a ≡ true
+pub lt-lower : (a b : Ordering) → ordering_index a ≤ ordering_index b → is_lt b ≡ true → is_lt a ≡ true
 lt-lower Less b le h = refl
 lt-lower Equal Less le h = absurd (omega arith)
 lt-lower Equal Equal le h = h
@@ -66,7 +66,7 @@ lt-lower Greater Less le h = absurd (omega arith)
 lt-lower Greater Equal le h = h
 lt-lower Greater Greater le h = h
 
-le-lower : (a b : Ordering) → ordering_index a ≤ ordering_index b → is_le b ≡ true → is_le a ≡ true
+pub le-lower : (a b : Ordering) → ordering_index a ≤ ordering_index b → is_le b ≡ true → is_le a ≡ true
 le-lower Less b le h = refl
 le-lower Equal b le h = refl
 le-lower Greater Less le h = absurd (omega arith)
@@ -128,6 +128,13 @@ tail_cmp-none vs node v past = ap (λ (o : Option Vertex). option_map_or (λ x. 
 abbrev IsDeparture : List Vertex → Departure → Type 0
 IsDeparture vs d = option_map (λ x. x.tail) (slice_get vs d.vertex) ≡ Some d.node
 
+departure-within : (vs : List Vertex) (d : Departure) → IsDeparture vs d → d.vertex < length vs
+departure-within vs d is =
+    elim (cases_lt d.vertex (length vs)) [
+      | inl lt ↦ lt
+      | inr past ↦ let none : None ≡ Some d.node = sym (ap (option_map (λ (x : Vertex). x.tail)) (slice_get_past vs d.vertex past)) ∙ is in absurd (cc)
+    ]
+
 pub length-departures : (vs : List Vertex) → length (departures vs) ≡ length vs
 length-departures vs = length-map (numbered vs) (λ (e : ℕ × Vertex). record { node = e.1.tail; vertex = e.0 }) ∙ length-enumerate_from 0 vs
 
@@ -174,8 +181,24 @@ module _ (vs : List Vertex) (ds : List Departure) (same : IsPermutation (departu
       let fourth = filter-map at make (numbered vs) in
       first ∙ ap (map vertex) (second ∙ third ∙ fourth) ∙ map-map vertex make (filter (λ (e : ℕ × Vertex). int_eq e.1.tail node) (numbered vs))
 
+  long-sorted : length (vertices_in ds) ≡ length vs
+  long-sorted = length-map ds (λ (d : Departure). d.vertex) ∙ length_permutation (departures vs) ds same ∙ length-departures vs
+
+  within-sorted : All (λ v. v < length vs) (vertices_in ds)
+  within-sorted i v lt =
+      let none : Departure = record { node = pos 0; vertex = 0 } in
+      let before : i < length ds = omega (arith, lt, length-map ds (λ (e : Departure). e.vertex)) in
+      subst (λ (n : ℕ). n < length vs) (sym (get_or-map (λ (e : Departure). e.vertex) ds i none v before)) (departure-within vs (get_or ds i none) (all-departures i none before))
+
+  every-sorted : (v : ℕ) → v < length vs → Contains (vertices_in ds) v
+  every-sorted v lt =
+      let x = get_some vs v lt in
+      let departure : Departure = record { node = x.0.tail; vertex = v } in
+      let place = get_Contains ds departure (Contains-permutation (departures vs) ds departure same (Contains_get (departures vs) v departure (departure-at vs v x.0 x.1))) in
+      Contains_get (vertices_in ds) place.0 v (slice_get-map (λ (e : Departure). e.vertex) ds place.0 ∙ ap (option_map (λ (e : Departure). e.vertex)) place.1)
+
   pub AreDepartures-sorted : AreDepartures vs (vertices_in ds)
-  AreDepartures-sorted = record { rise = rise-sorted; each = each-sorted }
+  AreDepartures-sorted = record { as_many = long-sorted; within = within-sorted; every = every-sorted; rise = rise-sorted; each = each-sorted }
 
 module _ (vs : List Vertex) (order : List ℕ) (are : AreDepartures vs order) (node : ℤ) where
   pub parted-below : IsPartitionedBy (λ v. is_lt (tail_cmp vs node v)) order

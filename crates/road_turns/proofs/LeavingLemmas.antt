@@ -12,7 +12,7 @@ use Rattle.std.proofs.lemmas.List.Elements.{filter-append}
 use Rattle.turn_rules.specs.Rules.{Rule}
 use Rattle.road_turns.specs.Fans.{leavers}
 use Rattle.road_segments.specs.Vertex.{Vertex}
-use Rattle.road_turns.proofs.ChainLemmas.{belonging-add, belonging-end, belonging-skip}
+use Rattle.road_turns.proofs.LeaverLemmas.{leavers-add, leavers-end, leavers-skip}
 use Rattle.road_turns.specs.Leaving.{AreGroups, GroupMap, RunMap, leaving_at, exits_in, exits_onto, group_at}
 use Rattle.road_turns.specs.RestrictionParts.{has_via, pair_eq}
 use Rattle.road_turns.specs.declared.leaving.Run.{Run}
@@ -170,7 +170,7 @@ module _ (vs : List Vertex) (rules : List Rule) (v : ℕ) (x : Vertex) (at : sli
   skip-at : (runs : RunMap) (node : ℤ) → has_via rules node ≡ true → (x.permitted && int_eq x.tail node) ≡ false → HasExits vs rules runs v
       → leaving_at runs node ++ map {A = ℕ × Vertex} {B = ℕ × ℤ} (λ e. (e.0, e.1.way)) (leavers vs node (v + 1)) ≡ map {A = ℕ × Vertex} {B = ℕ × ℤ} (λ e. (e.0, e.1.way)) (leavers vs node 0)
   skip-at runs node ruled off h =
-      ap (λ (es : List (ℕ × Vertex)). leaving_at runs node ++ map {A = ℕ × Vertex} {B = ℕ × ℤ} (λ e. (e.0, e.1.way)) es) (sym (belonging-skip (λ y. y.permitted) (λ y. y.tail) vs v x at node off))
+      ap (λ (es : List (ℕ × Vertex)). leaving_at runs node ++ map {A = ℕ × Vertex} {B = ℕ × ℤ} (λ e. (e.0, e.1.way)) es) (sym (leavers-skip vs v x at node off))
       ∙ h node ruled
 
   -- v may not be used
@@ -204,7 +204,7 @@ module _ (vs : List Vertex) (rules : List Rule) (v : ℕ) (x : Vertex) (at : sli
           ap (λ (l : List (ℕ × ℤ)). l ++ rest) (more node ∙ ap (λ (b : Bool). cond b (leaving_at runs node ++ (v, x.way) ∷ []) (leaving_at runs node)) e)
           ∙ append_assoc (leaving_at runs node) ((v, x.way) ∷ []) rest
           ∙ ap (λ (es : List (ℕ × Vertex)). leaving_at runs node ++ map {A = ℕ × Vertex} {B = ℕ × ℤ} (λ e. (e.0, e.1.way)) es)
-          (sym (belonging-add (λ y. y.permitted) (λ y. y.tail) vs v x at node (ap (λ (b : Bool). b && int_eq x.tail node) opened ∙ e)))
+          (sym (leavers-add vs v x at node (ap (λ (b : Bool). b && int_eq x.tail node) opened ∙ e)))
           ∙ h node ruled
       by false e =
           ap (λ (l : List (ℕ × ℤ)). l ++ map {A = ℕ × Vertex} {B = ℕ × ℤ} (λ e. (e.0, e.1.way)) (leavers vs node (v + 1))) (more node ∙ ap (λ (b : Bool). cond b (leaving_at runs node ++ (v, x.way) ∷ []) (leaving_at runs node)) e)
@@ -215,5 +215,5 @@ pub exits-all : (vs : List Vertex) (rules : List Rule) (runs : RunMap) (v : ℕ)
     → (node : ℤ) → has_via rules node ≡ true → leaving_at runs node ≡ map {A = ℕ × Vertex} {B = ℕ × ℤ} (λ e. (e.0, e.1.way)) (leavers vs node 0)
 exits-all vs rules runs v all h node ruled =
     sym (append-nil (leaving_at runs node))
-    ∙ ap (λ (es : List (ℕ × Vertex)). leaving_at runs node ++ map {A = ℕ × Vertex} {B = ℕ × ℤ} (λ e. (e.0, e.1.way)) es) (sym (belonging-end (λ y. y.permitted) (λ y. y.tail) vs v node all))
+    ∙ ap (λ (es : List (ℕ × Vertex)). leaving_at runs node ++ map {A = ℕ × Vertex} {B = ℕ × ℤ} (λ e. (e.0, e.1.way)) es) (sym (leavers-end vs v node all))
     ∙ h node ruled

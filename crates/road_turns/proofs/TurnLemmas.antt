@@ -1,5 +1,5 @@
 -- The turns from a vertex and its exits, by the vertices that leave its head.
-use Rattle.std.proofs.Common.{◌≡◌, ℕ, ℤ, zero, suc, ◌+◌, ◌-◌, ◌<◌, ◌≤◌, List, [], ◌∷◌, ◌++◌, length, drop, map, filter, Option, Some, None, Vec, Bool, true, false, cond, not, arith, refl, sym, ap, subst, ◌∙◌, ◌&&◌, ◌||◌, append_assoc}
+use Rattle.std.proofs.Common.{◌≡◌, ℕ, ℤ, zero, suc, ◌+◌, ◌<◌, ◌≤◌, List, [], ◌∷◌, ◌++◌, length, drop, map, filter, Option, Some, None, Vec, Bool, true, false, cond, not, arith, refl, sym, ap, subst, ◌∙◌, ◌&&◌, ◌||◌}
 use Rattle.std.specs.Prelude.{◌==◌}
 use Rattle.std.specs.List.{enumerate_from, slice_get, flat_map, list_any}
 use Rattle.std.specs.Global.{Global}
@@ -8,12 +8,10 @@ use Rattle.std.specs.Map.{lookup}
 use Rattle.std.specs.Option.{option_map_or}
 use Rattle.std.specs.Ordering.{int_eq}
 use Rattle.std.proofs.lemmas.Bool.Decides.{nat_tests, Decides-int_eq}
-use Rattle.std.proofs.lemmas.List.{append-nil}
 use Rattle.std.proofs.Math.ListN.{drop_of_length-le}
 use Rattle.std.proofs.lemmas.List.Sums.{length-filter}
-use Rattle.std.proofs.lemmas.Option.{same_Some, slice_get_within}
+use Rattle.std.proofs.lemmas.Option.{same_Some}
 use Rattle.turn_rules.specs.Rules.{Rule, forbids}
-use Rattle.road_turns.specs.Chains.{IsChain}
 use Rattle.road_turns.specs.Fans.{leavers, turns_at}
 use Rattle.road_turns.specs.Restrictions.{is_forbidden, is_forbidden_at}
 use Rattle.road_turns.specs.Turn.{exits, exits_at, is_turn, is_way_on, leaves, numbered, turns, turns_from}
@@ -22,7 +20,6 @@ use Rattle.road_turns.specs.Leaving.{RunMap, leaving_at, exits_onto, open_exits}
 use Rattle.road_turns.specs.RestrictionParts.{has_via, pair_eq}
 use Rattle.road_turns.proofs.DecisionLemmas.{pair-same}
 use Rattle.road_segments.specs.Vertex.{Vertex, opposite}
-use Rattle.road_turns.proofs.ChainLemmas.{IsChain-lower}
 use Rattle.road_turns.specs.DropLaws.{drop-get}
 
 -- 1 for what is true
@@ -111,7 +108,7 @@ filter-cong-from all p q h (x ∷ xs) b at =
     ∙ ap (λ (ys : List (ℕ × Vertex)). cond (q (b, x)) ((b, x) ∷ ys) ys)
     (filter-cong-from all p q h xs (b + 1) (λ k z e. subst (λ (n : ℕ). slice_get all n ≡ Some z) (omega arith) (at (suc k) z e)))
 
-filter-cong-numbered : (vs : List Vertex) (p q : ℕ × Vertex → Bool) → ((n : ℕ) (z : Vertex) → slice_get vs n ≡ Some z → p (n, z) ≡ q (n, z)) → filter p (numbered vs) ≡ filter q (numbered vs)
+pub filter-cong-numbered : (vs : List Vertex) (p q : ℕ × Vertex → Bool) → ((n : ℕ) (z : Vertex) → slice_get vs n ≡ Some z → p (n, z) ≡ q (n, z)) → filter p (numbered vs) ≡ filter q (numbered vs)
 filter-cong-numbered vs p q h = filter-cong-from vs p q h vs 0 (λ k z e. subst (λ (n : ℕ). slice_get vs n ≡ Some z) (omega arith) e)
 
 module _ (q : ℕ × Vertex → Bool) where
@@ -371,57 +368,6 @@ module _ (vs : List Vertex) (v : ℕ) (x y : Vertex) (at : slice_get vs v ≡ So
     -- where it can only turn back, it does so if it may
     pub turns-back : x.permitted ≡ true → must_turn_back vs v ≡ true → turns_at vs rules v ≡ cond (may_turn_back vs rules v) ((v, opposite v) ∷ []) []
     turns-back opened must = turns-back-by (exits_at vs x.head v == 0) x.closed refl refl (sym must-is ∙ must) opened must
-
--- what a walk along a chain has still to add: the turns into the vertices es whose numbers pass the test
-pub record IsLeft (next : List ℕ) (none v c : ℕ) (test : ℕ → Bool) (items total : List (ℕ × ℕ)) : Type 0 where
-  pub es : List (ℕ × Vertex)
-  pub chain : IsChain next none 0 c es
-  pub rest : items ++ map (λ e. (v, e.0)) (filter (λ e. test e.0) es) ≡ total
-
-module _ (next : List ℕ) (none v c : ℕ) (test : ℕ → Bool) (items total : List (ℕ × ℕ)) where
-  abbrev added : Bool → List (ℕ × ℕ)
-  added b = cond b ((v, c) ∷ []) []
-
-  map-cons_if : (b : Bool) (e : ℕ × Vertex) (es : List (ℕ × Vertex)) → c ≡ e.0
-      → map (λ f. (v, f.0)) (cond b (e ∷ es) es) ≡ added b ++ map (λ f. (v, f.0)) es
-  map-cons_if true e es h = ap (λ (k : ℕ). (v, k) ∷ map (λ f. (v, f.0)) es) (sym h)
-  map-cons_if false e es h = refl
-
-  next-by : (es : List (ℕ × Vertex)) (n : ℕ) (items' : List (ℕ × ℕ)) → IsChain next none 0 c es → items ++ map (λ e. (v, e.0)) (filter (λ e. test e.0) es) ≡ total
-      → c < none → slice_get next c ≡ Some n → items' ≡ items ++ added (test c) → IsLeft next none v n test items' total
-  next-by [] n items' h r lt at new = absurd (omega (arith, h))
-  next-by (e ∷ es) n items' h r lt at new = record {
-    es = es;
-    chain = subst (λ (m : ℕ). IsChain next none 0 m es) (same_Some h.2 n (sym h.3 ∙ at)) (IsChain-lower next none (c + 1) 0 h.2 es (omega arith) h.4);
-    rest =
-        ap (λ (x : List (ℕ × ℕ)). x ++ map (λ f. (v, f.0)) (filter (λ f. test f.0) es)) new
-        ∙ append_assoc items (added (test c)) (map (λ f. (v, f.0)) (filter (λ f. test f.0) es))
-        ∙ ap (λ (x : List (ℕ × ℕ)). items ++ x) (sym (map-cons_if (test c) e (filter (λ f. test f.0) es) h.0))
-        ∙ ap (λ (k : ℕ). items ++ map (λ f. (v, f.0)) (cond (test k) (e ∷ filter (λ f. test f.0) es) (filter (λ f. test f.0) es))) h.0
-        ∙ r;
-  }
-
-  pub IsLeft-next : (n : ℕ) (items' : List (ℕ × ℕ)) → IsLeft next none v c test items total → c < none → slice_get next c ≡ Some n → items' ≡ items ++ added (test c)
-      → IsLeft next none v n test items' total
-  IsLeft-next n items' h lt at new = next-by h.es n items' h.chain h.rest lt at new
-
-  done-by : (es : List (ℕ × Vertex)) → IsChain next none 0 c es → items ++ map (λ e. (v, e.0)) (filter (λ e. test e.0) es) ≡ total → none ≤ c → length next ≡ none → items ≡ total
-  done-by [] h r le all = sym (append-nil items) ∙ r
-  done-by (e ∷ es) h r le all = absurd (omega (arith, slice_get_within next c h.2 h.3))
-
-  pub IsLeft-done : IsLeft next none v c test items total → none ≤ c → length next ≡ none → items ≡ total
-  IsLeft-done h le all = done-by h.es h.chain h.rest le all
-
-  ahead-of : (es : List (ℕ × Vertex)) (n : ℕ) → IsChain next none (c + 1) n es → c < none → c < n
-  ahead-of [] n h lt = omega (arith, h)
-  ahead-of (e ∷ es) n h lt = omega (arith, h.1)
-
-  ahead-by : (es : List (ℕ × Vertex)) (n : ℕ) → IsChain next none 0 c es → c < none → slice_get next c ≡ Some n → c < n
-  ahead-by [] n h lt at = absurd (omega (arith, h))
-  ahead-by (e ∷ es) n h lt at = subst (λ (m : ℕ). c < m) (same_Some h.2 n (sym h.3 ∙ at)) (ahead-of es h.2 h.4 lt)
-
-  pub IsLeft-ahead : (n : ℕ) → IsLeft next none v c test items total → c < none → slice_get next c ≡ Some n → c < n
-  IsLeft-ahead n h lt at = ahead-by h.es n h.chain lt at
 
 -- all turns from number v on are those from v and those from there on
 pub turns-step : (vs : List Vertex) (rules : List Rule) (v : ℕ) (x : Vertex) → slice_get vs v ≡ Some x

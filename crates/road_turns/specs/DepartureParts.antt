@@ -1,6 +1,6 @@
 -- For private functions, and for those who hand what is found from one call to the next: how the vertices that leave a node are found: all vertices stand in the order of the nodes that they leave.
-use Rattle.std.specs.Prelude.{◌≡◌, ◌≤◌, ◌-◌, ℕ, ℤ, List, drop, filter, length, map, take}
-use Rattle.std.specs.List.{slice_get}
+use Rattle.std.specs.Prelude.{◌≡◌, ◌<◌, ◌≤◌, ◌-◌, ℕ, ℤ, All, List, drop, filter, length, map, take}
+use Rattle.std.specs.List.{Contains, slice_get}
 use Rattle.std.specs.List.Sorted.{IsNonDecreasingBy}
 use Rattle.std.specs.Option.{option_map_or}
 use Rattle.std.specs.Ordering.{int_cmp, is_eq, ordering_index}
@@ -19,8 +19,11 @@ departures vs = map (λ e. record { node = e.1.tail; vertex = e.0 }) (numbered v
 abbrev pub tail_cmp : List Vertex → ℤ → ℕ → Ordering
 tail_cmp vs node v = option_map_or (λ x. int_cmp x.tail node) (slice_get vs v) Greater
 
--- the vertices stand in the order of the nodes that they leave, and those of one node in the order of their numbers
+-- all vertices stand in the order of the nodes that they leave, and those of one node in the order of their numbers
 pub record AreDepartures (vs : List Vertex) (order : List ℕ) : Type 0 where
+  pub as_many : length order ≡ length vs
+  pub within : All (λ v. v < length vs) order
+  pub every : (v : ℕ) → v < length vs → Contains order v
   pub rise : (node : ℤ) → IsNonDecreasingBy (λ v. ordering_index (tail_cmp vs node v)) order
   pub each : (node : ℤ) → filter (λ v. is_eq (tail_cmp vs node v)) order ≡ vertices_from vs node
 

@@ -1,37 +1,44 @@
--- For private functions, and for those who hand what is found from one call to the next: how the turns of a network are found: for each node the permitted vertices that leave it, in a chain.
-use Rattle.std.specs.Prelude.{◌≡◌, ℕ, ℤ, List, [], Some, length, unwrap_or}
-use Rattle.std.specs.HashMap.{HashMap, get}
-use Rattle.std.specs.List.{slice_get}
+-- For private functions, and for those who hand what is found from one call to the next: how the turns of a network are found: the permitted vertices that leave each node stand side by side, and each node has a number.
+use Rattle.std.specs.Prelude.{◌≡◌, ◌+◌, ◌-◌, ◌≤◌, ℕ, ℤ, Bool, false, ◌&&◌, List, [], Some, drop, filter, length, map, take}
+use Rattle.std.specs.List.{enumerate_from, slice_get}
 use Rattle.std.specs.Option.{option_map_or}
 use Rattle.std.specs.Ordering.{int_eq}
-use Rattle.std.specs.declared.hash.FoldHasher.{FoldHasher}
-use Rattle.std.specs.declared.hash.BuildHasherDefault.{BuildHasherDefault}
 use Rattle.turn_rules.specs.Rules.{Rule}
-use Rattle.road_turns.specs.Chains.{IsChain, belonging}
+use Rattle.road_turns.specs.RestrictionParts.{has_via}
 use Rattle.road_turns.specs.Turn.{turns_from, exits}
 use Rattle.road_segments.specs.Vertex.{Vertex}
-use Rattle.road_turns.specs.declared.fans.Fan.{Fan}
 
 -- the permitted vertices from number v on that leave the node, in ascending order
 abbrev pub leavers : List Vertex → ℤ → ℕ → List (ℕ × Vertex)
-leavers vs node v = belonging (λ x. x.permitted) (λ x. x.tail) vs node v
+leavers vs node v = filter (λ e. e.1.permitted && int_eq e.1.tail node) (enumerate_from v (drop v vs))
 
--- a fan is the begin and the number of these vertices
-pub record IsFan (next : List ℕ) (none low : ℕ) (fan : Fan) (es : List (ℕ × Vertex)) : Type 0 where
-  pub chain : IsChain next none low fan.first es
-  pub leaving : fan.leaving ≡ length es
+-- the numbers of all permitted vertices that leave the node
+abbrev pub fan : List Vertex → ℤ → List ℕ
+fan vs node = map (λ e. e.0) (leavers vs node 0)
 
-abbrev pub FanMap : Type 0
-FanMap = HashMap ℤ Fan (BuildHasherDefault FoldHasher)
+-- vertex v is permitted
+abbrev pub is_permitted : List Vertex → ℕ → Bool
+is_permitted vs v = option_map_or (λ x. x.permitted) (slice_get vs v) false
 
--- the fan of a node; an empty one begins at `none`
-abbrev pub fan_in : FanMap → ℕ → ℤ → Fan
-fan_in fans none node = unwrap_or (get int_eq fans node) (record { first = none; leaving = 0 })
+-- the vertices that leave the node of number g begin and end at these places
+pub record IsFan (vs : List Vertex) (leaving begins : List ℕ) (node : ℤ) (g : ℕ) : Type 0 where
+  pub begin : ℕ
+  pub end : ℕ
+  pub from : slice_get begins g ≡ Some begin
+  pub to : slice_get begins (g + 1) ≡ Some end
+  pub ordered : begin ≤ end
+  pub within : end ≤ length leaving
+  pub between : take (end - begin) (drop begin leaving) ≡ fan vs node
 
--- each node has the fan of the vertices from number v on
-pub record AreFans (vs : List Vertex) (v : ℕ) (next : List ℕ) (fans : FanMap) : Type 0 where
-  pub nexts : length next ≡ length vs
-  pub each : (node : ℤ) → IsFan next (length vs) v (fan_in fans (length vs) node) (leavers vs node v)
+-- each vertex has the number of the node that it leaves
+pub record AreFans (vs : List Vertex) (leaving begins : List ℕ) (restricted : List Bool) (nodes : List ℕ) : Type 0 where
+  pub as_many : length nodes ≡ length vs
+  pub flags : length begins ≡ length restricted + 1
+  pub each : (v g : ℕ) (x : Vertex) → slice_get vs v ≡ Some x → slice_get nodes v ≡ Some g → IsFan vs leaving begins x.tail g
+
+-- each node is marked where a rule is there
+pub record AreRestricted (vs : List Vertex) (rules : List Rule) (restricted : List Bool) (nodes : List ℕ) : Type 0 where
+  pub each : (v g : ℕ) (x : Vertex) → slice_get vs v ≡ Some x → slice_get nodes v ≡ Some g → slice_get restricted g ≡ Some (has_via rules x.tail)
 
 -- the turns from vertex v
 abbrev pub turns_at : List Vertex → List Rule → ℕ → List (ℕ × ℕ)

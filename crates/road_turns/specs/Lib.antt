@@ -1,4 +1,3 @@
-pub mod Chains
 pub mod Decisions
 pub mod DepartureParts
 pub mod Departures

@@ -1,69 +1,110 @@
-//! The permitted vertices that leave each node.
+//! The permitted vertices that leave each node, by the nodes' numbers in the order of their ids.
 
-ghost use Rattle.std.specs.Prelude.{◌≡◌, ◌*◌, ◌<◌, IfOk, length};
-ghost use Rattle.road_turns.specs.Fans.{AreFans, fan_in};
+ghost use Rattle.std.specs.Prelude.{◌≡◌, ◌-◌, ◌*◌, ◌^◌, ◌<◌, ◌≤◌, ◌++◌, [], ◌∷◌, IfOk, OnOk, filter, length, set};
+ghost use Rattle.road_turns.specs.DepartureParts.{AreDepartures};
+ghost use Rattle.road_turns.specs.Fans.{AreFans, AreRestricted, is_permitted};
+ghost use Rattle.road_turns.specs.RestrictionParts.{has_via};
 ghost use Rattle.road_segments.specs.Vertex.{vertices};
 
+use crate::departures::Departures;
+use crate::restrictions::Restrictions;
 use road_segments::Roads;
 use std::alloc::{AllocError, Global};
-use std::collections::HashMap;
 
-/// The permitted vertices that leave one node: the first of them, and how many they are.
-#[derive(Clone, Copy)]
-pub struct Fan {
-    pub first: u32,
-    pub leaving: u32,
-}
-
-/// The fans of all nodes. Each vertex has the next one that leaves the same node, in ascending order, or
-/// the number of vertices behind the last.
+/// The permitted vertices that leave the nodes. Each node that a vertex leaves has a number, by the
+/// ascending order of the nodes' ids.
 pub struct Fans {
-    pub next: Vec<u32>,
-    pub by_node: HashMap<i64, Fan>,
+    /// the permitted vertices, by the nodes that they leave, and at one node in ascending order
+    pub leaving: Vec<u32>,
+    /// where those of each node begin, and where the last end
+    pub begins: Vec<u32>,
+    /// whether a restriction applies at each node
+    pub restricted: Vec<bool>,
+    /// the number of the node that each vertex leaves
+    pub nodes: Vec<u32>,
 }
 
 impl Drop for Fans {
     fn drop(self) {
         let Fans {
-            next: _next,
-            by_node: _by_node,
+            leaving: _leaving,
+            begins: _begins,
+            restricted: _restricted,
+            nodes: _nodes,
         } = self;
     }
 }
 
-/// The fan of a node.
-pub fn fan_at(by_node: &HashMap<i64, Fan>, node: i64, none: u32) -> Fan
-    ensures { result ≡ fan_in by_node.now none node }
+// No fans yet.
+fn no_fans(alloc: Global, count: u32) -> Result<Fans, AllocError>
+    ensures leaving { IfOk result (λ f. f.leaving.items ≡ []) }
+    ensures begins { IfOk result (λ f. f.begins.items ≡ []) }
+    ensures restricted { IfOk result (λ f. f.restricted.items ≡ []) }
+    ensures nodes { IfOk result (λ f. length f.nodes.items ≡ count) }
 {
-    match by_node.get(&node) {
-        Some(fan) => *fan,
-        None => Fan {
-            first: none,
-            leaving: 0,
-        },
-    }
+    Ok(Fans {
+        leaving: Vec::with_capacity(alloc, count as usize)?,
+        begins: Vec::new(alloc),
+        restricted: Vec::new(alloc),
+        nodes: vec![in alloc; 0; count as usize]?,
+    })
 }
 
-/// The fans of a network.
-pub fn fans_of(alloc: Global, roads: &Roads) -> Result<Fans, AllocError>
-    ensures { IfOk result (λ fans. AreFans (vertices roads.now) 0 fans.next.items fans.by_node) }
+// Begins the next node.
+fn begin(fans: &mut Fans, restrictions: &Restrictions, node: i64) -> Result<(), AllocError>
+    requires { length fans.old.leaving.items < 2 ^ 32 }
+    ensures leaving { OnOk result (fans.new.leaving.items ≡ fans.old.leaving.items) }
+    ensures begins { OnOk result (fans.new.begins.items ≡ fans.old.begins.items ++ length fans.old.leaving.items ∷ []) }
+    ensures restricted { OnOk result (fans.new.restricted.items ≡ fans.old.restricted.items ++ has_via restrictions.now.kept node ∷ []) }
+    ensures nodes { OnOk result (fans.new.nodes.items ≡ fans.old.nodes.items) }
 {
-    let none = 2 * roads.len();
-    let mut next = vec![in alloc; none; none as usize]?;
-    let mut by_node = HashMap::new(alloc);
-    for v in (0..none).rev() {
-        if roads.permitted(v) {
-            let node = roads.tail(v);
-            let fan = fan_at(&by_node, node, none);
-            next[v as usize] = fan.first;
-            by_node.insert(
-                node,
-                Fan {
-                    first: v,
-                    leaving: fan.leaving + 1,
-                },
-            )?;
-        }
+    fans.begins.push(fans.leaving.len() as u32)?;
+    fans.restricted.push(restrictions.any_at(node))?;
+    Ok(())
+}
+
+// Adds a vertex that leaves the last node.
+fn add(fans: &mut Fans, roads: &Roads, v: u32) -> Result<(), AllocError>
+    requires vertex { v < 2 * length roads.now }
+    requires nodes { v < length fans.old.nodes.items }
+    requires some { 1 ≤ length fans.old.restricted.items }
+    requires few { length fans.old.restricted.items < 2 ^ 32 }
+    ensures leaving { OnOk result (fans.new.leaving.items ≡ fans.old.leaving.items ++ filter (is_permitted (vertices roads.now)) (v ∷ [])) }
+    ensures begins { OnOk result (fans.new.begins.items ≡ fans.old.begins.items) }
+    ensures restricted { OnOk result (fans.new.restricted.items ≡ fans.old.restricted.items) }
+    ensures nodes { OnOk result (fans.new.nodes.items ≡ set fans.old.nodes.items v (length fans.old.restricted.items - 1)) }
+{
+    fans.nodes[v as usize] = fans.restricted.len() as u32 - 1;
+    if roads.permitted(v) {
+        fans.leaving.push(v)?;
     }
-    Ok(Fans { next, by_node })
+    Ok(())
+}
+
+impl Fans {
+    /// The fans of a network.
+    pub fn of(
+        alloc: Global,
+        roads: &Roads,
+        departures: &Departures,
+        restrictions: &Restrictions,
+    ) -> Result<Fans, AllocError>
+        requires { AreDepartures (vertices roads.now) departures.now.order.items }
+        ensures fans { IfOk result (λ f. AreFans (vertices roads.now) f.leaving.items f.begins.items f.restricted.items f.nodes.items) }
+        ensures restricted { IfOk result (λ f. AreRestricted (vertices roads.now) restrictions.now.kept f.restricted.items f.nodes.items) }
+    {
+        let mut fans = no_fans(alloc, 2 * roads.len())?;
+        let mut node = 0;
+        for i in 0..departures.order.len() {
+            let v = departures.order[i];
+            let tail = roads.tail(v);
+            if i == 0 || tail != node {
+                begin(&mut fans, restrictions, tail)?;
+                node = tail;
+            }
+            add(&mut fans, roads, v)?;
+        }
+        fans.begins.push(fans.leaving.len() as u32)?;
+        Ok(fans)
+    }
 }

@@ -1,15 +1,18 @@
 //! The permitted vertices that leave the nodes where restrictions apply, by their ways: what is decided for
 //! a way then needs no look at each of its vertices.
 
-ghost use Rattle.std.specs.Prelude.{◌≡◌, ℕ, ℤ, None, true, false, not, if◌then◌else◌, ◌*◌, ◌<◌, ◌++◌, [], ◌∷◌, IfOk, OnOk, length, filter, map};
+ghost use Rattle.std.specs.Prelude.{◌≡◌, ℕ, ℤ, None, true, false, not, if◌then◌else◌, ◌*◌, ◌<◌, ◌++◌, [], ◌∷◌, IfOk, List, OnOk, length, filter, map};
 ghost use Rattle.std.specs.HashMap.{get};
 ghost use Rattle.std.specs.Ordering.{int_eq};
+ghost use Rattle.road_turns.specs.Fans.{AreFans, AreRestricted};
 ghost use Rattle.road_turns.specs.Leaving.{AreGroups, AreLeaving, leaving_at, exits_in, group_at, open_exits};
 ghost use Rattle.road_turns.specs.RestrictionParts.{pair_eq};
 ghost use Rattle.road_turns.specs.Restrictions.{is_forbidden_at};
 ghost use Rattle.road_segments.specs.Vertex.{vertices};
+ghost use Rattle.turn_rules.specs.Rules.{Rule};
 
 use crate::decisions::Onto;
+use crate::fans::Fans;
 use crate::restrictions::Restrictions;
 use road_segments::Roads;
 use std::alloc::{AllocError, Global};
@@ -149,24 +152,19 @@ fn add(alloc: Global, leaving: &mut Leaving, node: i64, way: i64, v: u32) -> Res
 }
 
 impl Leaving {
-    /// Those that leave the nodes where one of the restrictions applies.
-    pub fn of(
-        alloc: Global,
-        roads: &Roads,
-        restrictions: &Restrictions,
-    ) -> Result<Leaving, AllocError>
-        ensures { IfOk result (λ l. AreLeaving (vertices roads.now) restrictions.now.kept l.runs l.groups) }
+    /// Those that leave the nodes that are marked as those where a restriction applies.
+    pub fn of(alloc: Global, roads: &Roads, fans: &Fans) -> Result<Leaving, AllocError>
+        requires { AreFans (vertices roads.now) fans.now.leaving.items fans.now.begins.items fans.now.restricted.items fans.now.nodes.items }
+        ensures { IfOk result (λ l. (rules : List Rule) → AreRestricted (vertices roads.now) rules fans.now.restricted.items fans.now.nodes.items → AreLeaving (vertices roads.now) rules l.runs l.groups) }
     {
         let mut leaving = Leaving {
             runs: HashMap::new(alloc),
             groups: HashMap::new(alloc),
         };
         for v in 0..2 * roads.len() {
-            if roads.permitted(v) {
-                let node = roads.tail(v);
-                if restrictions.any_at(node) {
-                    add(alloc, &mut leaving, node, roads.way(v), v)?;
-                }
+            let node = fans.nodes[v as usize];
+            if fans.restricted[node as usize] && roads.permitted(v) {
+                add(alloc, &mut leaving, roads.tail(v), roads.way(v), v)?;
             }
         }
         Ok(leaving)

@@ -1,7 +1,7 @@
 //! How many turns there are, found without a list of them.
 
 ghost use Rattle.std.specs.Prelude.{◌≡◌, ◌*◌, ◌<◌, IfOk, OnOk, length};
-ghost use Rattle.road_turns.specs.Fans.{AreExits, turns_at};
+ghost use Rattle.road_turns.specs.Fans.{AreExits, AreFans, AreRestricted, turns_at};
 ghost use Rattle.road_turns.specs.Leaving.{AreGroups, AreLeaving, leaving_at, open_exits};
 ghost use Rattle.road_turns.specs.Limits.{most_turns};
 ghost use Rattle.road_segments.specs.Limits.{CountsUpTo};
@@ -12,7 +12,7 @@ ghost use Rattle.road_segments.specs.Vertex.{vertices};
 use crate::leaving::Leaving;
 use crate::limits::MOST_TURNS;
 use crate::restrictions::Restrictions;
-use crate::turn_lists::{Exits, may_turn_back, must_turn_back, opens_back};
+use crate::turn_lists::{Exits, may_turn_back, must_turn_back, opens_back, other_way};
 use road_segments::Roads;
 use std::alloc::{AllocError, Global};
 use std::collections::HashMap;
@@ -50,17 +50,19 @@ fn count_on(
     v: u32,
 ) -> Result<usize, AllocError>
     requires vertex { v < 2 * length roads.now }
+    requires fans { AreFans (vertices roads.now) exits.now.fans.leaving.items exits.now.fans.begins.items exits.now.fans.restricted.items exits.now.fans.nodes.items }
+    requires restricted { AreRestricted (vertices roads.now) restrictions.now.kept exits.now.fans.restricted.items exits.now.fans.nodes.items }
     requires exits { AreExits (vertices roads.now) exits.now.counts.items }
     requires leaving { AreLeaving (vertices roads.now) restrictions.now.kept exits.now.leaving.runs exits.now.leaving.groups }
     requires counts { AreOpenCounts restrictions.now.kept exits.now.leaving.runs counts.old }
     ensures value { IfOk result (λ n. n ≡ length (turns_on (vertices roads.now) restrictions.now.kept v)) }
     ensures counts { OnOk result (AreOpenCounts restrictions.now.kept exits.now.leaving.runs counts.new) }
 {
-    let node = roads.head(v);
-    if !restrictions.any_at(node) {
+    let node = exits.fans.nodes[other_way(v) as usize];
+    if !exits.fans.restricted[node as usize] {
         return Ok(exits.counts[v as usize] as usize);
     }
-    let end = (node, roads.way(v));
+    let end = (roads.head(v), roads.way(v));
     let ahead = open_count(counts, alloc, &exits.leaving, restrictions, end)?;
     if opens_back(roads, restrictions, v, false) {
         Ok(ahead - 1)
@@ -79,6 +81,8 @@ fn count_at(
     v: u32,
 ) -> Result<usize, AllocError>
     requires vertex { v < 2 * length roads.now }
+    requires fans { AreFans (vertices roads.now) exits.now.fans.leaving.items exits.now.fans.begins.items exits.now.fans.restricted.items exits.now.fans.nodes.items }
+    requires restricted { AreRestricted (vertices roads.now) restrictions.now.kept exits.now.fans.restricted.items exits.now.fans.nodes.items }
     requires exits { AreExits (vertices roads.now) exits.now.counts.items }
     requires leaving { AreLeaving (vertices roads.now) restrictions.now.kept exits.now.leaving.runs exits.now.leaving.groups }
     requires counts { AreOpenCounts restrictions.now.kept exits.now.leaving.runs counts.old }
@@ -107,6 +111,8 @@ pub fn turn_count(
     exits: &Exits,
     restrictions: &Restrictions,
 ) -> Result<Option<usize>, AllocError>
+    requires fans { AreFans (vertices roads.now) exits.now.fans.leaving.items exits.now.fans.begins.items exits.now.fans.restricted.items exits.now.fans.nodes.items }
+    requires restricted { AreRestricted (vertices roads.now) restrictions.now.kept exits.now.fans.restricted.items exits.now.fans.nodes.items }
     requires counts { AreExits (vertices roads.now) exits.now.counts.items }
     requires leaving { AreLeaving (vertices roads.now) restrictions.now.kept exits.now.leaving.runs exits.now.leaving.groups }
     ensures { IfOk result (CountsUpTo (length (turns (vertices roads.now) restrictions.now.kept)) most_turns) }

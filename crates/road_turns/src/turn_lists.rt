@@ -1,13 +1,15 @@
 //! The exits of each vertex, and the list of all turns.
 
-ghost use Rattle.std.specs.Prelude.{◌≡◌, ◌==◌, true, not, ◌*◌, ◌<◌, ◌++◌, IfOk, OnOk, length};
-ghost use Rattle.road_turns.specs.Fans.{AreExits, AreFans, turns_at};
+ghost use Rattle.std.specs.Prelude.{◌≡◌, ◌==◌, true, not, ◌-◌, ◌*◌, ◌<◌, ◌≤◌, ◌++◌, IfOk, OnOk, drop, length, take};
+ghost use Rattle.road_turns.specs.DepartureParts.{AreDepartures};
+ghost use Rattle.road_turns.specs.Fans.{AreExits, AreFans, AreRestricted, turns_at};
 ghost use Rattle.road_turns.specs.Leaving.{AreGroups, AreLeaving, leaving_at, open_exits};
 ghost use Rattle.road_turns.specs.Turn.{exits, turns};
-ghost use Rattle.road_turns.specs.TurnParts.{AreOpenRows, may_turn_back, must_turn_back, opens_back, turns_on, turns_onto, turns_onto_all};
+ghost use Rattle.road_turns.specs.TurnParts.{AreOpenRows, may_turn_back, must_turn_back, opens_back, turns_on, turns_onto};
 ghost use Rattle.road_segments.specs.Vertex.{opposite, vertices};
 
-use crate::fans::{Fans, fan_at, fans_of};
+use crate::departures::Departures;
+use crate::fans::Fans;
 use crate::leaving::Leaving;
 use crate::restrictions::Restrictions;
 use road_segments::Roads;
@@ -33,10 +35,11 @@ pub fn other_way(v: u32) -> u32
 // How many exits a vertex has.
 fn exits_of(roads: &Roads, fans: &Fans, v: u32) -> u32
     requires vertex { v < 2 * length roads.now }
-    requires fans { AreFans (vertices roads.now) 0 fans.now.next.items fans.now.by_node }
+    requires fans { AreFans (vertices roads.now) fans.now.leaving.items fans.now.begins.items fans.now.restricted.items fans.now.nodes.items }
     ensures { result ≡ exits (vertices roads.now) v }
 {
-    let leaving = fan_at(&fans.by_node, roads.head(v), 2 * roads.len()).leaving;
+    let node = fans.nodes[other_way(v) as usize] as usize;
+    let leaving = fans.begins[node + 1] - fans.begins[node];
     if roads.permitted(other_way(v)) {
         leaving - 1
     } else {
@@ -46,7 +49,7 @@ fn exits_of(roads: &Roads, fans: &Fans, v: u32) -> u32
 
 /// How many exits each vertex has.
 pub fn exit_counts(alloc: Global, roads: &Roads, fans: &Fans) -> Result<Vec<u32>, AllocError>
-    requires { AreFans (vertices roads.now) 0 fans.now.next.items fans.now.by_node }
+    requires { AreFans (vertices roads.now) fans.now.leaving.items fans.now.begins.items fans.now.restricted.items fans.now.nodes.items }
     ensures { IfOk result (λ counts. AreExits (vertices roads.now) counts.items) }
 {
     let mut counts = Vec::with_capacity(alloc, 2 * roads.len() as usize)?;
@@ -95,28 +98,6 @@ fn is_other(e: u32, v: u32) -> bool
     e != other_way(v)
 }
 
-// Adds the turns from a vertex onto all others that leave its end.
-fn push_all(
-    turns: &mut Vec<(u32, u32)>,
-    roads: &Roads,
-    fans: &Fans,
-    v: u32,
-) -> Result<(), AllocError>
-    requires vertex { v < 2 * length roads.now }
-    requires fans { AreFans (vertices roads.now) 0 fans.now.next.items fans.now.by_node }
-    ensures { OnOk result (turns.new.items ≡ turns.old.items ++ turns_onto_all (vertices roads.now) v) }
-{
-    let none = 2 * roads.len();
-    let mut e = fan_at(&fans.by_node, roads.head(v), none).first;
-    while e < none {
-        if is_other(e, v) {
-            turns.push((v, e))?;
-        }
-        e = fans.next[e as usize];
-    }
-    Ok(())
-}
-
 // Adds the turns from a vertex onto others among these.
 fn push_row(turns: &mut Vec<(u32, u32)>, row: &[u32], v: u32) -> Result<(), AllocError>
     ensures { OnOk result (turns.new.items ≡ turns.old.items ++ turns_onto v row.now) }
@@ -127,6 +108,21 @@ fn push_row(turns: &mut Vec<(u32, u32)>, row: &[u32], v: u32) -> Result<(), Allo
         }
     }
     Ok(())
+}
+
+// Adds the turns from a vertex onto others among those between two places.
+fn push_part(
+    turns: &mut Vec<(u32, u32)>,
+    leaving: &[u32],
+    first: usize,
+    end: usize,
+    v: u32,
+) -> Result<(), AllocError>
+    requires ordered { first ≤ end }
+    requires within { end ≤ length leaving.now }
+    ensures { OnOk result (turns.new.items ≡ turns.old.items ++ turns_onto v (take (end - first) (drop first leaving.now))) }
+{
+    push_row(turns, &leaving[first..end], v)
 }
 
 // Adds the turns from a vertex that ends at this node, of this way, onto others, where restrictions apply.
@@ -165,19 +161,22 @@ fn push_on(
     v: u32,
 ) -> Result<(), AllocError>
     requires vertex { v < 2 * length roads.now }
-    requires fans { AreFans (vertices roads.now) 0 exits.now.fans.next.items exits.now.fans.by_node }
+    requires fans { AreFans (vertices roads.now) exits.now.fans.leaving.items exits.now.fans.begins.items exits.now.fans.restricted.items exits.now.fans.nodes.items }
+    requires restricted { AreRestricted (vertices roads.now) restrictions.now.kept exits.now.fans.restricted.items exits.now.fans.nodes.items }
     requires leaving { AreLeaving (vertices roads.now) restrictions.now.kept exits.now.leaving.runs exits.now.leaving.groups }
     requires rows { AreOpenRows restrictions.now.kept exits.now.leaving.runs rows.old }
     ensures turns { OnOk result (turns.new.items ≡ turns.old.items ++ turns_on (vertices roads.now) restrictions.now.kept v) }
     ensures rows { OnOk result (AreOpenRows restrictions.now.kept exits.now.leaving.runs rows.new) }
 {
-    let node = roads.head(v);
-    if restrictions.any_at(node) {
-        let end = (node, roads.way(v));
-        push_open(turns, rows, alloc, &exits.leaving, restrictions, end, v)
-    } else {
-        push_all(turns, roads, &exits.fans, v)
+    let fans = &exits.fans;
+    let node = fans.nodes[other_way(v) as usize] as usize;
+    if fans.restricted[node] {
+        let end = (roads.head(v), roads.way(v));
+        return push_open(turns, rows, alloc, &exits.leaving, restrictions, end, v);
     }
+    let first = fans.begins[node] as usize;
+    let end = fans.begins[node + 1] as usize;
+    push_part(turns, &fans.leaving, first, end, v)
 }
 
 // Adds the turns from a vertex.
@@ -191,7 +190,8 @@ fn push_turns(
     v: u32,
 ) -> Result<(), AllocError>
     requires vertex { v < 2 * length roads.now }
-    requires fans { AreFans (vertices roads.now) 0 exits.now.fans.next.items exits.now.fans.by_node }
+    requires fans { AreFans (vertices roads.now) exits.now.fans.leaving.items exits.now.fans.begins.items exits.now.fans.restricted.items exits.now.fans.nodes.items }
+    requires restricted { AreRestricted (vertices roads.now) restrictions.now.kept exits.now.fans.restricted.items exits.now.fans.nodes.items }
     requires counts { AreExits (vertices roads.now) exits.now.counts.items }
     requires leaving { AreLeaving (vertices roads.now) restrictions.now.kept exits.now.leaving.runs exits.now.leaving.groups }
     requires rows { AreOpenRows restrictions.now.kept exits.now.leaving.runs rows.old }
@@ -220,7 +220,8 @@ pub fn turn_list(
     restrictions: &Restrictions,
     count: usize,
 ) -> Result<Vec<(u32, u32)>, AllocError>
-    requires fans { AreFans (vertices roads.now) 0 exits.now.fans.next.items exits.now.fans.by_node }
+    requires fans { AreFans (vertices roads.now) exits.now.fans.leaving.items exits.now.fans.begins.items exits.now.fans.restricted.items exits.now.fans.nodes.items }
+    requires restricted { AreRestricted (vertices roads.now) restrictions.now.kept exits.now.fans.restricted.items exits.now.fans.nodes.items }
     requires counts { AreExits (vertices roads.now) exits.now.counts.items }
     requires leaving { AreLeaving (vertices roads.now) restrictions.now.kept exits.now.leaving.runs exits.now.leaving.groups }
     requires as_many { count ≡ length (turns (vertices roads.now) restrictions.now.kept) }
@@ -239,15 +240,18 @@ impl Exits {
     pub fn of(
         alloc: Global,
         roads: &Roads,
+        departures: &Departures,
         restrictions: &Restrictions,
     ) -> Result<Exits, AllocError>
-        ensures fans { IfOk result (λ e. AreFans (vertices roads.now) 0 e.fans.next.items e.fans.by_node) }
+        requires { AreDepartures (vertices roads.now) departures.now.order.items }
+        ensures fans { IfOk result (λ e. AreFans (vertices roads.now) e.fans.leaving.items e.fans.begins.items e.fans.restricted.items e.fans.nodes.items) }
+        ensures restricted { IfOk result (λ e. AreRestricted (vertices roads.now) restrictions.now.kept e.fans.restricted.items e.fans.nodes.items) }
         ensures counts { IfOk result (λ e. AreExits (vertices roads.now) e.counts.items) }
         ensures leaving { IfOk result (λ e. AreLeaving (vertices roads.now) restrictions.now.kept e.leaving.runs e.leaving.groups) }
     {
-        let fans = fans_of(alloc, roads)?;
+        let fans = Fans::of(alloc, roads, departures, restrictions)?;
         let counts = exit_counts(alloc, roads, &fans)?;
-        let leaving = Leaving::of(alloc, roads, restrictions)?;
+        let leaving = Leaving::of(alloc, roads, &fans)?;
         Ok(Exits {
             counts,
             fans,
