@@ -20,16 +20,13 @@ pub struct Label<C> {
     pub node: usize,
 }
 
-/// What a search knows of a vertex: nothing, a label, or a label than which no cheaper way can come. The
-/// node stands in four bytes, and before the cost: it shares a word with the slot's mark so.
+/// What a search knows of a vertex: nothing, a label, or a label than which no cheaper way can come.
 #[derive(Clone, Copy, Drop)]
 pub enum Slot<C> {
     Untouched,
     Labelled { node: u32, cost: C },
     Settled { node: u32, cost: C },
 }
-
-const _: () = prove!(size_of::<Slot<u64>>() == 16);
 
 /// The labels by vertex. In place of a cost a slot has its rank, or its place among those that have
 /// none.
@@ -124,7 +121,7 @@ impl<C: Cost> Labels<C> {
         }
     }
 
-    /// Gives `v`, which isn't settled, a label in place of the one that it had. A node past 2^32 - 1 is
+    /// Gives `v`, which isn't settled, a label in place of the one that it had. A node past 2^31 - 1 is
     /// answered by the error, as where memory runs out.
     #[inline(always)]
     pub fn put(&mut self, v: u32, label: Label<C>) -> Result<(), AllocError>
@@ -132,11 +129,9 @@ impl<C: Cost> Labels<C> {
         ensures label { OnOk result (label_of self.new ≡ changed (label_of self.old) v (Some label)) }
         ensures settled { OnOk result (settled_of self.new ≡ settled_of self.old) }
     {
-        let Ok(node) = u32::try_from(label.node) else {
-            return Err(AllocError);
-        };
         let cost = word_of(label.cost, &mut self.others)?;
-        self.slots.put(v, Slot::Labelled { node, cost })?;
+        let node = label.node;
+        self.slots.put(v, Label { cost, node })?;
         Ok(())
     }
 

@@ -1,10 +1,7 @@
--- The vertices that have a place are among those that are left to clear.
-use Rattle.std.proofs.Common.{vec_len}
-use Rattle.search_labels.specs.Slotted.{AreTouched}
+-- The vertices that have a place are those of the slots that are left to clear.
+use Rattle.std.proofs.Common.{length}
+use Rattle.search_labels.proofs.Slotted.{AreLeft}
 use Rattle.search_labels.proofs.slots.clear_places.Given as goal
 
-abbrev pub invariant-loop-v : goal.invariant-loop-v
-invariant-loop-v l = AreTouched l.table.items l.touched.items
-
-abbrev pub decreases-loop-v : goal.decreases-loop-v
-decreases-loop-v l = vec_len l.touched
+abbrev pub invariant-loop-slot : goal.invariant-loop-slot
+invariant-loop-slot g l = AreLeft (length l.fn.table) l.table l.made l.slot-index
