@@ -1,6 +1,6 @@
 -- What a search passes by, and what it has looked at.
 use Rattle.std.proofs.Common.{◌≡◌, ℕ, ◌+◌, ◌-◌, ◌*◌, ◌/◌, ◌<◌, ◌≤◌, ◌⊎◌, inl, inr, List, length, refl, sym, ap, subst, arith, ◌∙◌}
-use Rattle.std.specs.Prelude.{ℤ, pos, negsuc, IfSome, ◌%◌, ◌≤ℤ◌, ◌-ℤ◌, Option, Some, None}
+use Rattle.std.specs.Prelude.{ℤ, pos, negsuc, min, IfSome, ◌%◌, ◌≤ℤ◌, ◌-ℤ◌, Option, Some, None}
 use Rattle.std.specs.List.{slice_get}
 use Rattle.std.proofs.Math.Nat.{div-lt_iff_lt-mul}
 use Rattle.std.proofs.lemmas.Bool.{cases_lt}
@@ -15,8 +15,9 @@ use Rattle.list_lemmas.proofs.Between.{between-add, between-part}
 use Rattle.search_graph.specs.declared.costs.WeightDurLen.{WeightDurLen}
 use Rattle.search_graph.specs.Digraph.{Weighting}
 use Rattle.snap_index.specs.Candidates.{Ascend, IsCandidate, IsOnLine, IsOpenLine, LastIs, Stands, StandsOn, line_remoteness}
-use Rattle.snap_index.specs.Index.{AreJudged, HasLine, IsFarther, IsJudged, IsLeastCosine, IsOrder, IsPassed, IsWithin}
+use Rattle.snap_index.specs.Index.{AreJudged, HasLine, IsFarther, IsFrame, IsJudged, IsLeastCosine, IsOrder, IsPassed, IsWithin}
 use Rattle.snap_index.specs.Kept.{IsInReach}
+use Rattle.snap_index.specs.Nearest.{remoteness}
 use Rattle.snap_index.specs.declared.candidates.Candidate.{Candidate}
 use Rattle.snap_index.specs.declared.extents.Extent.{Extent}
 use Rattle.snap_index.specs.declared.filters.Heading.{Heading}
@@ -68,14 +69,18 @@ reach-cases None remote = inr tt
 reach-cases (Some far) remote = cases_lt far remote
 
 -- a line that can be passed by lies out of reach, or stands behind all slots
-pub passed-judged : (from : Position) (cosine : ℕ) (reach far : Option ℕ) (slots : List (Option Candidate)) (line : SegmentEnds) (s : ℕ)
-    → IsPassed from cosine far line → IsLeastCosine from cosine reach → ((remote t : ℕ) → IsFarther far remote → IsFarther reach remote ⊎ Stands remote t slots)
+pub passed-judged : (from : Position) (cosine : ℕ) (reach : Option ℕ) (slots : List (Option Candidate)) (frame : Extent) (line : SegmentEnds) (s : ℕ)
+    → IsPassed frame line → IsLeastCosine from cosine reach → IsFrame from cosine reach slots frame
     → IsFarther reach (line_remoteness from line) ⊎ Stands (line_remoteness from line) s slots
-passed-judged from cosine reach far slots line s passed least h =
+passed-judged from cosine reach slots frame line s passed least h =
     elim (reach-cases reach (line_remoteness from line)) [
       | inl out ↦ inl out
-      | inr near ↦ h (line_remoteness from line) s (passed.2 (line_spot from line) (spot-within passed.0 from line passed.1) (least (line_spot from line) near))
+      | inr near ↦ h (line_spot from line) s (passed.2 (line_spot from line) (spot-within passed.0 from line passed.1)) (least (line_spot from line) near)
     ]
+
+-- a frame serves on while segments are put into the slots
+pub frame-stays : (from : Position) (cosine : ℕ) (reach : Option ℕ) (old new : List (Option Candidate)) (frame : Extent) → StandsOn old new → IsFrame from cosine reach old frame → IsFrame from cosine reach new frame
+frame-stays from cosine reach old new frame stay h = λ spot s out cos. elim (h spot s out cos) [ inl far ↦ inl far | inr stands ↦ inr (stay (remoteness from spot) s stands) ]
 
 module _ (lines : List SegmentEnds) (w : Weighting WeightDurLen) (heading : Option Heading) (from : Position) where
   -- a segment that was judged stays so
@@ -87,12 +92,17 @@ module _ (lines : List SegmentEnds) (w : Weighting WeightDurLen) (heading : Opti
   judged-near reach slots s h = λ line is drivable. elim (h line is drivable) [ inl out ↦ absurd out | inr stands ↦ inr stands ]
 
   -- more of the order was judged
-  pub judged-more : (reach : Option ℕ) (order : List ℕ) (at next : ℕ) (old new : List (Option Candidate)) → AreJudged lines w heading from reach order 0 at old → StandsOn old new
-      → AreJudged lines w heading from reach order at next new → AreJudged lines w heading from reach order 0 next new
-  judged-more reach order at next old new h stay g = λ i s low high is. elim (cases_lt i at) [
-    | inl lt ↦ judged-stays reach old new s stay (h i s low lt is)
+  pub judged-more : (reach : Option ℕ) (order : List ℕ) (low at next : ℕ) (old new : List (Option Candidate)) → AreJudged lines w heading from reach order low at old → StandsOn old new
+      → AreJudged lines w heading from reach order at next new → AreJudged lines w heading from reach order low next new
+  judged-more reach order low at next old new h stay g = λ i s least high is. elim (cases_lt i at) [
+    | inl lt ↦ judged-stays reach old new s stay (h i s least lt is)
     | inr ge ↦ g i s ge high is
   ]
+
+  -- there is nothing behind the order
+  pub judged-end : (reach : Option ℕ) (order : List ℕ) (low at high : ℕ) (slots : List (Option Candidate)) → min (length order) high ≤ at → AreJudged lines w heading from reach order low at slots
+      → AreJudged lines w heading from reach order low high slots
+  judged-end reach order low at high slots all h = λ i s least most is. let lt = slice_get_within order i s is in h i s least (omega (arith, lt, most, all)) is
 
   -- one number of the order was
   pub judged-one : (reach : Option ℕ) (order : List ℕ) (at segment : ℕ) (slots : List (Option Candidate)) → slice_get order at ≡ Some segment → IsJudged lines w heading from reach slots segment

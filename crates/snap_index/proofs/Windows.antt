@@ -1,4 +1,4 @@
--- How far what lies within an extent is away at least.
+-- How far what lies outside of a frame is away at least.
 use Rattle.std.proofs.Common.{◌≡◌, ℕ, ◌+◌, ◌-◌, ◌*◌, ◌/◌, ◌<◌, ◌≤◌, inl, inr, arith, subst, sym}
 use Rattle.std.specs.Prelude.{ℤ, pos, negsuc, ◌+ℤ◌, ◌-ℤ◌, min, unsigned_abs}
 use Rattle.std.proofs.Math.Nat.{mul-le-mul}
@@ -6,22 +6,42 @@ use Rattle.std.proofs.lemmas.Nat.{div-add-mod', le-div}
 use Rattle.std.proofs.lemmas.Bool.{cases_lt}
 use Rattle.std.proofs.lemmas.Int.{ints}
 use Rattle.std.specs.Int.{int_div_euclid}
-use Rattle.geo_integer.specs.Plane.{cosine_between, cosine_of, middle_latitude, plane_of}
+use Rattle.geo_integer.specs.Plane.{cosine_between, cosine_of, middle_latitude}
 use Rattle.geo_integer.specs.Position.{Position}
 use Rattle.snap_index.specs.Nearest.{remoteness}
 
 le_refl : (n : ℕ) → n ≤ n
 le_refl n = omega arith
 
--- a distance by parts that are no greater
-pub plane-grows : (from spot : Position) (e n c : ℕ) → e ≤ unsigned_abs (spot.lon -ℤ from.lon) → n ≤ unsigned_abs (spot.lat -ℤ from.lat) → c ≤ cosine_between from spot → plane_of (pos e) (pos n) c ≤ remoteness from spot
+scaled : (far k : ℕ) → far / 4294967296 < k → far < 4294967296 * k
+scaled far k h = omega (arith, h)
+
+-- a spot by its latitude alone lies farther away
+pub north-beyond : (from spot : Position) (far root : ℕ) → far / 4294967296 < (root + 1) * (root + 1) → root < unsigned_abs (spot.lat -ℤ from.lat) → far < remoteness from spot
 unfolding remoteness
-plane-grows from spot e n c he hn hc =
-    let east = mul-le-mul he hc in
-    let north = mul-le-mul hn (le_refl 65536) in
-    let easts = mul-le-mul east east in
-    let norths = mul-le-mul north north in
-    omega (arith, easts, norths)
+north-beyond from spot far root h more =
+    let n = unsigned_abs (spot.lat -ℤ from.lat) in
+    let m = unsigned_abs (spot.lon -ℤ from.lon) * cosine_between from spot in
+    let east : 0 ≤ m * m = omega arith in
+    let up : root + 1 ≤ n = omega (arith, more) in
+    let squares = mul-le-mul up up in
+    let wide : n * 65536 * (n * 65536) ≡ 4294967296 * (n * n) = omega arith in
+    let below : far < 4294967296 * ((root + 1) * (root + 1)) = scaled far ((root + 1) * (root + 1)) h in
+    omega (arith, east, squares, wide, below)
+
+-- a spot by its longitude alone does
+pub east-beyond : (from spot : Position) (far root c : ℕ) → far / 4294967296 < (root + 1) * (root + 1) → (root + 1) * 65536 ≤ unsigned_abs (spot.lon -ℤ from.lon) * c → c ≤ cosine_between from spot
+    → far < remoteness from spot
+unfolding remoteness
+east-beyond from spot far root c h more hc =
+    let n = unsigned_abs (spot.lat -ℤ from.lat) * 65536 in
+    let north : 0 ≤ n * n = omega arith in
+    let wide = mul-le-mul (le_refl (unsigned_abs (spot.lon -ℤ from.lon))) hc in
+    let up : (root + 1) * 65536 ≤ unsigned_abs (spot.lon -ℤ from.lon) * cosine_between from spot = omega (arith, more, wide) in
+    let squares = mul-le-mul up up in
+    let one : (root + 1) * 65536 * ((root + 1) * 65536) ≡ 4294967296 * ((root + 1) * (root + 1)) = omega arith in
+    let below : far < 4294967296 * ((root + 1) * (root + 1)) = scaled far ((root + 1) * (root + 1)) h in
+    omega (arith, north, squares, one, below)
 
 -- a greater number of latitude has no greater cosine
 abbrev cosine_at : ℕ → ℕ

@@ -1,5 +1,6 @@
 -- The crate's own: the index of a grid, and what it lets a search pass by.
-use Rattle.std.specs.Prelude.{◌≡◌, ℕ, ◌/◌, ◌^◌, ◌<◌, ◌≤◌, ◌≤ℤ◌, ◌⊎◌, List, Option, Some, None, length}
+use Rattle.std.specs.Prelude.{◌≡◌, ℕ, ◌/◌, ◌^◌, ◌<◌, ◌≤◌, ◌≤ℤ◌, ◌<ℤ◌, ◌⊎◌, List, Option, Some, None, FitsSigned, length}
+use Rattle.std.specs.Int.{w32}
 use Rattle.std.specs.List.{slice_get}
 use Rattle.geo_integer.specs.Plane.{cosine_between}
 use Rattle.geo_integer.specs.Position.{Position, position_of}
@@ -56,13 +57,26 @@ IsFarther (Some far) remote = far < remote
 abbrev pub IsLeastCosine : Position → ℕ → Option ℕ → Type 0
 IsLeastCosine from cosine reach = (spot : Position) → IsInReach reach (remoteness from spot) → cosine ≤ cosine_between from spot
 
--- each spot within an extent lies farther away than so far, if the cosine half-way is no less than this
-abbrev pub IsBeyond : Position → ℕ → Option ℕ → Extent → Type 0
-IsBeyond from cosine far extent = (spot : Position) → IsWithin extent spot → cosine ≤ cosine_between from spot → IsFarther far (remoteness from spot)
+-- both coordinates of a position have 32 bits
+pub record Fits (p : Position) : Type 0 where
+  pub lon : FitsSigned w32 p.lon
+  pub lat : FitsSigned w32 p.lat
 
--- each spot of a line does so
-abbrev pub IsPassed : Position → ℕ → Option ℕ → SegmentEnds → Type 0
-IsPassed from cosine far line = (extent : Extent) × HasLine extent line × IsBeyond from cosine far extent
+-- such a position lies outside of a frame: south, north, west or east of it
+abbrev pub IsOutside : Extent → Position → Type 0
+IsOutside frame p = Fits p × (((p.lat <ℤ frame.south) ⊎ (frame.north <ℤ p.lat)) ⊎ ((p.lon <ℤ frame.west) ⊎ (frame.east <ℤ p.lon)))
+
+-- each spot outside of a frame lies farther away than so far, if the cosine half-way is no less than this
+abbrev pub IsFrameOf : Position → ℕ → Option ℕ → Extent → Type 0
+IsFrameOf from cosine far frame = (spot : Position) → IsOutside frame spot → cosine ≤ cosine_between from spot → IsFarther far (remoteness from spot)
+
+-- each such spot lies out of reach, or stands behind all slots
+abbrev pub IsFrame : Position → ℕ → Option ℕ → List (Option Candidate) → Extent → Type 0
+IsFrame from cosine reach slots frame = (spot : Position) (s : ℕ) → IsOutside frame spot → cosine ≤ cosine_between from spot → IsFarther reach (remoteness from spot) ⊎ Stands (remoteness from spot) s slots
+
+-- a line lies within an extent that is outside of a frame
+abbrev pub IsPassed : Extent → SegmentEnds → Type 0
+IsPassed frame line = (extent : Extent) × HasLine extent line × ((p : Position) → IsWithin extent p → IsOutside frame p)
 
 -- segment s isn't open, or lies out of reach, or stands in the slots
 abbrev pub IsJudged : List SegmentEnds → Weighting WeightDurLen → Option Heading → Position → Option ℕ → List (Option Candidate) → ℕ → Type 0

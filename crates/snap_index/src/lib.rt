@@ -11,6 +11,7 @@
 mod candidates;
 mod extents;
 mod filters;
+mod frames;
 mod grids;
 mod indexes;
 mod keeping;

@@ -8,12 +8,13 @@ ghost use Rattle.std.specs.Prelude.{◌≡◌, ℕ, ◌+◌, ◌*◌, ◌/◌, �
 ghost use Rattle.std.specs.List.{slice_get};
 ghost use Rattle.geo_integer.specs.Position.{position_of};
 ghost use Rattle.snap_index.specs.Candidates.{AreSlots, Ascend, LastIs, Stands, StandsOn};
-ghost use Rattle.snap_index.specs.Index.{AreJudged, HasAt, IsFarther, IsIndexOf, IsJudged, IsLeastCosine, IsPassed};
+ghost use Rattle.snap_index.specs.Index.{AreJudged, HasAt, IsFarther, IsFrame, IsIndexOf, IsJudged, IsLeastCosine, IsPassed};
 ghost use Rattle.snap_index.specs.declared.grids.SegmentEnds.{SegmentEnds};
 
 use crate::candidates::{Candidate, candidate_on, put};
-use crate::extents::{Extent, extent_of, is_beyond};
+use crate::extents::{Extent, extent_of};
 use crate::filters::Heading;
+use crate::frames::{frame_of, is_outside};
 use crate::grids::{Grid, SegmentEnds};
 use crate::indexes::Index;
 use crate::keeping::has_direction;
@@ -172,38 +173,81 @@ fn look(query: &SnapQuery, window: Window, slots: &mut [Option<Candidate>])
     ensures judged { (s : ℕ) → IsJudged query.now.lines.now query.now.base.now.weights query.now.heading (position_of query.now.from) window.reach slots.new s }
 {
     let index = query.index;
+    let mut frame = frame_over(query.from, window, slots);
     let mut at = 0;
     while at < index.order.len() {
-        at = look_at(query, window, at, slots);
+        let passed = passed_by(index, frame, at);
+        if passed > 0 {
+            at += passed;
+        } else {
+            frame = look_through(query, window, frame, at, slots);
+            at += 16;
+        }
     }
 }
 
-// Looks at the segment at a number of the order, or passes by it and some behind it, and gives the next number.
-fn look_at(query: &SnapQuery, window: Window, at: usize, slots: &mut [Option<Candidate>]) -> usize
+// Looks at the segments of 16 numbers of the order, and gives the frame that is left.
+fn look_through(
+    query: &SnapQuery,
+    window: Window,
+    frame: Extent,
+    first: usize,
+    slots: &mut [Option<Candidate>],
+) -> Extent
+    requires index { IsIndexOf query.now.lines.now query.now.index.now }
+    requires first { first < length query.now.index.now.order.items }
+    requires weights { 2 * length query.now.lines.now ≤ length query.now.base.now.weights.vertex }
+    requires cosine { IsLeastCosine (position_of query.now.from) window.cosine window.reach }
+    requires slots { AreSlots query.now.lines.now query.now.base.now.weights query.now.heading (position_of query.now.from) slots.old }
+    requires frame { IsFrame (position_of query.now.from) window.cosine window.reach slots.old frame }
+    ensures slots { AreSlots query.now.lines.now query.now.base.now.weights query.now.heading (position_of query.now.from) slots.new }
+    ensures stay { StandsOn slots.old slots.new }
+    ensures frame { IsFrame (position_of query.now.from) window.cosine window.reach slots.new result }
+    ensures judged { AreJudged query.now.lines.now query.now.base.now.weights query.now.heading (position_of query.now.from) window.reach query.now.index.now.order.items first (first + 16) slots.new }
+{
+    let index = query.index;
+    let end = index.order.len().min(first + 16);
+    let mut left = frame;
+    let mut at = first;
+    while at < end {
+        left = look_at(query, window, left, at, slots);
+        at += 1;
+    }
+    left
+}
+
+// Looks at the segment at a number of the order, or passes by it, and gives the frame that is left.
+fn look_at(
+    query: &SnapQuery,
+    window: Window,
+    frame: Extent,
+    at: usize,
+    slots: &mut [Option<Candidate>],
+) -> Extent
     requires index { IsIndexOf query.now.lines.now query.now.index.now }
     requires at { at < length query.now.index.now.order.items }
     requires weights { 2 * length query.now.lines.now ≤ length query.now.base.now.weights.vertex }
     requires cosine { IsLeastCosine (position_of query.now.from) window.cosine window.reach }
     requires slots { AreSlots query.now.lines.now query.now.base.now.weights query.now.heading (position_of query.now.from) slots.old }
-    ensures later { at < result }
+    requires frame { IsFrame (position_of query.now.from) window.cosine window.reach slots.old frame }
     ensures slots { AreSlots query.now.lines.now query.now.base.now.weights query.now.heading (position_of query.now.from) slots.new }
     ensures stay { StandsOn slots.old slots.new }
-    ensures judged { AreJudged query.now.lines.now query.now.base.now.weights query.now.heading (position_of query.now.from) window.reach query.now.index.now.order.items at result slots.new }
+    ensures frame { IsFrame (position_of query.now.from) window.cosine window.reach slots.new result }
+    ensures judged { AreJudged query.now.lines.now query.now.base.now.weights query.now.heading (position_of query.now.from) window.reach query.now.index.now.order.items at (at + 1) slots.new }
 {
     let lines = query.lines;
     let index = query.index;
-    let far = farthest(window.reach, slots);
-    let passed = passed_by(index, query.from, window.cosine, far, at);
-    if passed > 0 {
-        return at + passed;
-    }
     let segment = index.order[at];
     let line = lines[segment as usize];
-    if is_beyond(query.from, window.cosine, far, extent_of(line)) {
-        return at + 1;
+    if is_outside(frame, extent_of(line)) {
+        return frame;
     }
+    let last = last_remoteness(slots);
     consider(query, segment, slots);
-    at + 1
+    if last_remoteness(slots) == last {
+        return frame;
+    }
+    frame_over(query.from, window, slots)
 }
 
 // Puts a segment into its slot, if it has an open direction of the heading.
@@ -236,40 +280,41 @@ fn farthest(reach: Option<u128>, slots: &[Option<Candidate>]) -> Option<u128>
     }
 }
 
-// How many numbers of the order can be passed by from one on, since all lines there lie beyond.
-fn passed_by(index: &Index, from: Point, cosine: u32, far: Option<u128>, at: usize) -> usize
+// The frame outside of which nothing can come into the slots.
+fn frame_over(from: Point, window: Window, slots: &[Option<Candidate>]) -> Extent
+    requires { Ascend slots.now }
+    ensures { IsFrame (position_of from) window.cosine window.reach slots.now result }
+{
+    frame_of(from, window.cosine, farthest(window.reach, slots))
+}
+
+// How many numbers of the order can be passed by from one on, since all lines there lie outside of a frame.
+fn passed_by(index: &Index, frame: Extent, at: usize) -> usize
     requires { at < 2 ^ 63 }
     ensures passed { (lines : List SegmentEnds) (i s : ℕ) (line : SegmentEnds) → IsIndexOf lines index.now → at ≤ i → i < at + result
-        → slice_get index.now.order.items i ≡ Some s → slice_get lines s ≡ Some line → IsPassed (position_of from) cosine far line }
+        → slice_get index.now.order.items i ≡ Some s → slice_get lines s ≡ Some line → IsPassed frame line }
     ensures bound { result ≤ 4096 }
 {
-    if is_passed(&index.groups, at, 4096, from, cosine, far) {
+    if is_passed(&index.groups, frame, at, 4096) {
         return 4096;
     }
-    if is_passed(&index.blocks, at, 256, from, cosine, far) {
+    if is_passed(&index.blocks, frame, at, 256) {
         return 256;
     }
-    if is_passed(&index.leaves, at, 16, from, cosine, far) {
+    if is_passed(&index.leaves, frame, at, 16) {
         return 16;
     }
     0
 }
 
-// Whether this is the first of so many numbers that have one of these extents, and it lies beyond.
-fn is_passed(
-    extents: &[Extent],
-    at: usize,
-    size: usize,
-    from: Point,
-    cosine: u32,
-    far: Option<u128>,
-) -> bool
+// Whether this is the first of so many numbers that have one of these extents, and it lies outside of a frame.
+fn is_passed(extents: &[Extent], frame: Extent, at: usize, size: usize) -> bool
     requires { 0 < size }
-    ensures { IsTrue result → (i : ℕ) (line : SegmentEnds) → at ≤ i → i < at + size → HasAt extents.now (i / size) line → IsPassed (position_of from) cosine far line }
+    ensures { IsTrue result → (i : ℕ) (line : SegmentEnds) → at ≤ i → i < at + size → HasAt extents.now (i / size) line → IsPassed frame line }
 {
     if at % size != 0 || at / size >= extents.len() {
         return false;
     }
     let extent = extents[at / size];
-    is_beyond(from, cosine, far, extent)
+    is_outside(frame, extent)
 }
