@@ -15,7 +15,7 @@ use Rattle.list_lemmas.proofs.Between.{between-add, between-part}
 use Rattle.search_graph.specs.declared.costs.WeightDurLen.{WeightDurLen}
 use Rattle.search_graph.specs.Digraph.{Weighting}
 use Rattle.snap_index.specs.Candidates.{Ascend, IsCandidate, IsOnLine, IsOpenLine, LastIs, Stands, StandsOn, line_remoteness}
-use Rattle.snap_index.specs.Index.{AreJudged, HasLine, IsFarther, IsFrame, IsJudged, IsLeastCosine, IsOrder, IsPassed, IsWithin}
+use Rattle.snap_index.specs.Index.{AreJudged, HasLine, IsBeyond, IsFarther, IsFrame, IsJudged, IsLeastCosine, IsOrder, IsPassed, IsWithin}
 use Rattle.snap_index.specs.Kept.{IsInReach}
 use Rattle.snap_index.specs.Nearest.{remoteness}
 use Rattle.snap_index.specs.declared.candidates.Candidate.{Candidate}
@@ -76,6 +76,16 @@ passed-judged from cosine reach slots frame line s passed least h =
     elim (reach-cases reach (line_remoteness from line)) [
       | inl out ↦ inl out
       | inr near ↦ h (line_spot from line) s (passed.2 (line_spot from line) (spot-within passed.0 from line passed.1)) (least (line_spot from line) near)
+    ]
+
+-- a line all of which lies beyond does so too
+pub beyond-judged : (from : Position) (cosine : ℕ) (reach far : Option ℕ) (slots : List (Option Candidate)) (extent : Extent) (line : SegmentEnds) (s : ℕ)
+    → HasLine extent line → IsBeyond from cosine far extent → IsLeastCosine from cosine reach → ((remote t : ℕ) → IsFarther far remote → IsFarther reach remote ⊎ Stands remote t slots)
+    → IsFarther reach (line_remoteness from line) ⊎ Stands (line_remoteness from line) s slots
+beyond-judged from cosine reach far slots extent line s has beyond least h =
+    elim (reach-cases reach (line_remoteness from line)) [
+      | inl out ↦ inl out
+      | inr near ↦ h (line_remoteness from line) s (beyond (line_spot from line) (spot-within extent from line has) (least (line_spot from line) near))
     ]
 
 -- a frame serves on while segments are put into the slots

@@ -1,4 +1,4 @@
--- How far what lies outside of a frame is away at least.
+-- How far what lies within an extent, or outside of a frame, is away at least.
 use Rattle.std.proofs.Common.{◌≡◌, ℕ, ◌+◌, ◌-◌, ◌*◌, ◌/◌, ◌<◌, ◌≤◌, inl, inr, arith, subst, sym}
 use Rattle.std.specs.Prelude.{ℤ, pos, negsuc, ◌+ℤ◌, ◌-ℤ◌, min, unsigned_abs}
 use Rattle.std.proofs.Math.Nat.{mul-le-mul}
@@ -6,12 +6,22 @@ use Rattle.std.proofs.lemmas.Nat.{div-add-mod', le-div}
 use Rattle.std.proofs.lemmas.Bool.{cases_lt}
 use Rattle.std.proofs.lemmas.Int.{ints}
 use Rattle.std.specs.Int.{int_div_euclid}
-use Rattle.geo_integer.specs.Plane.{cosine_between, cosine_of, middle_latitude}
+use Rattle.geo_integer.specs.Plane.{cosine_between, cosine_of, middle_latitude, plane_of}
 use Rattle.geo_integer.specs.Position.{Position}
 use Rattle.snap_index.specs.Nearest.{remoteness}
 
 le_refl : (n : ℕ) → n ≤ n
 le_refl n = omega arith
+
+-- a distance by parts that are no greater
+pub plane-grows : (from spot : Position) (e n c : ℕ) → e ≤ unsigned_abs (spot.lon -ℤ from.lon) → n ≤ unsigned_abs (spot.lat -ℤ from.lat) → c ≤ cosine_between from spot → plane_of (pos e) (pos n) c ≤ remoteness from spot
+unfolding remoteness
+plane-grows from spot e n c he hn hc =
+    let east = mul-le-mul he hc in
+    let north = mul-le-mul hn (le_refl 65536) in
+    let easts = mul-le-mul east east in
+    let norths = mul-le-mul north north in
+    omega (arith, easts, norths)
 
 scaled : (far k : ℕ) → far / 4294967296 < k → far < 4294967296 * k
 scaled far k h = omega (arith, h)

@@ -57,6 +57,10 @@ IsFarther (Some far) remote = far < remote
 abbrev pub IsLeastCosine : Position → ℕ → Option ℕ → Type 0
 IsLeastCosine from cosine reach = (spot : Position) → IsInReach reach (remoteness from spot) → cosine ≤ cosine_between from spot
 
+-- each spot within an extent lies farther away than so far, if the cosine half-way is no less than this
+abbrev pub IsBeyond : Position → ℕ → Option ℕ → Extent → Type 0
+IsBeyond from cosine far extent = (spot : Position) → IsWithin extent spot → cosine ≤ cosine_between from spot → IsFarther far (remoteness from spot)
+
 -- both coordinates of a position have 32 bits
 pub record Fits (p : Position) : Type 0 where
   pub lon : FitsSigned w32 p.lon

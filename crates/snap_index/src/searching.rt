@@ -12,7 +12,7 @@ ghost use Rattle.snap_index.specs.Index.{AreJudged, HasAt, IsFarther, IsFrame, I
 ghost use Rattle.snap_index.specs.declared.grids.SegmentEnds.{SegmentEnds};
 
 use crate::candidates::{Candidate, candidate_on, put};
-use crate::extents::{Extent, extent_of};
+use crate::extents::{Extent, extent_of, is_beyond};
 use crate::filters::Heading;
 use crate::frames::{frame_of, is_outside};
 use crate::grids::{Grid, SegmentEnds};
@@ -239,7 +239,12 @@ fn look_at(
     let index = query.index;
     let segment = index.order[at];
     let line = lines[segment as usize];
-    if is_outside(frame, extent_of(line)) {
+    let extent = extent_of(line);
+    if is_outside(frame, extent) {
+        return frame;
+    }
+    let far = farthest(window.reach, slots);
+    if is_beyond(query.from, window.cosine, far, extent) {
         return frame;
     }
     let last = last_remoteness(slots);
