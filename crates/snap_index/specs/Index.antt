@@ -61,6 +61,10 @@ IsLeastCosine from cosine reach = (spot : Position) → IsInReach reach (remoten
 abbrev pub IsBeyond : Position → ℕ → Option ℕ → Extent → Type 0
 IsBeyond from cosine far extent = (spot : Position) → IsWithin extent spot → cosine ≤ cosine_between from spot → IsFarther far (remoteness from spot)
 
+-- a line lies within an extent that does so
+abbrev pub IsLineBeyond : Position → ℕ → Option ℕ → SegmentEnds → Type 0
+IsLineBeyond from cosine far line = (extent : Extent) × HasLine extent line × IsBeyond from cosine far extent
+
 -- both coordinates of a position have 32 bits
 pub record Fits (p : Position) : Type 0 where
   pub lon : FitsSigned w32 p.lon

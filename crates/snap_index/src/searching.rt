@@ -8,7 +8,7 @@ ghost use Rattle.std.specs.Prelude.{◌≡◌, ℕ, ◌+◌, ◌*◌, ◌/◌, �
 ghost use Rattle.std.specs.List.{slice_get};
 ghost use Rattle.geo_integer.specs.Position.{position_of};
 ghost use Rattle.snap_index.specs.Candidates.{AreSlots, Ascend, LastIs, Stands, StandsOn};
-ghost use Rattle.snap_index.specs.Index.{AreJudged, HasAt, IsFarther, IsFrame, IsIndexOf, IsJudged, IsLeastCosine, IsPassed};
+ghost use Rattle.snap_index.specs.Index.{AreJudged, HasAt, IsFarther, IsFrame, IsIndexOf, IsJudged, IsLeastCosine, IsLineBeyond, IsPassed};
 ghost use Rattle.snap_index.specs.declared.grids.SegmentEnds.{SegmentEnds};
 
 use crate::candidates::{Candidate, candidate_on, put};
@@ -206,6 +206,10 @@ fn look_through(
     ensures judged { AreJudged query.now.lines.now query.now.base.now.weights query.now.heading (position_of query.now.from) window.reach query.now.index.now.order.items first (first + 16) slots.new }
 {
     let index = query.index;
+    let far = farthest(window.reach, slots);
+    if is_leaf_beyond(&index.leaves, query.from, window.cosine, far, first) {
+        return frame;
+    }
     let end = index.order.len().min(first + 16);
     let mut left = frame;
     let mut at = first;
@@ -322,4 +326,15 @@ fn is_passed(extents: &[Extent], frame: Extent, at: usize, size: usize) -> bool
     }
     let extent = extents[at / size];
     is_outside(frame, extent)
+}
+
+// Whether this is the first of 16 numbers that have one of these extents, and it lies beyond.
+fn is_leaf_beyond(leaves: &[Extent], from: Point, cosine: u32, far: Option<u128>, at: usize) -> bool
+    ensures { IsTrue result → (i : ℕ) (line : SegmentEnds) → at ≤ i → i < at + 16 → HasAt leaves.now (i / 16) line → IsLineBeyond (position_of from) cosine far line }
+{
+    if at % 16 != 0 || at / 16 >= leaves.len() {
+        return false;
+    }
+    let extent = leaves[at / 16];
+    is_beyond(from, cosine, far, extent)
 }

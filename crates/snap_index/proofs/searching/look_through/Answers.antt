@@ -1,8 +1,14 @@
 use Rattle.std.proofs.Common.{◌+◌, ◌≤◌, arith, length}
 use Rattle.std.specs.Prelude.{min}
 use Rattle.geo_integer.specs.Position.{position_of}
-use Rattle.snap_index.proofs.JudgeLemmas.{judged-end, judged-more}
+use Rattle.snap_index.proofs.JudgeLemmas.{beyond-judged, judged-end, judged-more}
 use Rattle.snap_index.proofs.searching.look_through.Goals as goal
+
+-- the leaf lies beyond
+pub returns-then-is_leaf_beyond-clause-judged : goal.returns-then-is_leaf_beyond-clause-judged
+returns-then-is_leaf_beyond-clause-judged c = λ i s low high at line is drivable.
+    let beyond = c.is_leaf_beyond.ensures c.if-is_leaf_beyond.true i line low high (rw c.deref.ensures.value (c.requires.index.leaves i s line at is)) in
+    beyond-judged (position_of c.args.query.now.from) c.args.window.cosine c.args.window.reach c.farthest-far.result c.args.slots.now beyond.0 line s beyond.1 beyond.2 c.requires.cosine c.farthest-far.ensures
 
 -- nothing was looked at
 pub loop-at-init : goal.loop-at-init
