@@ -1,5 +1,6 @@
 pub mod EndLemmas
 pub mod Farther
+pub mod Fitting
 pub mod FoundLemmas
 pub mod IndexLemmas
 pub mod JudgeLemmas
