@@ -1,0 +1,16 @@
+//! Work that is made of many items, in threads that each take the next item that no thread has taken yet.
+//!
+//! How long an item takes isn't known beforehand, a thread may start late, and a processor may be slower than another. So no
+//! thread is given its items in advance: each takes one when it is done with the one before (self-scheduling: P. Tang and
+//! P.-C. Yew, Processor Self-Scheduling for Multiple-Nested Parallel Loops, 1986), and they end together but for one item.
+//! The calling thread is one of them, and starts the others one after another.
+//!
+//! A [`Job`] says what its items are and makes one of them; [`items_in_threads`] makes all.
+#![tactic(auto)]
+
+mod job;
+mod numbered;
+mod threads;
+
+pub use job::Job;
+pub use threads::items_in_threads;
