@@ -8,7 +8,7 @@ use std::marker::Sync;
 /// Work of so many items, each of which can be made without the others.
 pub trait Job: Sync {
     /// What a thread uses again from one of its items to the next.
-    type Memory: Drop;
+    type Memory: Send + Drop;
 
     /// What is made.
     type Item: Send + Drop;

@@ -38,8 +38,8 @@ fn share<J: Job>(
 // The items that so many threads make, of which this is the last. Where a thread can't be started, its share falls to the others,
 // and what is left of it to this one.
 #[cycle(fewer)]
-fn shares<J: Job>(
-    rt: &(impl Threads + Sync),
+fn shares<R: Threads + Sync, J: Job>(
+    rt: &R,
     alloc: Global,
     job: &J,
     next: &AtomicU64,
@@ -52,11 +52,11 @@ fn shares<J: Job>(
         return share(alloc, job, next);
     }
     let another = move || -> Result<Vec<Numbered<J::Item>>, AllocError>
-        requires { J.ready job.now }
+        requires { IsSync J.row × J.ready job.now }
         ensures { IfOk result (λ made. AreNumbered (J.count job.entry.now) (J.is_item job.entry.now) made.items) }
     { share(alloc, job, next) };
     let others = move || -> Result<Vec<Numbered<J::Item>>, AllocError>
-        requires { J.ready job.now × (1 < threads) }
+        requires { IsSync R.row × IsSync J.row × J.ready job.now × (1 < threads) }
         ensures { IfOk result (λ made. AreNumbered (J.count job.entry.now) (J.is_item job.entry.now) made.items) }
     { shares(rt, alloc, job, next, threads - 1) };
     let (one, rest) = join(rt, another, others);
