@@ -62,6 +62,9 @@ try traffic_rows.py 'traffic files for a map' '' town.opl 10 10
 cells=${OVERLAYS:-rustc}
 try customization.py 'customization whole and of touched cells beside a baseline of overlays' "$cells" \
     --processors 1,2 --repeats 1 --rows 10 "$car" town.opl
+try starts.py 'the whole start beside a baseline of overlays' "$cells" --repeats 1 "$car" town.opl
+try processors.py 'tables and customization on one processor and on several' '' \
+    --processors 2 --places 10 --repeats 1 "$car" town.opl
 try queries.py 'routes and tables beside a baseline of overlays' "$cells" --pairs 20 --repeats 1 "$car" town.opl
 try trips.py 'trips beside the table and the route of each' '' --trips 5 --repeats 1 "$car" town.opl
 try through.py 'one walk through all places beside each leg by itself' '' \

@@ -8,7 +8,8 @@ metric before. So a file with a row for each segment of the map, both ways, and 
 time, and one whose rows have a rate each does so with costs whose weight is neither their duration nor their length; a
 file of a thousand drawn rows and then none only those that the rows touch. Both take the reading of rows and
 the making of the costs in. The same file once more changes nothing, so it takes that alone; what it took less is told
-too, as the customization by itself.
+too, as the customization by itself. And the same file with a faulty row behind it is read to its end and refused: what the
+file takes beyond that is told as the publication without its reading.
 
 The program makes a thread for each processor that it may run on, so it is held to as many as are named. Told are, for
 each kind of line, the processor seconds of all threads and the time by the clock, the least of the repeats, and the
@@ -55,6 +56,13 @@ def write_rows(name, pairs, rate=""):
     return name
 
 
+def refused_of(name):
+    """The same rows with a faulty one behind them."""
+    with open(name, encoding="ascii") as rows, open(f"{name}.refused", "w", encoding="ascii") as file:
+        file.write(rows.read() + "0,0,fast\n")
+    return file.name
+
+
 def taken(session, line):
     """What a line takes, of all processors and by the clock; its reply, and the memory."""
     began = time.monotonic()
@@ -70,15 +78,18 @@ def measure(program, opl, settings, processors, repeats, files):
     print(f"  {processors} processors: start {start:.3f} s of processors, {by_clock:.3f} s by the clock, "
           f"peak {peak:.1f} MB")
     for kind, line in [("no change", "TRAFFIC - -"), *((kind, f"TRAFFIC {name} -") for kind, name in files)]:
-        told, again = [], []
+        told, again, refused = [], [], []
+        unread = f"TRAFFIC {refused_of(line.split()[1])} -" if kind != "no change" else "TRAFFIC"
         for _ in range(repeats):
             session.line("TRAFFIC - -")
             told.append(taken(session, line))
             again.append(taken(session, line))
-        least, less = ([min(it[which] for it in turns) for which in (0, 1)] for turns in (told, again))
+            refused.append(taken(session, unread))
+        least, less, read = ([min(it[which] for it in turns) for which in (0, 1)] for turns in (told, again, refused))
         held = ", ".join("%.1f %.1f %.1f" % it[2] for it in told[:2])
         print(f"    {kind}: {least[0]:.4f} s of processors, {least[1]:.4f} s by the clock; customization by itself "
-              f"{least[0] - less[0]:.4f} s, {least[1] - less[1]:.4f} s; held before, at the peak, after: {held} MB; {told[0][3][-40:]}")
+              f"{least[0] - less[0]:.4f} s, {least[1] - less[1]:.4f} s; publication without its reading "
+              f"{least[0] - read[0]:.4f} s, {least[1] - read[1]:.4f} s; held before, at the peak, after: {held} MB; {told[0][3][-40:]}")
     session.end()
 
 

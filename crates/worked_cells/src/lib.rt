@@ -11,6 +11,8 @@ mod cliques;
 #[cfg(test)]
 mod columns;
 #[cfg(test)]
+mod jobs;
+#[cfg(test)]
 mod partitions;
 #[cfg(test)]
 mod queries;
