@@ -1,16 +1,14 @@
 -- What halving keeps: the spots, and that no part is empty.
-use Rattle.std.proofs.Common.{◌≡◌, ℕ, ◌+◌, ◌-◌, ◌/◌, ◌<◌, ◌≤◌, List, [], ◌∷◌, ◌++◌, length, take, drop, get_or, All, zero-add, refl, sym, ap, ◌∙◌, subst, arith, length-append, ⊎_elim}
+use Rattle.std.proofs.Common.{◌≡◌, ℕ, ◌+◌, ◌-◌, ◌/◌, ◌<◌, ◌≤◌, List, [], ◌∷◌, ◌++◌, length, take, drop, All, refl, sym, ap, ◌∙◌, subst, arith, length-append, ⊎_elim}
 use Rattle.std.proofs.lemmas.Bool.{cases_lt}
-use Rattle.std.proofs.lemmas.List.{append-nil, append_assoc, length-take-le, length-drop, take_at, drop_at, take_all, drop_all, take-append-drop, take_more, drop_more}
-use borrow.Rule.Slice.PartMut.{put_mid}
+use Rattle.std.proofs.lemmas.List.{append-nil, append_assoc, length-drop, take_all}
 use Rattle.std.proofs.lemmas.List.Elements.{All-append, All-cons, All-nil, All-head, All-tail}
-use Rattle.std.specs.List.Sorted.{IsPermutation, IsSortedBy}
+use Rattle.std.specs.List.Sorted.{IsPermutation}
 use Rattle.std.proofs.lemmas.List.Sorted.{IsPermutation-refl, IsPermutation-trans, IsPermutation-append, length_permutation}
 use Rattle.cell_partition.specs.declared.spot.Spot.{Spot}
-use Rattle.cell_partition.specs.Spots.{comes_before, wider_axis}
-use Rattle.cell_partition.specs.Bounds.{joined, ends, bounds_of, cell_at}
+use Rattle.cell_partition.specs.Bounds.{joined}
 use Rattle.cell_partition.specs.Halving.{AreHalves, IsHalved, small, large, AreHalved, parts_above, AreLevels}
-use Rattle.cell_partition.proofs.Bounds.{joined-append, ends-append, length-le-joined, between_bounds}
+use Rattle.cell_partition.proofs.Bounds.{joined-append, length-le-joined}
 
 abbrev pub IsFull : List Spot → Type 0
 IsFull part = 0 < length part

@@ -6,3 +6,4 @@ pub mod Nested
 pub mod Orders
 pub mod Widths
 pub mod InOrder
+pub mod Ranks

@@ -1,11 +1,16 @@
 -- A part as halving keeps it, in order along both axes. This serves the crate's own functions alone.
-use Rattle.std.specs.Prelude.{ℕ, ◌≤◌, List, map, nat_eq}
+use Rattle.std.specs.Prelude.{ℕ, ◌+◌, ◌*◌, ◌≤◌, ℤ, pos, ◌+ℤ◌, List, map, nat_eq}
+use Rattle.std.specs.Int.RustNames.{unsigned_abs}
 use Rattle.std.specs.List.{count_by}
 use Rattle.std.specs.List.Sorted.{IsPermutation, IsSortedBy}
 use Rattle.cell_partition.specs.declared.spot.Spot.{Spot}
 use Rattle.cell_partition.specs.declared.spot.Axis.{Axis}
 use Rattle.cell_partition.specs.declared.spot.Axis.TheVariants.{Longitude, Latitude}
 use Rattle.cell_partition.specs.Spots.{comes_before}
+
+-- one number for a coordinate and a vertex: it goes up with the coordinate, and at one coordinate with the vertex
+abbrev pub rank : ℤ → ℕ → ℕ
+rank coordinate vertex = unsigned_abs (coordinate +ℤ pos 2147483648) * 4294967296 + vertex
 
 abbrev pub other_axis : Axis → Axis
 other_axis Longitude = Latitude

@@ -36,8 +36,9 @@ fn sort(spots: &mut [Spot], axis: Axis)
     ensures same { IsPermutation spots.old spots.new }
     ensures in_order { IsSortedBy (comes_before axis) spots.new }
 {
+    // Each sort knows its axis, so that no comparison asks for it.
     match axis {
-        Axis::Longitude => spots.sort_unstable_by_key(|spot| (spot.longitude, spot.vertex)),
-        Axis::Latitude => spots.sort_unstable_by_key(|spot| (spot.latitude, spot.vertex)),
+        Axis::Longitude => spots.sort_unstable_by(|one, other| one.compare(other, Axis::Longitude)),
+        Axis::Latitude => spots.sort_unstable_by(|one, other| one.compare(other, Axis::Latitude)),
     }
 }
