@@ -33,9 +33,13 @@ pub record AreMade {C : Type 0} (ops : CostOps C) (f : Framed) (w : Weighting C)
 abbrev pub behind : {C : Type 0} → Rows C → Rows C → Rows C
 behind rows more = record { first = rows.first ++ map (λ first. length rows.values + first) more.first; values = rows.values ++ more.values }
 
--- where piece p of 16 begins, of a level with so many cells
+-- into how many pieces a level is cut
+abbrev pub piece_count : ℕ
+piece_count = 64
+
+-- where piece p begins, of a level with so many cells
 abbrev pub cut_at : ℕ → ℕ → ℕ
-cut_at count p = p * count / 16
+cut_at count p = p * count / piece_count
 
 -- the cliques of the cells of piece p of a level
 abbrev pub IsPiece : {C : Type 0} → CostOps C → Framed → Weighting C → ℕ → ℕ → Rows C → Type 0
@@ -43,7 +47,7 @@ IsPiece ops f w level p rows = AreMade ops f w level (cut_at (length (level_at f
 
 -- the pieces of a level, in their order
 pub record ArePieces {C : Type 0} (ops : CostOps C) (f : Framed) (w : Weighting C) (level : ℕ) (made : List (Rows C)) : Type 0 where
-  pub size : length made ≡ 16
+  pub size : length made ≡ piece_count
   pub each : (p : ℕ) (rows : Rows C) → slice_get made p ≡ Some rows → IsPiece ops f w level p rows
 
 -- each row of the level has the least costs inside its cell

@@ -23,4 +23,4 @@ pub use customizing::customize;
 pub use pieces::Piece;
 pub use rows::clique;
 pub use scratch::Scratch;
-pub use side_by_side::{PIECES, customize_in_threads, cut, least_share, level_of};
+pub use side_by_side::{PIECES, customize_in_threads, cut, level_of};

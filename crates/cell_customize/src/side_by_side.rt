@@ -4,35 +4,24 @@ ghost use Rattle.std.specs.Prelude.{◌≡◌, ◌-◌, ◌<◌, ◌≤◌, leng
 ghost use Rattle.cell_partition.specs.Partition.{level_at};
 ghost use Rattle.cell_frame.specs.Cliqued.{AreExact};
 ghost use Rattle.search_graph.specs.Weighted.{AreSmall};
-ghost use Rattle.cell_customize.specs.Levels.{ArePieces, IsExactLevel, IsPiece, cut_at};
+ghost use Rattle.cell_customize.specs.Levels.{ArePieces, IsExactLevel, IsPiece, cut_at, piece_count};
 ghost use Rattle.cell_customize.specs.Ready.{IsReady};
 
 use crate::pieces::{Piece, cliques_of};
 use crate::scratch::Scratch;
 use cell_frame::{Cliques, Frame, LevelCliques};
-use rayon::current_num_threads;
-use rayon::prelude::*;
 use search_graph::{Cost, Weights};
+use self_scheduling::{Job, items_in_threads};
 use std::alloc::{AllocError, Global};
 use std::thread::Threads;
 
 /// How many pieces the cells of a level are cut into.
-pub const PIECES: u32 = 16;
-
-/// How few pieces a thread takes, one behind another with one scratch: all of a level where there is one processor, and else
-/// as few as come to two threads a processor, since some pieces take longer than others.
-// A scratch has a table by vertex, so each more costs time and memory.
-pub fn least_share(rt: &impl Threads) -> usize {
-    if current_num_threads(rt) == 1 {
-        PIECES as usize
-    } else {
-        1
-    }
-}
+// Many more than processors, since pieces take unlike time and each is taken by itself.
+pub const PIECES: u32 = 64;
 
 /// At which cell a piece of a level begins, of as many cells.
 pub fn cut(count: u32, place: u32) -> u32
-    requires { place ≤ 16 }
+    requires { place ≤ piece_count }
     ensures { result ≡ cut_at count place }
 {
     (u64::from(place) * u64::from(count) / u64::from(PIECES)) as u32
@@ -49,13 +38,60 @@ fn piece<C: Cost>(
     scratch: &mut Scratch<C>,
 ) -> Result<Piece<C>, AllocError>
     requires ready { IsReady C.ops frame.now weights.now cliques.now level }
-    requires place { place < 16 }
+    requires place { place < piece_count }
     ensures { IfOk result (IsPiece C.ops frame.now weights.now level place) }
 {
     let count = frame.count(level);
     let from = cut(count, place);
     let to = cut(count, place + 1);
     cliques_of(alloc, frame, weights, cliques, level, from, to, scratch)
+}
+
+// The pieces of a level, of which each thread takes one after another, with one scratch for all that it takes.
+#[derive(Drop)]
+struct LevelPieces<'a, C: Cost> {
+    frame: &'a Frame,
+    weights: &'a Weights<C>,
+    cliques: &'a Cliques<C>,
+    level: u32,
+}
+
+impl<'a, C: Cost + Send + Sync> Job for LevelPieces<'a, C> {
+    type Memory = Scratch<C>;
+
+    type Item = Piece<C>;
+
+    ghost ready = { λ l. IsReady C.ops l.frame.now l.weights.now l.cliques.now l.level };
+
+    ghost count = { λ _. piece_count };
+
+    ghost is_item = { λ l place rows. IsPiece C.ops l.frame.now l.weights.now l.level place rows };
+
+    fn count(&self) -> usize {
+        PIECES as usize
+    }
+
+    fn memory(&self, alloc: Global) -> Scratch<C> {
+        Scratch::new(alloc)
+    }
+
+    fn item(
+        &self,
+        alloc: Global,
+        memory: &mut Scratch<C>,
+        number: usize,
+    ) -> Result<Piece<C>, AllocError> {
+        let place = number as u32;
+        piece(
+            alloc,
+            self.frame,
+            self.weights,
+            self.cliques,
+            self.level,
+            place,
+            memory,
+        )
+    }
 }
 
 // The pieces of a level, in order.
@@ -70,18 +106,13 @@ fn pieces<C: Cost + Send + Sync>(
     requires ready { IsReady C.ops frame.now weights.now cliques.now level }
     ensures { IfOk result (λ made. ArePieces C.ops frame.now weights.now level made.items) }
 {
-    let done: Result<Vec<Piece<C>>, AllocError> = (0..PIECES)
-        .into_par_iter()
-        .with_min_len(least_share(rt))
-        .map_init(
-            || Scratch::new(alloc),
-            |scratch: &mut Scratch<C>, place: u32| -> Result<Piece<C>, AllocError>
-                requires { IsReady C.ops frame.now weights.now cliques.now level × (place < 16) }
-                ensures { IfOk result (IsPiece C.ops frame.entry.now weights.entry.now level place) }
-            { piece(alloc, frame, weights, cliques, level, place, scratch) },
-        )
-        .collect(rt, alloc)?;
-    done
+    let job = LevelPieces {
+        frame,
+        weights,
+        cliques,
+        level,
+    };
+    items_in_threads(rt, alloc, &job)
 }
 
 /// The cliques of a level, of its pieces in their order. It answers the error where memory runs out.
