@@ -3,7 +3,7 @@
 ghost use Rattle.std.specs.Prelude.{◌<◌, length, All, IfOk};
 ghost use Rattle.search_graph.specs.Weighted.{AreSmall};
 ghost use Rattle.cell_frame.specs.Cliqued.{AreExact};
-ghost use Rattle.cell_customize.specs.Levels.{ArePieces, IsExactLevel, IsPiece};
+ghost use Rattle.cell_customize.specs.Levels.{ArePieces, IsExactLevel, IsPiece, piece_count};
 ghost use Rattle.cell_recustomize.specs.Making.{IsPrepared};
 ghost use Rattle.cell_recustomize.specs.Touched.{WereExact, IsTouchedCount};
 
@@ -11,10 +11,10 @@ use crate::counting::entries_of;
 use crate::marking::{Changes, marks_of};
 use crate::pieces::cliques_of;
 use crate::recustomizing::Recustomized;
-use cell_customize::{PIECES, Piece, Scratch, cut, least_share, level_of};
+use cell_customize::{PIECES, Piece, Scratch, cut, level_of};
 use cell_frame::{Cliques, Frame, LevelCliques};
-use rayon::prelude::*;
 use search_graph::{Cost, Weights};
+use self_scheduling::{Job, items_in_threads};
 use std::alloc::{AllocError, Global};
 use std::thread::Threads;
 
@@ -31,7 +31,7 @@ fn piece<C: Cost>(
     scratch: &mut Scratch<C>,
 ) -> Result<Piece<C>, AllocError>
     requires prepared { IsPrepared C.ops frame.now weights.now old.now cliques.now marks.now level }
-    requires place { place < 16 }
+    requires place { place < piece_count }
     ensures { IfOk result (IsPiece C.ops frame.now weights.now level place) }
 {
     let count = frame.count(level);
@@ -40,6 +40,57 @@ fn piece<C: Cost>(
     cliques_of(
         alloc, frame, weights, old, cliques, marks, level, from, to, scratch,
     )
+}
+
+// The pieces of a level, of which each thread takes one after another, with one scratch for all that it takes.
+#[derive(Drop)]
+struct LevelPieces<'a, C: Cost> {
+    frame: &'a Frame,
+    weights: &'a Weights<C>,
+    old: &'a Cliques<C>,
+    cliques: &'a Cliques<C>,
+    marks: &'a [bool],
+    level: u32,
+}
+
+impl<'a, C: Cost + Send + Sync> Job for LevelPieces<'a, C> {
+    type Memory = Scratch<C>;
+
+    type Item = Piece<C>;
+
+    ghost ready = { λ l. IsPrepared C.ops l.frame.now l.weights.now l.old.now l.cliques.now l.marks.now l.level };
+
+    ghost count = { λ _. piece_count };
+
+    ghost is_item = { λ l place rows. IsPiece C.ops l.frame.now l.weights.now l.level place rows };
+
+    fn count(&self) -> usize {
+        PIECES as usize
+    }
+
+    fn memory(&self, alloc: Global) -> Scratch<C> {
+        Scratch::new(alloc)
+    }
+
+    fn item(
+        &self,
+        alloc: Global,
+        memory: &mut Scratch<C>,
+        number: usize,
+    ) -> Result<Piece<C>, AllocError> {
+        let place = number as u32;
+        piece(
+            alloc,
+            self.frame,
+            self.weights,
+            self.old,
+            self.cliques,
+            self.marks,
+            self.level,
+            place,
+            memory,
+        )
+    }
 }
 
 // The pieces of a level, in order.
@@ -56,22 +107,15 @@ fn pieces<C: Cost + Send + Sync>(
     requires { IsPrepared C.ops frame.now weights.now old.now cliques.now marks.now level }
     ensures { IfOk result (λ made. ArePieces C.ops frame.now weights.now level made.items) }
 {
-    let done: Result<Vec<Piece<C>>, AllocError> = (0..PIECES)
-        .into_par_iter()
-        .with_min_len(least_share(rt))
-        .map_init(
-            || Scratch::new(alloc),
-            |scratch: &mut Scratch<C>, place: u32| -> Result<Piece<C>, AllocError>
-                requires { IsPrepared C.ops frame.now weights.now old.now cliques.now marks.now level × (place < 16) }
-                ensures { IfOk result (IsPiece C.ops frame.entry.now weights.entry.now level place) }
-            {
-                piece(
-                    alloc, frame, weights, old, cliques, marks, level, place, scratch,
-                )
-            },
-        )
-        .collect(rt, alloc)?;
-    done
+    let job = LevelPieces {
+        frame,
+        weights,
+        old,
+        cliques,
+        marks,
+        level,
+    };
+    items_in_threads(rt, alloc, &job)
 }
 
 // The cliques of a level, by the new ones of the levels below it and the old ones.
