@@ -1,6 +1,6 @@
 -- A cell from what cheapest walks to each of its targets cost.
-use Rattle.std.proofs.Common.{◌≡◌, ℕ, ◌++◌, ◌∷◌, [], inl, inr, List, Option, Some, None, arith, refl, sym, subst, ap, ◌∙◌}
-use Rattle.std.specs.List.{AllZip, Contains, slice_get}
+use Rattle.std.proofs.Common.{◌≡◌, ◌++◌, ◌∷◌, [], inl, inr, List, Option, Some, None, arith, refl, subst}
+use Rattle.std.specs.List.{AllZip, Contains}
 use Rattle.std.proofs.lemmas.List.Elements.{Contains-push, Contains-push_cases}
 use Rattle.std.proofs.lemmas.Option.{none-some, same_Some}
 use Rattle.list_lemmas.proofs.Gets.{Contains_get, Contains_push, get_Contains}
@@ -13,7 +13,7 @@ use Rattle.cell_frame.specs.Borders.{Framed}
 use Rattle.overlay_query.specs.Answers.{IsLeastCost}
 use Rattle.table_query.specs.LeastCosts.{IsLeastAmong}
 use Rattle.table_query.specs.LesserLaws.{EitherOf, least-same}
-use Rattle.table_query.specs.Tables.{CostsTo, IsCell, IsTable}
+use Rattle.table_query.specs.Tables.{CostsTo, IsCell}
 use Rattle.table_query.proofs.JoinedLists.{all_zip-first_at, all_zip-second_at}
 
 -- the cost d is one of these
@@ -65,10 +65,3 @@ module _ {C : Type 0} {ops : CostOps C} (laws : CostLaws ops) where
       reached targets costs c z h.0,
       λ d b. let one = among targets costs z b.0 d b.1 b.2 in le_trans laws c one.0 d (h.1 one.0 one.1) one.2,
     )
-
--- a table under one frame, one weighting and one list of columns is one under the same
-pub table-same : {C : Type 0} (ops : CostOps C) (f g : Framed) (w v : Weighting C) (ts us : List (List (Target C))) (sources : List (List (Start C))) (rows : List (List (Option C))) → f ≡ g → w ≡ v → ts ≡ us → IsTable ops f.graph w sources ts rows → IsTable ops g.graph v sources us rows
-table-same {C} ops f g w v ts us sources rows one two three h =
-    subst (λ (x : List (List (Target C))). IsTable ops g.graph v sources x rows) three
-    (subst (λ (x : Weighting C). IsTable ops g.graph x sources ts rows) two
-    (subst (λ (x : Framed). IsTable ops x.graph w sources ts rows) one h))

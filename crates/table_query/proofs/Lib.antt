@@ -1,4 +1,3 @@
 pub mod CellLemmas
-pub mod Gathered
 pub mod JoinedLists
 mod Pointed

@@ -1,5 +1,5 @@
 -- The points of targets, each as its target.
-use Rattle.std.proofs.Common.{◌≡◌, ◌<◌, ℕ, zero, suc, List, [], ◌∷◌, Option, Some, Result, Ok, Err, IfOk, length, inl, inr, arith, refl, sym, ◌∙◌, ap, subst}
+use Rattle.std.proofs.Common.{◌≡◌, ◌<◌, ℕ, suc, List, [], ◌∷◌, Option, Some, length, inl, inr, arith, refl, sym, ap, subst}
 use Rattle.std.specs.List.{AllZip, Contains, slice_get}
 use Rattle.list_lemmas.proofs.Gets.{Contains_get, get_Contains}
 use Rattle.search_graph.specs.declared.ends.Start.{Start}

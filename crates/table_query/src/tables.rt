@@ -18,9 +18,9 @@ use column_query::{Forward, TargetPoint, costs_by_columns};
 use column_search::Overlay;
 use overlay_query::least_costs;
 use plain_search::SearchFault;
-use rayon::prelude::*;
 use search_graph::{Cost, Start, Target};
-use std::alloc::Global;
+use self_scheduling::{Job, items_in_threads};
+use std::alloc::{AllocError, Global};
 use std::thread::Threads;
 use step_search::Search;
 
@@ -90,6 +90,45 @@ fn row<C: Cost>(
     Ok(Row::of(values))
 }
 
+// The rows from all lists of starts.
+#[derive(Drop)]
+struct Rows<'a, 'b, 'c, C: Cost> {
+    columns: &'a Columns<'b, 'c, C>,
+    sources: &'a [Starts<C>],
+}
+
+impl<'a, 'b, 'c, C: Cost + Send + Sync> Job for Rows<'a, 'b, 'c, C> {
+    type Memory = Search<C>;
+
+    type Item = Row<C>;
+
+    ghost ready = { λ s. AreReady C.ops s.columns.now.overlay.now.frame.now s.columns.now.overlay.now.weights.now s.columns.now.overlay.now.cliques.now s.columns.now.targets.now s.columns.now.all.now s.columns.now.points.now × ((list : List (Start C)) (one : Start C) → Contains s.sources.now list → Contains list one → (one.vertex < s.columns.now.overlay.now.frame.now.graph.vertices) × C.ops.units one.cost 1) };
+
+    ghost count = { λ s. length s.sources.now };
+
+    ghost is_item = { λ s k row. (list : List (Start C)) → slice_get s.sources.now k ≡ Some list → IsRow C.ops s.columns.now.overlay.now.frame.now.graph s.columns.now.overlay.now.weights.now s.columns.now.targets.now list row };
+
+    fn count(&self) -> usize {
+        self.sources.len()
+    }
+
+    fn memory(&self, alloc: Global) -> Search<C> {
+        Search::new(alloc)
+    }
+
+    fn item(
+        &self,
+        alloc: Global,
+        memory: &mut Search<C>,
+        number: usize,
+    ) -> Result<Row<C>, AllocError> {
+        match row(alloc, self.columns, self.sources[number].as_slice(), memory) {
+            Ok(row) => Ok(row),
+            Err(SearchFault::Memory) => Err(AllocError),
+        }
+    }
+}
+
 // The rows, side by side, as many at once as there are processors, those of a thread with one search. A single row is made by
 // the calling thread.
 fn rows_in_threads<C: Cost + Send + Sync>(
@@ -97,23 +136,12 @@ fn rows_in_threads<C: Cost + Send + Sync>(
     alloc: Global,
     columns: &Columns<C>,
     sources: &[Starts<C>],
-) -> Result<Vec<Row<C>>, SearchFault>
+) -> Result<Vec<Row<C>>, AllocError>
     requires ready { AreReady C.ops columns.now.overlay.now.frame.now columns.now.overlay.now.weights.now columns.now.overlay.now.cliques.now columns.now.targets.now columns.now.all.now columns.now.points.now }
     requires sources { (list : List (Start C)) (s : Start C) → Contains sources.now list → Contains list s → (s.vertex < columns.now.overlay.now.frame.now.graph.vertices) × C.ops.units s.cost 1 }
     ensures { IfOk result (λ rows. IsTable C.ops columns.now.overlay.now.frame.now.graph columns.now.overlay.now.weights.now sources.now columns.now.targets.now rows.items) }
 {
-    let done: Result<Vec<Row<C>>, SearchFault> = sources
-        .par_iter()
-        .with_min_len(1)
-        .map_init(
-            || Search::new(alloc),
-            |search: &mut Search<C>, starts: &Starts<C>| -> Result<Row<C>, SearchFault>
-                requires { AreReady C.ops columns.now.overlay.now.frame.now columns.now.overlay.now.weights.now columns.now.overlay.now.cliques.now columns.now.targets.now columns.now.all.now columns.now.points.now × ((s : Start C) → Contains starts.now s → (s.vertex < columns.now.overlay.now.frame.now.graph.vertices) × C.ops.units s.cost 1) }
-                ensures { IfOk result (IsRow C.ops columns.entry.now.overlay.now.frame.now.graph columns.entry.now.overlay.now.weights.now columns.entry.now.targets.now starts.now) }
-            { row(alloc, columns, starts.as_slice(), search) },
-        )
-        .collect(rt, alloc)?;
-    done
+    items_in_threads(rt, alloc, &Rows { columns, sources })
 }
 
 /// For each list of starts a row, and in it for each list of targets the least that a walk from one of the starts

@@ -1,5 +1,5 @@
 -- Each turn has one list more.
-use Rattle.std.proofs.Common.{◌≡◌, ◌++◌, ◌∙◌, List, take, sym, subst, ap, ap₂, arith}
+use Rattle.std.proofs.Common.{◌++◌, ◌∙◌, List, sym, ap, ap₂, arith}
 use Rattle.std.proofs.lemmas.List.{take_all}
 use Rattle.list_lemmas.proofs.Gets.{get_is}
 use Rattle.search_graph.specs.declared.ends.Target.{Target}

@@ -2,7 +2,6 @@
 use Rattle.std.proofs.Common.{◌<◌, arith, length, ◌∙◌}
 use Rattle.std.proofs.lemmas.Bool.Decides.{nat_tests}
 use Rattle.std.proofs.lemmas.Result.{IfOk-weaker}
-use Rattle.search_graph.specs.declared.ends.Target.{Target}
 use Rattle.table_query.proofs.Pointed.{least-of-points, length-points, made-points, point-columns, point-fits}
 use Rattle.table_query.proofs.tables.costs.Goals as goal
 

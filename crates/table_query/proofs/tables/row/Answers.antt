@@ -1,5 +1,5 @@
 -- Each turn has one cell more, from the part of the costs that is of its targets.
-use Rattle.std.proofs.Common.{◌≡◌, ◌+◌, ◌≤◌, ◌∙◌, Fits, w64, List, Option, length, take, rules, sym, subst, ap, arith}
+use Rattle.std.proofs.Common.{◌+◌, ◌≤◌, Fits, w64, List, Option, length, take, rules, sym, subst, ap, arith}
 use Rattle.list_lemmas.proofs.Fronts.{all_zip-more}
 use Rattle.list_lemmas.proofs.Gets.{get_is}
 use Rattle.std.specs.List.{AllZip}
