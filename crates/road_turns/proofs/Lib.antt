@@ -1,6 +1,7 @@
 pub mod CountLemmas
 pub mod DecisionLemmas
 pub mod DepartureLemmas
+pub mod NumberLemmas
 pub mod FanLemmas
 pub mod LeaverLemmas
 pub mod LeavingLemmas

@@ -1,5 +1,5 @@
 -- For private functions, and for those who hand what is found from one call to the next: how the vertices that leave a node are found: all vertices stand in the order of the nodes that they leave.
-use Rattle.std.specs.Prelude.{◌≡◌, ◌<◌, ◌≤◌, ◌-◌, ℕ, ℤ, All, List, drop, filter, length, map, take}
+use Rattle.std.specs.Prelude.{◌≡◌, ◌<◌, ◌≤◌, ◌-◌, ◌/◌, ◌%◌, ℕ, ℤ, pos, All, List, drop, filter, length, map, take}
 use Rattle.std.specs.List.{Contains, slice_get}
 use Rattle.std.specs.List.Sorted.{IsNonDecreasingBy}
 use Rattle.std.specs.Option.{option_map_or}
@@ -14,6 +14,10 @@ use Rattle.road_turns.specs.declared.departures.Departure.{Departure}
 -- each vertex and the node that it leaves, in the order of the vertices
 abbrev pub departures : List Vertex → List Departure
 departures vs = map (λ e. record { node = e.1.tail; vertex = e.0 }) (numbered vs)
+
+-- the vertex and the node that stand in one number, the id of the node above the vertex
+abbrev pub departure_of : ℕ → Departure
+departure_of number = record { node = pos (number / 134217728); vertex = number % 134217728 }
 
 -- how the id of the node that vertex v leaves compares with this one; what is no vertex is behind all nodes
 abbrev pub tail_cmp : List Vertex → ℤ → ℕ → Ordering

@@ -1,7 +1,7 @@
 //! The vertices by the nodes that they leave, whether the vehicle may use them or not.
 
-ghost use Rattle.std.specs.Prelude.{◌≡◌, IfOk};
-ghost use Rattle.road_turns.specs.DepartureParts.{AreDepartures, IsPlace, departures, tail_cmp};
+ghost use Rattle.std.specs.Prelude.{◌≡◌, ◌^◌, ◌<◌, IfOk, IfSome, map};
+ghost use Rattle.road_turns.specs.DepartureParts.{AreDepartures, IsPlace, departure_of, departures, tail_cmp};
 ghost use Rattle.road_turns.specs.Departures.{vertices_from};
 ghost use Rattle.road_segments.specs.Vertex.{vertices};
 
@@ -28,6 +28,12 @@ impl Drop for Departures {
     }
 }
 
+// More than there are vertices: in one number a node's id stands above its vertex.
+const VERTICES: u64 = 134_217_728;
+
+// The first id that doesn't fit above a vertex.
+const TOO_GREAT: i64 = 68_719_476_736;
+
 // The vertices in the order of their numbers, each with the node that it leaves.
 fn departures_of(alloc: Global, roads: &Roads) -> Result<Vec<Departure>, AllocError>
     ensures { IfOk result (λ all. all.items ≡ departures (vertices roads.now)) }
@@ -52,18 +58,72 @@ fn tail_cmp(roads: &Roads, node: i64, v: u32) -> Ordering
     }
 }
 
+// The same number for all vertices of a node and no other, with the vertex below it.
+fn number_of(node: i64, vertex: u32) -> Option<u64>
+    requires { vertex < 2 ^ 27 }
+    ensures { IfSome result (λ number. departure_of number ≡ record { node = node; vertex = vertex }) }
+{
+    if node < 0 || node >= TOO_GREAT {
+        return None;
+    }
+    Some(node as u64 * VERTICES + u64::from(vertex))
+}
+
+// All vertices with the nodes that they leave, each as one number, in the order of the vertices, or None where a node's id
+// doesn't fit into that.
+fn numbers_of(alloc: Global, roads: &Roads) -> Result<Option<Vec<u64>>, AllocError>
+    ensures { IfOk result (λ found. IfSome found (λ all. map departure_of all.items ≡ departures (vertices roads.now))) }
+{
+    let count = 2 * roads.len();
+    let mut all = Vec::with_capacity(alloc, count as usize)?;
+    for vertex in 0..count {
+        let Some(number) = number_of(roads.tail(vertex), vertex) else {
+            return Ok(None);
+        };
+        all.push(number)?;
+    }
+    Ok(Some(all))
+}
+
+// The vertices of these numbers in the order of the nodes.
+fn by_numbers(alloc: Global, roads: &Roads, numbers: Vec<u64>) -> Result<Vec<u32>, AllocError>
+    requires { map departure_of numbers.items ≡ departures (vertices roads.now) }
+    ensures { IfOk result (λ order. AreDepartures (vertices roads.now) order.items) }
+{
+    let _ = roads;
+    let mut numbers = numbers;
+    numbers.sort_by_key(|number| (*number / VERTICES) as i64)?;
+    let mut order = Vec::with_capacity(alloc, numbers.len())?;
+    for i in 0..numbers.len() {
+        order.push((numbers[i] % VERTICES) as u32)?;
+    }
+    Ok(order)
+}
+
+// All vertices in the order of the ids of their nodes, whatever these are.
+fn by_ids(alloc: Global, roads: &Roads) -> Result<Vec<u32>, AllocError>
+    ensures { IfOk result (λ order. AreDepartures (vertices roads.now) order.items) }
+{
+    let mut all = departures_of(alloc, roads)?;
+    all.sort_by_key(|departure| departure.node)?;
+    let mut order = Vec::with_capacity(alloc, all.len())?;
+    for i in 0..all.len() {
+        let departure = all[i];
+        order.push(departure.vertex)?;
+    }
+    Ok(order)
+}
+
 impl Departures {
-    /// The vertices of these roads. Putting them in order takes time by N log N.
+    /// The vertices of these roads. Putting them in order takes time by N log N, a fifth of it where all ids of nodes are from 0
+    /// to 2^36, as those of OpenStreetMap are.
     pub fn of(alloc: Global, roads: &Roads) -> Result<Departures, AllocError>
         ensures { IfOk result (λ d. AreDepartures (vertices roads.now) d.order.items) }
     {
-        let mut all = departures_of(alloc, roads)?;
-        all.sort_by_key(|departure| departure.node)?;
-        let mut order = Vec::with_capacity(alloc, all.len())?;
-        for i in 0..all.len() {
-            let departure = all[i];
-            order.push(departure.vertex)?;
-        }
+        let order = match numbers_of(alloc, roads)? {
+            Some(numbers) => by_numbers(alloc, roads, numbers)?,
+            None => by_ids(alloc, roads)?,
+        };
         Ok(Departures { order })
     }
 

@@ -8,7 +8,7 @@ use Rattle.road_turns.specs.DepartureParts.{AreDepartures, departures}
 use Rattle.road_segments.specs.Vertex.{vertices}
 use Rattle.road_turns.specs.declared.departures.Departure.{Departure}
 use Rattle.road_turns.proofs.DepartureLemmas.{AreDepartures-sorted, vertex-at, vertices_in}
-use Rattle.road_turns.proofs.departures.Departures.of.Goals as goal
+use Rattle.road_turns.proofs.departures.by_ids.Goals as goal
 
 -- one vertex more
 pub loop-i-preserved : goal.loop-i-preserved

@@ -1,0 +1,8 @@
+use Rattle.std.proofs.Common.{◌≡◌, map, take}
+use Rattle.road_turns.specs.DepartureParts.{departure_of}
+use Rattle.road_turns.proofs.DepartureLemmas.{vertices_in}
+use Rattle.road_turns.proofs.departures.by_numbers.Given as goal
+
+-- the vertices so far, in their order
+abbrev pub invariant-loop-i : goal.invariant-loop-i
+invariant-loop-i l = l.order.items ≡ take l.i (vertices_in (map departure_of l.numbers.items))
