@@ -320,3 +320,28 @@ fn vertices_leave_a_closed_node(rt: HostRuntime) -> Result<(), AllocError> {
     let crossed = crossing(alloc, "barrier=bollard", "")?;
     assert_leaving(&rt, alloc, crossed.as_str(), &[5, 4], "1 2 4 7 | 6 | ")
 }
+
+// Two streets along nodes of these ids.
+fn street(alloc: Global, ids: &[i64; 3]) -> Result<String, AllocError> {
+    let [first, second, third] = *ids;
+    format!(in alloc;
+        "n{first} x0 y0\nn{second} x0.001 y0\nn{third} x0.002 y0\nw10 Thighway=residential Nn{first},n{second}\nw11 Thighway=residential Nn{second},n{third}\n"
+    )
+}
+
+// Whatever the ids of nodes are, and however these are put in order: as one number each where all are from 0 to 2^36.
+#[test]
+fn vertices_leave_nodes_of_any_ids(rt: HostRuntime) -> Result<(), AllocError> {
+    let alloc = rt.alloc();
+    let ids = [
+        [68719476735, 1, 5],
+        [68719476736, 1, 5],
+        [-5, 2, -7],
+        [i64::MAX, i64::MIN, 0],
+    ];
+    for nodes in &ids {
+        let map = street(alloc, nodes)?;
+        assert_leaving(&rt, alloc, map.as_str(), nodes, "0 | 1 2 | 3 | ")?;
+    }
+    Ok(())
+}
