@@ -37,6 +37,11 @@ def of_overlays(overlays, opl, settings):
     return sum(map(float, stages)), float(re.search(r"([\d.]+) MB at its peak", text)[1])
 
 
+def ratio(own, other):
+    """Of a map so small that the baseline tells no milliseconds there is none."""
+    return own / other if other else float("nan")
+
+
 def main():
     parser = argparse.ArgumentParser(usage=__doc__.split("\n\n")[1])
     parser.add_argument("--repeats", type=int, default=7)
@@ -50,8 +55,8 @@ def main():
                      for _ in range(given.repeats)]
             own, other = (min(turn[which][0] for turn in turns) for which in (0, 1))
             peaks = [min(turn[which][1] for turn in turns) for which in (0, 1)]
-            median = statistics.median(turn[0][0] / turn[1][0] for turn in turns)
-            print(f"{os.path.basename(opl)}: {own:.3f} s, {other:.3f} s, ratio {own / other:.2f}, of turns {median:.2f}; "
+            median = statistics.median(ratio(turn[0][0], turn[1][0]) for turn in turns)
+            print(f"{os.path.basename(opl)}: {own:.3f} s, {other:.3f} s, ratio {ratio(own, other):.2f}, of turns {median:.2f}; "
                   f"peaks {peaks[0]:.1f} MB, {peaks[1]:.1f} MB", flush=True)
 
 
