@@ -1,9 +1,9 @@
 //! The vertices by the nodes that they leave, whether the vehicle may use them or not.
 
-ghost use Rattle.std.specs.Prelude.{◌≡◌, ◌^◌, ◌<◌, IfOk, IfSome, map};
+ghost use Rattle.std.specs.Prelude.{◌≡◌, ◌^◌, ◌<◌, IfOk, IfSome, List, map};
 ghost use Rattle.road_turns.specs.DepartureParts.{AreDepartures, IsPlace, departure_of, departures, tail_cmp};
 ghost use Rattle.road_turns.specs.Departures.{vertices_from};
-ghost use Rattle.road_segments.specs.Vertex.{vertices};
+ghost use Rattle.road_segments.specs.Vertex.{Vertex, vertices};
 
 use road_segments::Roads;
 use std::alloc::{AllocError, Global};
@@ -58,7 +58,8 @@ fn tail_cmp(roads: &Roads, node: i64, v: u32) -> Ordering
     }
 }
 
-// The same number for all vertices of a node and no other, with the vertex below it.
+// A vertex and the node that it leaves as one number: the node's id times 2^27, and the vertex. None where the id is negative
+// or doesn't fit above the vertex.
 fn number_of(node: i64, vertex: u32) -> Option<u64>
     requires { vertex < 2 ^ 27 }
     ensures { IfSome result (λ number. departure_of number ≡ record { node = node; vertex = vertex }) }
@@ -86,11 +87,9 @@ fn numbers_of(alloc: Global, roads: &Roads) -> Result<Option<Vec<u64>>, AllocErr
 }
 
 // The vertices of these numbers in the order of the nodes.
-fn by_numbers(alloc: Global, roads: &Roads, numbers: Vec<u64>) -> Result<Vec<u32>, AllocError>
-    requires { map departure_of numbers.items ≡ departures (vertices roads.now) }
-    ensures { IfOk result (λ order. AreDepartures (vertices roads.now) order.items) }
+fn by_numbers(alloc: Global, numbers: Vec<u64>) -> Result<Vec<u32>, AllocError>
+    ensures { IfOk result (λ order. (vs : List Vertex) → map departure_of numbers.items ≡ departures vs → AreDepartures vs order.items) }
 {
-    let _ = roads;
     let mut numbers = numbers;
     numbers.sort_by_key(|number| (*number / VERTICES) as i64)?;
     let mut order = Vec::with_capacity(alloc, numbers.len())?;
@@ -115,13 +114,13 @@ fn by_ids(alloc: Global, roads: &Roads) -> Result<Vec<u32>, AllocError>
 }
 
 impl Departures {
-    /// The vertices of these roads. Putting them in order takes time by N log N, a fifth of it where all ids of nodes are from 0
-    /// to 2^36, as those of OpenStreetMap are.
+    /// The vertices of these roads. Putting them in order takes time by N log N, a quarter of it where all ids of nodes are at
+    /// least 0 and below 2^36, as those of OpenStreetMap are.
     pub fn of(alloc: Global, roads: &Roads) -> Result<Departures, AllocError>
         ensures { IfOk result (λ d. AreDepartures (vertices roads.now) d.order.items) }
     {
         let order = match numbers_of(alloc, roads)? {
-            Some(numbers) => by_numbers(alloc, roads, numbers)?,
+            Some(numbers) => by_numbers(alloc, numbers)?,
             None => by_ids(alloc, roads)?,
         };
         Ok(Departures { order })

@@ -5,7 +5,6 @@ use Rattle.std.proofs.lemmas.Fn.{always_returns_same}
 use Rattle.std.proofs.lemmas.List.{get_or-map, length-map, take_all}
 use Rattle.list_lemmas.proofs.Fronts.{take-get}
 use Rattle.road_turns.specs.DepartureParts.{AreDepartures, departure_of}
-use Rattle.road_segments.specs.Vertex.{vertices}
 use Rattle.road_turns.specs.declared.departures.Departure.{Departure}
 use Rattle.road_turns.proofs.DepartureLemmas.{AreDepartures-sorted, vertex-at, vertices_in}
 use Rattle.road_turns.proofs.NumberLemmas.{node_in, same-departures, sorted-departures, stable-departures}
@@ -25,8 +24,7 @@ loop-i-preserved c =
     ∙ sym (take-get (vertices_in ds) i (departure_of n).vertex (vertex-at ds i (departure_of n) lt is))
 
 pub returns : goal.returns
-returns c =
-    let vs = vertices c.args.roads.now in
+returns c = λ vs given_is.
     let given : List ℕ = c.args.numbers.items in
     let ns : List ℕ = c.sort_by_key.new.self.items in
     let ds : List Departure = map departure_of ns in
@@ -34,7 +32,7 @@ returns c =
     let same = c.sort_by_key.ensures.permutation in
     let sorted : IsSortedByKey node_in int_cmp ns = c.in_ok-sort_by_key.ensures.sorted node_in (always_returns_same _ (λ a r. r ≡ node_in a.0.now) _ (λ a r q k. search rules)) in
     let stable : IsStableByKey node_in int_cmp given ns = c.sort_by_key.ensures.stable node_in (always_returns_same _ (λ a r. r ≡ node_in a.0.now) _ (λ a r q k. search rules)) in
-    let one = subst (λ (l : List Departure). IsPermutation l ds) c.requires (same-departures given ns same sorted stable) in
+    let one = subst (λ (l : List Departure). IsPermutation l ds) given_is (same-departures given ns same sorted stable) in
     let two = sorted-departures given ns same sorted stable in
-    let three = subst (λ (l : List Departure). IsStableByKey (λ (d : Departure). d.node) int_cmp l ds) c.requires (stable-departures given ns same sorted stable) in
+    let three = subst (λ (l : List Departure). IsStableByKey (λ (d : Departure). d.node) int_cmp l ds) given_is (stable-departures given ns same sorted stable) in
     subst (AreDepartures vs) (sym (c.loop-i.invariant ∙ take_all c.loop-i.i (vertices_in ds) all)) (AreDepartures-sorted vs ds one two three)
