@@ -3,14 +3,15 @@
 
     bench/processors.py [--processors N] [--places N] [--repeats N] SETTINGS OPL [OPL ..]
 
-Two copies of the program stand side by side, one held to one processor and one to N (all), and are asked by turns: for a
-table of drawn places to one another, and for a file with a row for each segment, which customizes every cell, and the same
-file once more, which changes nothing; what the first takes more is the customization by itself. Told are medians of times
-by the clock, and how many times less N take; of tables the least too.
+A copy of the program that runs on N processors (all) stands beside N copies that are held to one of them each. It is asked by
+turns with each of these: for a table of drawn places to one another; and, behind a file with a row for each segment, for a file
+without rows, which customizes every cell and reads nothing, and for that once more, which changes nothing. What the first of
+these two takes more is the customization by itself. Told are, of the times by the clock, the medians and the least, and how
+many times less N processors take by each.
 
-N processors of a shared machine don't do N times the work of one. So N further copies of the program, each held to one
-processor of its own, are asked for the table at one time: N times what one table takes alone, by the time in which all have
-theirs, tells how many times the work of one N processors do just then.
+N processors of a shared machine don't do N times the work of one. So the N copies are asked for the table at one time, too: N
+times what one table takes alone, by the time in which all have theirs, tells how many times the work of one N processors do
+just then.
 """
 import argparse
 import os
@@ -41,10 +42,10 @@ def clocked(session, line):
 
 
 def customized(session, rows):
-    """What customizing all cells takes by itself."""
-    session.ask("TRAFFIC - -")
-    once = clocked(session, f"TRAFFIC {rows} -")
-    return once - clocked(session, f"TRAFFIC {rows} -")
+    """What a file without rows takes that customizes every cell, and by how much that is more than one that changes nothing."""
+    session.ask(f"TRAFFIC {rows} -")
+    whole = clocked(session, "TRAFFIC - -")
+    return whole, whole - clocked(session, "TRAFFIC - -")
 
 
 def at_one_time(sessions, line):
@@ -58,32 +59,38 @@ def at_one_time(sessions, line):
     return time.monotonic() - began
 
 
-def told(name, one, several, count):
-    less = statistics.median(one) / statistics.median(several)
-    print(f"  {name}: {statistics.median(one) * 1000:.2f} ms on one processor, {statistics.median(several) * 1000:.2f} ms "
-          f"on {count}: {less:.2f} times less", flush=True)
+def told(name, pairs, count):
+    """Tells of what one processor took, and of what several took beside it."""
+    for which, of in (("medians", statistics.median), ("the least", min)):
+        one, several = (of(times) * 1000 for times in zip(*pairs))
+        print(f"  {name}, {which}: {one:.2f} ms on one processor, {several:.2f} ms on {count}: {one / several:.2f} times less",
+              flush=True)
 
 
 def measure(given, program, opl, folder):
     places = random.Random(3).sample(common.locations(opl, given.settings), given.places)
     table = "GET /table/v1/car/" + ";".join(f"{lon:.6f},{lat:.6f}" for lon, lat in places)
     rows = write_rows(os.path.join(folder, "all.csv"), pairs_of(opl))
-    held = [PROCESSORS[:1], PROCESSORS[:given.processors]]
-    one, several = (session_on(processors, program, opl, given.settings) for processors in held)
-    copies = [session_on([processor], program, opl, given.settings) for processor in held[1]]
+    held = PROCESSORS[:given.processors]
+    several = session_on(held, program, opl, given.settings)
+    copies = [session_on([processor], program, opl, given.settings) for processor in held]
+    for session in (several, *copies):
+        session.ask(table)
+        customized(session, rows)
     tables, files, alike = [], [], []
     for _ in range(given.repeats):
-        tables.append((clocked(one, table), clocked(several, table)))
-        files.append((customized(one, rows), customized(several, rows)))
-        alike.append((clocked(copies[0], table), at_one_time(copies, table)))
+        for one in copies:
+            tables.append((clocked(one, table), clocked(several, table)))
+        for one in copies:
+            files.append((customized(one, rows), customized(several, rows)))
+        alike.append(at_one_time(copies, table))
     print(f"== {os.path.basename(opl)}")
-    told(f"a table of {given.places} places", *zip(*tables), len(held[1]))
-    least = [min(times) for times in zip(*tables)]
-    print(f"    the least: {least[0] * 1000:.2f} ms, {least[1] * 1000:.2f} ms: {least[0] / least[1]:.2f} times less")
-    told("the customization of all cells", *zip(*files), len(held[1]))
-    often = [len(copies) * alone / together for alone, together in alike]
-    print(f"  as many copies, each on a processor: {statistics.median(often):.2f} times the work of one")
-    for session in [one, several, *copies]:
+    told(f"a table of {given.places} places", tables, len(held))
+    for which, name in enumerate(["all cells customized by a file without rows", "the customization by itself"]):
+        told(name, [(one[which], more[which]) for one, more in files], len(held))
+    alone = statistics.median(one for one, _ in tables)
+    print(f"  as many copies, each on a processor: {len(copies) * alone / statistics.median(alike):.2f} times the work of one")
+    for session in (several, *copies):
         session.end()
 
 
