@@ -3,7 +3,8 @@
 //! How long an item takes isn't known beforehand, a thread may start late, and a processor may be slower than another. So no
 //! thread is given its items in advance: each takes one when it is done with the one before (self-scheduling: P. Tang and
 //! P.-C. Yew, Processor Self-Scheduling for Multiple-Nested Parallel Loops, 1986), and they end together but for one item.
-//! The calling thread is one of them, and starts the others one after another.
+//! The calling thread starts them one after another and waits. If it took items too, a new thread that the kernel puts behind it
+//! on its processor, as Linux does at times where others are idle, would wait until the next tick.
 //!
 //! A [`Job`] says what its items are and makes one of them; [`items_in_threads`] makes all.
 #![tactic(auto)]

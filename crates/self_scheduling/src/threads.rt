@@ -35,7 +35,7 @@ fn share<J: Job>(
     Ok(made)
 }
 
-// The items that so many threads make, of which this is the last. Where a thread can't be started, its share falls to the others,
+// The items that so many new threads make while this one waits. Where a thread can't be started, its share falls to the others,
 // and what is left of it to this one.
 #[cycle(fewer)]
 fn shares<R: Threads + Sync, J: Job>(
@@ -48,15 +48,15 @@ fn shares<R: Threads + Sync, J: Job>(
     requires { J.ready job.now }
     ensures { IfOk result (λ made. AreNumbered (J.count job.now) (J.is_item job.now) made.items) }
 {
-    if threads <= 1 {
-        return share(alloc, job, next);
+    if threads == 0 {
+        return Ok(Vec::new(alloc));
     }
     let another = move || -> Result<Vec<Numbered<J::Item>>, AllocError>
         requires { IsSync J.row × J.ready job.now }
         ensures { IfOk result (λ made. AreNumbered (J.count job.entry.now) (J.is_item job.entry.now) made.items) }
     { share(alloc, job, next) };
     let others = move || -> Result<Vec<Numbered<J::Item>>, AllocError>
-        requires { IsSync R.row × IsSync J.row × J.ready job.now × (1 < threads) }
+        requires { IsSync R.row × IsSync J.row × J.ready job.now × (0 < threads) }
         ensures { IfOk result (λ made. AreNumbered (J.count job.entry.now) (J.is_item job.entry.now) made.items) }
     { shares(rt, alloc, job, next, threads - 1) };
     let (one, rest) = join(rt, another, others);
@@ -66,8 +66,8 @@ fn shares<R: Threads + Sync, J: Job>(
     Ok(made)
 }
 
-/// All items of a job in the order of their numbers, made side by side in as many threads as there are processors. It answers
-/// the error where memory runs out.
+/// All items of a job in the order of their numbers, made side by side in as many threads as there are processors, and without
+/// another thread where there is one processor or one item. It answers the error where memory runs out.
 pub fn items_in_threads<J: Job>(
     rt: &(impl Threads + Sync),
     alloc: Global,
@@ -78,6 +78,10 @@ pub fn items_in_threads<J: Job>(
 {
     let threads = current_num_threads(rt).min(job.count());
     let next = AtomicU64::new(0);
-    let made = shares(rt, alloc, job, &next, threads)?;
+    let made = if threads > 1 {
+        shares(rt, alloc, job, &next, threads)?
+    } else {
+        share(alloc, job, &next)?
+    };
     in_order(alloc, job, made)
 }
