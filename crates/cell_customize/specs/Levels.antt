@@ -35,7 +35,7 @@ behind rows more = record { first = rows.first ++ map (λ first. length rows.val
 
 -- into how many pieces a level is cut
 abbrev pub piece_count : ℕ
-piece_count = 64
+piece_count = 256
 
 -- where piece p begins, of a level with so many cells
 abbrev pub cut_at : ℕ → ℕ → ℕ

@@ -17,7 +17,7 @@ use std::thread::Threads;
 
 /// How many pieces the cells of a level are cut into.
 // Many more than processors, since pieces take unlike time and each is taken by itself.
-pub const PIECES: u32 = 64;
+pub const PIECES: u32 = 256;
 
 /// At which cell a piece of a level begins, of as many cells.
 pub fn cut(count: u32, place: u32) -> u32
