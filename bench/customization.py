@@ -8,8 +8,8 @@ metric before. So a file with a row for each segment of the map, both ways, and 
 time, and one whose rows have a rate each does so with costs whose weight is neither their duration nor their length; a
 file of a thousand drawn rows and then none only those that the rows touch. Both take the reading of rows and
 the making of the costs in. The same file once more changes nothing, so it takes that alone; what it took less is told
-too, as the customization by itself. And the same file with a faulty row behind it is read to its end and refused: what the
-file takes beyond that is told as the publication without its reading.
+too, as the customization by itself. And the same file with a faulty row behind it is read to its end and refused, behind a line
+without rows as the file itself is: what the file takes beyond that is told as the publication without its reading.
 
 The program makes a thread for each processor that it may run on, so it is held to as many as are named. Told are, for
 each kind of line, the processor seconds of all threads and the time by the clock, the least of the repeats, and the
@@ -84,6 +84,7 @@ def measure(program, opl, settings, processors, repeats, files):
             session.line("TRAFFIC - -")
             told.append(taken(session, line))
             again.append(taken(session, line))
+            session.line("TRAFFIC - -")
             refused.append(taken(session, unread))
         least, less, read = ([min(it[which] for it in turns) for which in (0, 1)] for turns in (told, again, refused))
         held = ", ".join("%.1f %.1f %.1f" % it[2] for it in told[:2])
