@@ -7,3 +7,4 @@ mod LengthLemmas
 pub mod MatchLemmas
 pub mod MetricLemmas
 pub mod UnderLemmas
+pub mod WayLemmas

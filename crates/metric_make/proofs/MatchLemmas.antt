@@ -3,7 +3,8 @@ use Rattle.std.proofs.Common.{◌≡◌, ℕ, ◌+◌, Bool, true, false, List, 
 use Rattle.std.specs.Prelude.{ℤ, ◌&&◌, ◌||◌, option_map}
 use Rattle.std.specs.List.{slice_get}
 use Rattle.std.specs.Ordering.{int_eq}
-use Rattle.std.proofs.lemmas.List.Folds.{list_any-append, list_any_more}
+use Rattle.std.proofs.lemmas.Bool.{and_from}
+use Rattle.std.proofs.lemmas.List.Folds.{list_any-append, list_any_at, list_any_more}
 use Rattle.std.proofs.lemmas.Option.{get_or_from_slice_get, same_Some, slice_get_within}
 use Rattle.road_segments.specs.Vertex.{Vertex}
 use Rattle.metric_make.specs.LastRows.{AreTold, Entries, pair_eq, triple_eq}
@@ -29,30 +30,38 @@ module _ (vs : List Vertex) (v : ℕ) (x : Vertex) (at : slice_get vs v ≡ Some
   is_way-more tail head =
       list_any_more (goes tail head) vs v x (slice_get_within vs v x at) ∙ ap (λ (y : Vertex). is_way (take v vs) tail head || goes tail head y) (get_or_from_slice_get vs v x x at)
 
+  -- one that is permitted is a way between its nodes
+  pub is_way-permitted : x.permitted ≡ true → (tail head : ℤ) → x.tail ≡ tail → x.head ≡ head → (q : ℤ × ℤ) → is_way (take (v + 1) vs) q.0 q.1 ≡ (is_way (take v vs) q.0 q.1 || pair_eq (tail, head) q)
+  is_way-permitted permitted tail head from to q =
+      let was = is_way (take v vs) q.0 q.1 in
+      is_way-more q.0 q.1
+      ∙ ap (λ (b : Bool). was || (b && (int_eq x.tail q.0 && int_eq x.head q.1))) permitted
+      ∙ ap (λ (z : ℤ). was || (int_eq z q.0 && int_eq x.head q.1)) from
+      ∙ ap (λ (z : ℤ). was || (int_eq tail q.0 && int_eq z q.1)) to
+
+  pub way-permitted : x.permitted ≡ true → is_way vs x.tail x.head ≡ true
+  way-permitted permitted =
+      let there = ap (goes x.tail x.head) (get_or_from_slice_get vs v x x at) ∙ and_from x.permitted (pair_eq (x.tail, x.head) (x.tail, x.head)) permitted (pair_eq-itself (x.tail, x.head)) in
+      list_any_at (goes x.tail x.head) vs v x (slice_get_within vs v x at) there
+
+  -- and one that is not is none
+  pub is_way-closed : x.permitted ≡ false → (q : ℤ × ℤ) → is_way (take (v + 1) vs) q.0 q.1 ≡ is_way (take v vs) q.0 q.1
+  is_way-closed closed q =
+      let was = is_way (take v vs) q.0 q.1 in
+      is_way-more q.0 q.1 ∙ ap (λ (b : Bool). was || (b && (int_eq x.tail q.0 && int_eq x.head q.1))) closed ∙ or-false was
+
   -- one that is permitted matches the rows for its nodes
   pub matched-permitted : (rows : List SpeedRow) (tail head : ℤ) (entries : Entries (ℤ × ℤ)) (n : ℕ) → x.permitted ≡ true → x.tail ≡ tail → x.head ≡ head
       → AreTold pair_eq nodes_of rows (λ q. is_way (take v vs) q.0 q.1 || pair_eq (tail, head) q) entries n → AreTold pair_eq nodes_of rows (λ q. is_way (take (v + 1) vs) q.0 q.1) entries n
   matched-permitted rows tail head entries n permitted from to told =
-      told-same pair_eq pair_eq-same pair_eq-itself nodes_of rows entries n (λ q. is_way (take v vs) q.0 q.1 || pair_eq (tail, head) q) (λ q. is_way (take (v + 1) vs) q.0 q.1) (λ q. sym (it q)) told
-    where
-      it : (q : ℤ × ℤ) → is_way (take (v + 1) vs) q.0 q.1 ≡ (is_way (take v vs) q.0 q.1 || pair_eq (tail, head) q)
-      it q =
-          let was = is_way (take v vs) q.0 q.1 in
-          is_way-more q.0 q.1
-          ∙ ap (λ (b : Bool). was || (b && (int_eq x.tail q.0 && int_eq x.head q.1))) permitted
-          ∙ ap (λ (z : ℤ). was || (int_eq z q.0 && int_eq x.head q.1)) from
-          ∙ ap (λ (z : ℤ). was || (int_eq tail q.0 && int_eq z q.1)) to
+      told-same pair_eq pair_eq-same pair_eq-itself nodes_of rows entries n (λ q. is_way (take v vs) q.0 q.1 || pair_eq (tail, head) q) (λ q. is_way (take (v + 1) vs) q.0 q.1)
+      (λ q. sym (is_way-permitted permitted tail head from to q)) told
 
   -- one that is not permitted matches none
   pub matched-closed : (rows : List SpeedRow) (entries : Entries (ℤ × ℤ)) (n : ℕ) → x.permitted ≡ false
       → AreTold pair_eq nodes_of rows (λ q. is_way (take v vs) q.0 q.1) entries n → AreTold pair_eq nodes_of rows (λ q. is_way (take (v + 1) vs) q.0 q.1) entries n
   matched-closed rows entries n closed told =
-      told-same pair_eq pair_eq-same pair_eq-itself nodes_of rows entries n (λ q. is_way (take v vs) q.0 q.1) (λ q. is_way (take (v + 1) vs) q.0 q.1) (λ q. sym (it q)) told
-    where
-      it : (q : ℤ × ℤ) → is_way (take (v + 1) vs) q.0 q.1 ≡ is_way (take v vs) q.0 q.1
-      it q =
-          let was = is_way (take v vs) q.0 q.1 in
-          is_way-more q.0 q.1 ∙ ap (λ (b : Bool). was || (b && (int_eq x.tail q.0 && int_eq x.head q.1))) closed ∙ or-false was
+      told-same pair_eq pair_eq-same pair_eq-itself nodes_of rows entries n (λ q. is_way (take v vs) q.0 q.1) (λ q. is_way (take (v + 1) vs) q.0 q.1) (λ q. sym (is_way-closed closed q)) told
 
 -- one turn more
 pub is_turn_over-more : (vs : List Vertex) (before : List (ℕ × ℕ)) (turn : ℕ × ℕ) (d e : Vertex) (from via to : ℤ) → slice_get vs turn.0 ≡ Some d → slice_get vs turn.1 ≡ Some e

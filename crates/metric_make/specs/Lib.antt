@@ -4,5 +4,6 @@ pub mod CopyLaws
 pub mod LastRows
 pub mod MetricOf
 pub mod RoadMetric
+pub mod RowsOfWays
 pub mod TrafficRows
 pub mod TurnParts

@@ -7,6 +7,7 @@ mod avoiding;
 mod base_metric;
 mod copies;
 mod last_rows;
+mod rows_of_ways;
 mod speed_rows;
 mod turn_rows;
 mod turns;

@@ -1,18 +1,20 @@
 //! What the vertices of a network cost under the rows of a speeds file: what they cost by its profile, where no row is for
 //! them.
 
-ghost use Rattle.std.specs.Prelude.{◌≡◌, ℕ, ◌+◌, ◌*◌, ◌^◌, ◌<◌, [], IfOk, OnOk, Some, All, true, length, map, take, false, not, option_map, count_by};
+ghost use Rattle.std.specs.Prelude.{◌≡◌, ℕ, ◌+◌, ◌*◌, ◌^◌, ◌<◌, [], List, IfOk, OnOk, Some, All, true, length, map, not, option_map, count_by};
 ghost use Rattle.std.specs.List.{slice_get};
 ghost use Rattle.std.specs.Option.{ForSome};
 ghost use Rattle.edge_graph.specs.NetworkView.{vertices_of};
-ghost use Rattle.metric_make.specs.LastRows.{AreSpeedsTold};
 ghost use Rattle.metric_make.specs.MetricOf.{AreWithinUnit, IsShort, cost_under, vertex_cost, with_copies};
+ghost use Rattle.metric_make.specs.RowsOfWays.{AreRowsTold};
 ghost use Rattle.metric_make.specs.TrafficRows.{is_way, speed_for};
 ghost use Rattle.road_segments.specs.Vertex.{Vertex};
 ghost use Rattle.search_graph.specs.RoadCosts.{road_cost_ops};
 ghost use Rattle.traffic_files.specs.Ranges.{AreSpeedsInRange, IsSpeedInRange};
+ghost use Rattle.traffic_files.specs.declared.rows.SpeedRow.{SpeedRow};
 
 use crate::copies::with_copies;
+use crate::rows_of_ways::{RowsOfWays, rows_of_ways, speed_of_way};
 use crate::speed_rows::{LastSpeeds, last_speeds, matching_speed};
 use crate::vertices::cost_of;
 use cost_lists::CostList;
@@ -28,17 +30,55 @@ pub(crate) struct VertexCosts {
     pub unmatched: u64,
 }
 
+/// The rows of a speeds file in a table: of the nodes that they are for, where those are matched that vertices have asked
+/// for, or of the nodes of all permitted vertices, where each is matched at first that is for some of them.
+#[derive(Drop)]
+pub(crate) enum SpeedTable {
+    OfRows(LastSpeeds),
+    OfWays(RowsOfWays),
+}
+
+impl SpeedTable {
+    // How many rows are not matched.
+    fn unmatched(&self) -> u64
+        ensures { (vs : List Vertex) (rows : List SpeedRow) → AreRowsTold vs rows (length vs) self.now → result ≡ count_by (λ row. not (is_way vs row.from row.to)) rows }
+    {
+        match self {
+            SpeedTable::OfRows(last) => last.unmatched,
+            SpeedTable::OfWays(found) => found.unmatched,
+        }
+    }
+}
+
+// The table in which these rows are found. One of all vertices costs less than one of all rows, once there are as many
+// rows as segments; a file of a few rows doesn't have to pay for it.
+fn table_of(alloc: Global, network: &Network, rows: &[SpeedRow]) -> Result<SpeedTable, AllocError>
+    ensures { IfOk result (AreRowsTold (vertices_of network.now) rows.now 0) }
+{
+    let has_few_rows = rows.len() < network.segments() as usize;
+    if has_few_rows {
+        Ok(SpeedTable::OfRows(last_speeds(alloc, rows)?))
+    } else {
+        Ok(SpeedTable::OfWays(rows_of_ways(alloc, network, rows)?))
+    }
+}
+
 // The row for a permitted vertex, which is matched from now on.
-fn row_for(network: &Network, rows: &[SpeedRow], last: &mut LastSpeeds, v: u32) -> Option<SpeedRow>
+fn row_for(network: &Network, rows: &[SpeedRow], table: &mut SpeedTable, v: u32) -> Option<SpeedRow>
     requires vertex { v < 2 * length network.now.segments }
-    requires told { AreSpeedsTold rows.now (λ q. is_way (take v (vertices_of network.now)) q.0 q.1) last.old }
+    requires permitted { option_map (λ x. x.permitted) (slice_get (vertices_of network.now) v) ≡ Some true }
+    requires told { AreRowsTold (vertices_of network.now) rows.now v table.old }
     ensures row { (x : Vertex) → slice_get (vertices_of network.now) v ≡ Some x → result ≡ speed_for rows.now x.tail x.head }
-    ensures told { (x : Vertex) → slice_get (vertices_of network.now) v ≡ Some x → x.permitted ≡ true → AreSpeedsTold rows.now (λ q. is_way (take (v + 1) (vertices_of network.now)) q.0 q.1) last.new }
+    ensures told { AreRowsTold (vertices_of network.now) rows.now (v + 1) table.new }
 {
     if rows.is_empty() {
         return None;
     }
-    matching_speed(rows, last, network.tail(v), network.head(v))
+    let (tail, head) = (network.tail(v), network.head(v));
+    match table {
+        SpeedTable::OfRows(last) => matching_speed(rows, last, tail, head),
+        SpeedTable::OfWays(found) => speed_of_way(rows, found, tail, head),
+    }
 }
 
 // What a permitted vertex of this length costs under the row for it.
@@ -60,7 +100,7 @@ fn cost_under(by_distance: bool, decimetres: u64, row: SpeedRow) -> Option<Weigh
 fn cost(
     network: &Network,
     rows: &[SpeedRow],
-    last: &mut LastSpeeds,
+    table: &mut SpeedTable,
     v: u32,
     by_profile: Option<WeightDurLen>,
 ) -> Option<WeightDurLen>
@@ -69,14 +109,14 @@ fn cost(
     requires profile { option_map (vertex_cost network.now.profile.by_distance []) (slice_get (vertices_of network.now) v) ≡ Some by_profile }
     requires unit { ForSome by_profile (λ x. road_cost_ops.units x 1) }
     requires short { ForSome by_profile IsShort }
-    requires told { AreSpeedsTold rows.now (λ q. is_way (take v (vertices_of network.now)) q.0 q.1) last.old }
+    requires told { AreRowsTold (vertices_of network.now) rows.now v table.old }
     ensures value { option_map (vertex_cost network.now.profile.by_distance rows.now) (slice_get (vertices_of network.now) v) ≡ Some result }
     ensures unit { ForSome result (λ x. road_cost_ops.units x 1) }
     ensures short { ForSome result IsShort }
-    ensures told { AreSpeedsTold rows.now (λ q. is_way (take (v + 1) (vertices_of network.now)) q.0 q.1) last.new }
+    ensures told { AreRowsTold (vertices_of network.now) rows.now (v + 1) table.new }
 {
     let cost = by_profile?;
-    match row_for(network, rows, last, v) {
+    match row_for(network, rows, table, v) {
         Some(row) => cost_under(network.profile().by_distance(), cost.length, row),
         None => Some(cost),
     }
@@ -88,20 +128,20 @@ fn costs_by(
     network: &Network,
     profile: &Weights<WeightDurLen>,
     rows: &[SpeedRow],
-    last: &mut LastSpeeds,
+    table: &mut SpeedTable,
 ) -> Result<CostList<WeightDurLen>, AllocError>
     requires profile { profile.now.vertex ≡ with_copies network.now (map (vertex_cost network.now.profile.by_distance []) (vertices_of network.now)) }
     requires within { AreWithinUnit profile.now }
     requires in_range { AreSpeedsInRange rows.now }
-    requires told { AreSpeedsTold rows.now (λ q. false) last.old }
+    requires told { AreRowsTold (vertices_of network.now) rows.now 0 table.old }
     ensures value { IfOk result (λ costs. costs ≡ map (vertex_cost network.now.profile.by_distance rows.now) (vertices_of network.now)) }
     ensures unit { IfOk result (λ costs. All (λ o. ForSome o (λ x. road_cost_ops.units x 1)) costs) }
     ensures short { IfOk result (λ costs. All (λ o. ForSome o IsShort) costs) }
-    ensures told { OnOk result (AreSpeedsTold rows.now (λ q. is_way (vertices_of network.now) q.0 q.1) last.new) }
+    ensures told { OnOk result (AreRowsTold (vertices_of network.now) rows.now (2 * length network.now.segments) table.new) }
 {
     let mut costs = CostList::with_capacity(alloc, network.graph().vertices() as usize)?;
     for v in 0..2 * network.segments() {
-        costs.push(cost(network, rows, last, v, profile.vertex(v)))?;
+        costs.push(cost(network, rows, table, v, profile.vertex(v)))?;
     }
     Ok(costs)
 }
@@ -121,9 +161,9 @@ pub(crate) fn vertices_under(
     ensures short { IfOk result (λ found. All (λ o. ForSome o IsShort) found.costs) }
     ensures unmatched { IfOk result (λ found. found.unmatched ≡ count_by (λ row. not (is_way (vertices_of network.now) row.from row.to)) rows.now) }
 {
-    let mut last = last_speeds(alloc, rows)?;
-    let ordinary = costs_by(alloc, network, profile, rows, &mut last)?;
-    let unmatched = last.unmatched;
+    let mut table = table_of(alloc, network, rows)?;
+    let ordinary = costs_by(alloc, network, profile, rows, &mut table)?;
+    let unmatched = table.unmatched();
     let costs = with_copies(network, ordinary)?;
     Ok(VertexCosts { costs, unmatched })
 }

@@ -10,8 +10,9 @@ use Rattle.traffic_files.specs.Ranges.{IsSpeedInRange}
 use Rattle.way_profile.specs.Vehicle.{ProfileView}
 use Rattle.metric_make.specs.MetricOf.{cost_under, vertex_cost}
 use Rattle.metric_make.proofs.LastRowLemmas.{last_where-holds}
-use Rattle.metric_make.proofs.MatchLemmas.{field-at, matched-closed}
+use Rattle.metric_make.proofs.MatchLemmas.{field-at}
 use Rattle.metric_make.proofs.UnderLemmas.{closed-by_profile, cost-with_row, length-short, open-by_profile}
+use Rattle.metric_make.proofs.WayLemmas.{rows-closed}
 use Rattle.metric_make.proofs.under_speeds.cost.Goals as goal
 
 pub returns-in_err-cost-clause-told : goal.returns-in_err-cost-clause-told
@@ -20,7 +21,7 @@ returns-in_err-cost-clause-told c =
     let x = get_some vs c.args.v (omega (arith, length-vertices c.args.network.now.segments, c.requires.vertex)) in
     let own : vertex_cost c.args.network.now.profile.by_distance [] x.0 ≡ None =
     field-at (vertex_cost c.args.network.now.profile.by_distance []) vs c.args.v x.0 c.args.by_profile x.1 c.requires.profile ∙ c.in_err-cost.was in
-    matched-closed vs c.args.v x.0 x.1 c.args.rows.now c.args.last.now.entries c.args.last.now.unmatched (closed-by_profile c.args.network.now.profile.by_distance c.args.rows.now x.0 own).0 c.requires.told
+    rows-closed vs c.args.v x.0 x.1 (closed-by_profile c.args.network.now.profile.by_distance c.args.rows.now x.0 own).0 c.args.rows.now c.args.table.now c.requires.told
 
 pub cost_under-requires-clause-row : goal.cost_under-requires-clause-row
 cost_under-requires-clause-row c =
@@ -49,18 +50,10 @@ returns-in-Some-clause-value c =
     ap (option_map (vertex_cost c.args.network.now.profile.by_distance c.args.rows.now)) x.1
     ∙ ap Some (cost-with_row c.args.network.now.profile.by_distance c.args.rows.now x.0 cost own c.in-Some.row (sym (c.in-Some.ensures.row x.0 x.1)) ∙ sym paid)
 
-pub returns-in-Some-clause-told : goal.returns-in-Some-clause-told
-returns-in-Some-clause-told c =
+pub row_for-requires-clause-permitted : goal.row_for-requires-clause-permitted
+row_for-requires-clause-permitted c =
     let vs = vertices_of c.args.network.now in
     let x = get_some vs c.args.v (omega (arith, length-vertices c.args.network.now.segments, c.requires.vertex)) in
     let own : vertex_cost c.args.network.now.profile.by_distance [] x.0 ≡ Some c.in_ok-cost.cost =
     field-at (vertex_cost c.args.network.now.profile.by_distance []) vs c.args.v x.0 c.args.by_profile x.1 c.requires.profile ∙ c.in_ok-cost.was in
-    c.row_for.ensures.told x.0 x.1 (open-by_profile c.args.network.now.profile.by_distance x.0 c.in_ok-cost.cost own).0
-
-pub returns-in-None-clause-told : goal.returns-in-None-clause-told
-returns-in-None-clause-told c =
-    let vs = vertices_of c.args.network.now in
-    let x = get_some vs c.args.v (omega (arith, length-vertices c.args.network.now.segments, c.requires.vertex)) in
-    let own : vertex_cost c.args.network.now.profile.by_distance [] x.0 ≡ Some c.in_ok-cost.cost =
-    field-at (vertex_cost c.args.network.now.profile.by_distance []) vs c.args.v x.0 c.args.by_profile x.1 c.requires.profile ∙ c.in_ok-cost.was in
-    c.row_for.ensures.told x.0 x.1 (open-by_profile c.args.network.now.profile.by_distance x.0 c.in_ok-cost.cost own).0
+    ap (option_map (λ y. y.permitted)) x.1 ∙ ap Some (open-by_profile c.args.network.now.profile.by_distance x.0 c.in_ok-cost.cost own).0

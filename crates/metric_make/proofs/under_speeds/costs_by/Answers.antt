@@ -1,4 +1,4 @@
-use Rattle.std.proofs.Common.{◌≡◌, ◌*◌, ◌≤◌, ◌++◌, ◌∷◌, [], List, Option, Some, length, map, take, arith, subst, sym, ap, ◌∙◌}
+use Rattle.std.proofs.Common.{◌≡◌, ℕ, ◌*◌, ◌≤◌, ◌++◌, ◌∷◌, [], List, Option, Some, length, map, take, arith, subst, sym, ap, ◌∙◌}
 use Rattle.std.specs.List.{slice_get}
 use Rattle.std.specs.Option.{ForSome}
 use Rattle.std.proofs.lemmas.List.{length-map, take_all}
@@ -13,9 +13,8 @@ use Rattle.road_segments.specs.Vertex.{Vertex}
 use Rattle.search_graph.specs.RoadCosts.{road_cost_ops}
 use Rattle.search_graph.specs.declared.costs.WeightDurLen.{WeightDurLen}
 use Rattle.metric_make.specs.CopyLaws.{length-with_copies}
-use Rattle.metric_make.specs.LastRows.{AreSpeedsTold}
 use Rattle.metric_make.specs.MetricOf.{IsShort, vertex_cost}
-use Rattle.metric_make.specs.TrafficRows.{is_way}
+use Rattle.metric_make.specs.RowsOfWays.{AreRowsTold}
 use Rattle.metric_make.proofs.UnderLemmas.{profile-read}
 use Rattle.metric_make.proofs.under_speeds.costs_by.Goals as goal
 
@@ -58,6 +57,5 @@ returns-clause-value c =
 
 pub returns-clause-told : goal.returns-clause-told
 returns-clause-told c =
-    let vs = vertices_of c.args.network.now in
-    let all : take c.loop-v.v vs ≡ vs = take_all c.loop-v.v vs (omega (arith, length-vertices c.args.network.now.segments, c.segments-v-end.ensures.value, c.loop-v-test.false)) in
-    subst (λ (l : List Vertex). AreSpeedsTold c.args.rows.now (λ q. is_way l q.0 q.1) c.loop-v.last) all c.loop-v.invariant.told
+    let all : c.loop-v.v ≡ 2 * length c.args.network.now.segments = omega (arith, c.segments-v-end.ensures.value, c.loop-v-test.false) in
+    subst (λ (n : ℕ). AreRowsTold (vertices_of c.args.network.now) c.args.rows.now n c.loop-v.table) all c.loop-v.invariant.told

@@ -1,9 +1,8 @@
 use Rattle.std.proofs.Common.{◌≡◌, All, map, take}
 use Rattle.std.specs.Option.{ForSome}
 use Rattle.edge_graph.specs.NetworkView.{vertices_of}
-use Rattle.metric_make.specs.LastRows.{AreSpeedsTold}
 use Rattle.metric_make.specs.MetricOf.{IsShort, vertex_cost}
-use Rattle.metric_make.specs.TrafficRows.{is_way}
+use Rattle.metric_make.specs.RowsOfWays.{AreRowsTold}
 use Rattle.search_graph.specs.RoadCosts.{road_cost_ops}
 use Rattle.metric_make.proofs.under_speeds.costs_by.Given as goal
 
@@ -13,5 +12,5 @@ invariant-loop-v l = record {
   paid : l.costs ≡ take l.v (map (vertex_cost l.network.profile.by_distance l.rows) (vertices_of l.network));
   unit : All (λ o. ForSome o (λ x. road_cost_ops.units x 1)) l.costs;
   short : All (λ o. ForSome o IsShort) l.costs;
-  told : AreSpeedsTold l.rows (λ q. is_way (take l.v (vertices_of l.network)) q.0 q.1) l.last;
+  told : AreRowsTold (vertices_of l.network) l.rows l.v l.table;
 }

@@ -1,4 +1,4 @@
-use Rattle.std.proofs.Common.{length, ap, ◌∙◌}
+use Rattle.std.proofs.Common.{ℕ, length, sym, subst, ap, ◌∙◌}
 use Rattle.std.specs.Option.{ForSome}
 use Rattle.std.proofs.lemmas.List.{length-map}
 use Rattle.std.proofs.lemmas.Option.{none-some}
@@ -7,6 +7,7 @@ use Rattle.road_segments.specs.Laws.{length-vertices}
 use Rattle.search_graph.specs.RoadCosts.{road_cost_ops}
 use Rattle.metric_make.specs.CopyLaws.{All-with_copies}
 use Rattle.metric_make.specs.MetricOf.{IsShort, vertex_cost}
+use Rattle.metric_make.specs.RowsOfWays.{AreRowsTold}
 use Rattle.metric_make.proofs.under_speeds.vertices_under.Goals as goal
 
 -- there is a cost for each vertex of the network
@@ -25,4 +26,7 @@ returns-clause-short c =
     rw c.in_ok-costs.ensures (All-with_copies c.args.network.now (λ o. ForSome o IsShort) (λ x e. absurd (none-some x e)) c.in_ok-ordinary.ordinary c.in_ok-ordinary.ensures.short)
 
 pub returns-clause-unmatched : goal.returns-clause-unmatched
-returns-clause-unmatched c = c.in_ok-ordinary.ensures.told.total
+returns-clause-unmatched c =
+    let vs = vertices_of c.args.network.now in
+    c.unmatched-unmatched.ensures vs c.args.rows.now
+    (subst (λ (n : ℕ). AreRowsTold vs c.args.rows.now n c.costs_by.new.table) (sym (length-vertices c.args.network.now.segments)) c.in_ok-ordinary.ensures.told)
