@@ -11,17 +11,18 @@ the making of the costs in. The same file once more changes nothing, so it takes
 too, as the customization by itself. And the same file with a faulty row behind it is read to its end and refused, behind a line
 without rows as the file itself is: what the file takes beyond that is told as the publication without its reading.
 
-The program makes a thread for each processor that it may run on, so it is held to as many as are named. Told are, for
-each kind of line, the processor seconds of all threads and the time by the clock, the least of the repeats, and the
-same of the customization by itself; times by the clock mean something only where as many processors are free.
-
-The baseline of overlays (overlays/, or the program that OVERLAYS names: segments, turns, costs of two words, cells,
-cliques, in Rust without proofs) is run on each map in between, and its lines that tell of customization or of memory
-are shown.
+The program makes a thread for each processor that it may run on, so it is held to as many as are named. The baseline of
+overlays (overlays/, or the program that OVERLAYS names: segments, turns, costs of two words, cells, cliques, in Rust without
+proofs) is run before each turn, and tells what it takes to customize all cells, in one thread. Told are, for each kind of line,
+whole and in these parts, the processor seconds of all threads and the time by the clock, the least of the turns, and the median
+of the turns' ratios of the clock to the baseline's time, since machines change their speed. Times by the clock mean something
+only where as many processors are free.
 """
 import argparse
 import os
 import random
+import re
+import statistics
 import tempfile
 import time
 
@@ -30,10 +31,11 @@ import common
 PROCESSORS = sorted(os.sched_getaffinity(0))
 
 
-def lines_of(overlays, opl, settings):
-    """What the baseline of overlays tells of customization and of memory."""
+def of_overlays(overlays, opl, settings):
+    """The seconds of the baseline's customization, and the megabytes at its peak."""
     words = [overlays, opl, settings, "--pair", "--queries", "1", "--budget", "0"]
-    return [line for line in common.run(words, [])[1].decode().splitlines() if "customiz" in line or "memory" in line]
+    text = common.run(words, [])[1].decode()
+    return [float(re.search(what, text, re.M)[1]) for what in (r"^customization: ([\d.]+) s", r"([\d.]+) MB at its peak")]
 
 
 def pairs_of(opl):
@@ -67,30 +69,50 @@ def taken(session, line):
     """What a line takes, of all processors and by the clock; its reply, and the memory."""
     began = time.monotonic()
     reply, (_, every), memory = session.line(line)
-    return every, time.monotonic() - began, memory, reply
+    return (every, time.monotonic() - began), memory, reply
 
 
-def measure(program, opl, settings, processors, repeats, files):
+def less(one, other):
+    """What the first of two lines takes more."""
+    return tuple(a - b for a, b in zip(one[0], other[0]))
+
+
+def turn(session, line, unread):
+    """What a line takes, and what of it is behind its reading, and its customization; the memory, and the reply."""
+    session.line("TRAFFIC - -")
+    told, again = taken(session, line), taken(session, line)
+    session.line("TRAFFIC - -")
+    refused = taken(session, unread)
+    return (told[0], less(told, refused), less(told, again)), told[1], told[2]
+
+
+def tell(kind, turns, others):
+    """Tells of the turns of a kind of line, beside the baseline's seconds before each of them."""
+    print(f"    {kind}: {turns[0][2][-40:]}")
+    for which, part in enumerate(["in all", "beyond its reading", "its customization by itself"]):
+        times = [it[0][which] for it in turns]
+        least = [min(it[clock] for it in times) for clock in (0, 1)]
+        ratio = statistics.median(it[1] / other for it, other in zip(times, others))
+        print(f"      {part}: {least[0]:.4f} s of processors, {least[1]:.4f} s by the clock, ratio of turns {ratio:.2f}")
+    held = ", ".join("%.1f %.1f %.1f" % it[1] for it in turns[:2])
+    print(f"      held before, at the peak, after: {held} MB", flush=True)
+
+
+def measure(program, overlays, opl, given, processors, files):
     os.sched_setaffinity(0, PROCESSORS[:processors])
     began = time.monotonic()
-    session = common.Session([program, "ask", opl, settings])
+    session = common.Session([program, "ask", opl, given.settings])
     by_clock, (start, peak) = time.monotonic() - began, (session.seconds()[1], session.megabytes()[1])
     print(f"  {processors} processors: start {start:.3f} s of processors, {by_clock:.3f} s by the clock, "
           f"peak {peak:.1f} MB")
     for kind, line in [("no change", "TRAFFIC - -"), *((kind, f"TRAFFIC {name} -") for kind, name in files)]:
-        told, again, refused = [], [], []
         unread = f"TRAFFIC {refused_of(line.split()[1])} -" if kind != "no change" else "TRAFFIC"
-        for _ in range(repeats):
-            session.line("TRAFFIC - -")
-            told.append(taken(session, line))
-            again.append(taken(session, line))
-            session.line("TRAFFIC - -")
-            refused.append(taken(session, unread))
-        least, less, read = ([min(it[which] for it in turns) for which in (0, 1)] for turns in (told, again, refused))
-        held = ", ".join("%.1f %.1f %.1f" % it[2] for it in told[:2])
-        print(f"    {kind}: {least[0]:.4f} s of processors, {least[1]:.4f} s by the clock; customization by itself "
-              f"{least[0] - less[0]:.4f} s, {least[1] - less[1]:.4f} s; publication without its reading "
-              f"{least[0] - read[0]:.4f} s, {least[1] - read[1]:.4f} s; held before, at the peak, after: {held} MB; {told[0][3][-40:]}")
+        others, turns = [], []
+        for _ in range(given.repeats):
+            others.append(of_overlays(overlays, opl, given.settings))
+            turns.append(turn(session, line, unread))
+        tell(kind, turns, [seconds for seconds, _ in others])
+        print(f"      overlays: {min(others)[0]:.4f} s, peak {others[0][1]:.1f} MB")
     session.end()
 
 
@@ -105,9 +127,7 @@ def measure_all(given, program, overlays):
                 drawn = random.Random(1).sample(pairs, min(count // 2, len(pairs)))
                 files.append((f"{count} rows", write_rows(f"{folder}/{count}.csv", drawn)))
             for processors in given.processors.split(","):
-                measure(program, opl, given.settings, int(processors), given.repeats, files)
-                for line in lines_of(overlays, opl, given.settings):
-                    print("    overlays:", line)
+                measure(program, overlays, opl, given, int(processors), files)
 
 
 def main():

@@ -229,7 +229,7 @@ fn run<C: Cost>(net: &Network, o: &Options) {
     let t = Instant::now();
     let (cliques, levels) = crp::customize(&f, &g);
     let custom = t.elapsed().as_secs_f64();
-    println!("customization: {custom:.3} s, by level {levels:.3?}");
+    println!("customization: {custom:.4} s, by level {levels:.3?}");
     println!(
         "memory: {:.1} MB now, {:.1} MB at its peak",
         megabytes("VmRSS"),
