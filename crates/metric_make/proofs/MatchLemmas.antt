@@ -30,7 +30,7 @@ module _ (vs : List Vertex) (v : ℕ) (x : Vertex) (at : slice_get vs v ≡ Some
   is_way-more tail head =
       list_any_more (goes tail head) vs v x (slice_get_within vs v x at) ∙ ap (λ (y : Vertex). is_way (take v vs) tail head || goes tail head y) (get_or_from_slice_get vs v x x at)
 
-  -- one that is permitted is a way between its nodes
+  -- one that is permitted is one way more, between its nodes
   pub is_way-permitted : x.permitted ≡ true → (tail head : ℤ) → x.tail ≡ tail → x.head ≡ head → (q : ℤ × ℤ) → is_way (take (v + 1) vs) q.0 q.1 ≡ (is_way (take v vs) q.0 q.1 || pair_eq (tail, head) q)
   is_way-permitted permitted tail head from to q =
       let was = is_way (take v vs) q.0 q.1 in
@@ -39,12 +39,13 @@ module _ (vs : List Vertex) (v : ℕ) (x : Vertex) (at : slice_get vs v ≡ Some
       ∙ ap (λ (z : ℤ). was || (int_eq z q.0 && int_eq x.head q.1)) from
       ∙ ap (λ (z : ℤ). was || (int_eq tail q.0 && int_eq z q.1)) to
 
+  -- which is one among all
   pub way-permitted : x.permitted ≡ true → is_way vs x.tail x.head ≡ true
   way-permitted permitted =
       let there = ap (goes x.tail x.head) (get_or_from_slice_get vs v x x at) ∙ and_from x.permitted (pair_eq (x.tail, x.head) (x.tail, x.head)) permitted (pair_eq-itself (x.tail, x.head)) in
       list_any_at (goes x.tail x.head) vs v x (slice_get_within vs v x at) there
 
-  -- and one that is not is none
+  -- one that is not permitted is none
   pub is_way-closed : x.permitted ≡ false → (q : ℤ × ℤ) → is_way (take (v + 1) vs) q.0 q.1 ≡ is_way (take v vs) q.0 q.1
   is_way-closed closed q =
       let was = is_way (take v vs) q.0 q.1 in

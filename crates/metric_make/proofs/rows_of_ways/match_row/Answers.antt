@@ -1,5 +1,5 @@
 -- A row is the last for its nodes where they are those of a way, and is counted where they are not.
-use Rattle.std.proofs.Common.{◌≡◌, ℕ, None, Some, Option, get_or, pos, arith, rules, refl, sym, subst, FitsSigned, w64}
+use Rattle.std.proofs.Common.{◌≡◌, ℕ, None, Some, Option, get_or, pos, rules, refl, sym, subst, FitsSigned, w64}
 use Rattle.std.specs.HashMap.{get, WritesThrough}
 use Rattle.std.specs.List.{slice_get}
 use Rattle.std.specs.Option.{IsSome}

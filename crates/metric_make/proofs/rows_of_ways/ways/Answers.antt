@@ -1,5 +1,5 @@
 -- The nodes of a permitted vertex are put in, and a closed one has none.
-use Rattle.std.proofs.Common.{◌≡◌, ℕ, ℤ, ◌+◌, cond, Bool, List, Option, Some, None, take, arith, rules, sym, ap, ◌∙◌, FitsSigned, w64}
+use Rattle.std.proofs.Common.{◌≡◌, ℤ, ◌+◌, cond, Bool, List, Some, None, take, arith, rules, sym, ap, ◌∙◌, FitsSigned, w64}
 use Rattle.std.specs.HashMap.{get}
 use Rattle.std.proofs.lemmas.Int.{to_z-of_z}
 use Rattle.std.proofs.lemmas.List.{take_all}

@@ -1,5 +1,5 @@
 -- A vertex that is permitted has matched the rows for its nodes.
-use Rattle.std.proofs.Common.{◌≡◌, ◌+◌, true, [], List, length, take, arith, rules, sym, subst, ap, ap₂, ◌∙◌, FitsSigned, w64}
+use Rattle.std.proofs.Common.{◌≡◌, true, [], List, length, take, arith, rules, sym, subst, ap, ap₂, ◌∙◌, FitsSigned, w64}
 use Rattle.std.specs.Prelude.{◌||◌}
 use Rattle.std.proofs.lemmas.Bool.{eqb-true}
 use Rattle.std.proofs.lemmas.Int.{to_z-of_z}
