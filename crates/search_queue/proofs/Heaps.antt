@@ -15,7 +15,7 @@ use Rattle.search_queue.specs.Queued.{Adds, NoneBelow, IsLeastKey, GivesLeast, e
 use Rattle.search_queue.specs.Ranked.{AreNear, ranked_cmp, ranked_of}
 use Rattle.search_queue.specs.declared.rank_heap.Ranked.{Ranked}
 
-nothing : {E : Type 0} (x : E) → Contains [] x → ⊥
+pub nothing : {E : Type 0} (x : E) → Contains [] x → ⊥
 nothing x (k, lt, is) = omega arith
 
 -- what a permutation of e and the rest has
@@ -23,10 +23,10 @@ module _ {E : Type 0} where
   pub Contains-first : (e : E) (xs : List E) → Contains (e ∷ xs) e
   Contains-first e xs = Contains-append_left (e ∷ []) xs e (Contains-push [] e)
 
-  Contains-rest : (e x : E) (xs : List E) → Contains xs x → Contains (e ∷ xs) x
+  pub Contains-rest : (e x : E) (xs : List E) → Contains xs x → Contains (e ∷ xs) x
   Contains-rest e x xs h = Contains-append_right (e ∷ []) xs x h
 
-  Contains-cases : (e x : E) (xs : List E) → Contains (e ∷ xs) x → (x ≡ e) ⊎ Contains xs x
+  pub Contains-cases : (e x : E) (xs : List E) → Contains (e ∷ xs) x → (x ≡ e) ⊎ Contains xs x
   Contains-cases e x xs h =
       elim (Contains-append_cases (e ∷ []) xs x h) [
         | inl k ↦ elim (Contains-push_cases [] e x k) [ inl n ↦ absurd (nothing x n) | inr q ↦ inl (sym q) ]

@@ -1,5 +1,5 @@
 -- A heap of ranks and a heap of other keys as one queue.
-use Rattle.std.proofs.Common.{◌≡◌, ℕ, ◌≤◌, true, false, Option, Some, List, ◌∷◌, ◌++◌, refl, sym, subst, inl, arith}
+use Rattle.std.proofs.Common.{◌≡◌, ℕ, ◌<◌, ◌≤◌, true, false, Option, Some, List, [], ◌∷◌, ◌++◌, refl, sym, ◌∙◌, ap, subst, inl, inr, arith}
 use Rattle.std.specs.List.{Contains, All}
 use Rattle.std.specs.Prelude.{map}
 use Rattle.std.specs.List.Sorted.{IsPermutation}
@@ -9,18 +9,21 @@ use Rattle.std.specs.declared.cmp.Ordering.{Ordering}
 use Rattle.std.specs.declared.cmp.Ordering.TheVariants.{Less, Equal, Greater}
 use Rattle.std.proofs.lemmas.Bool.{true≢false}
 use Rattle.std.proofs.lemmas.Bool.Decides.{nat_tests}
-use Rattle.std.proofs.lemmas.List.Elements.{All-append, All-cons, All-tail, All-contains, All-contains_itself, All-map, All-weaker}
+use Rattle.std.proofs.lemmas.List.Elements.{Contains-append_left, Contains-append_right, All-append, All-cons, All-tail, All-contains, All-contains_itself, All-map, All-weaker}
 use Rattle.std.proofs.lemmas.List.Sorted.{All-permutation, IsPermutation-append_left, IsPermutation-append_right, IsPermutation-map, IsPermutation-middle, IsPermutation-sym, IsPermutation-trans, length_permutation}
 use Rattle.search_graph.specs.Costs.{CostOps, CostLaws, NoDearer}
 use Rattle.search_graph.specs.Ranks.{AreRanks}
 use Rattle.search_graph.specs.OrderLaws.{le_from_not_less, le_trans}
-use Rattle.search_queue.specs.Queued.{Adds, TakesLeast, NoneBelow, IsLeastKey, GivesLeast, IsRank, AreRanked, ranked_entry}
-use Rattle.search_queue.proofs.Heaps.{Adds-permutation}
+use Rattle.search_queue.specs.Queued.{Adds, HasCheaper, TakesLeast, NoneBelow, IsLeastKey, GivesLeast, IsRank, AreRanked, ranked_entry}
+use Rattle.search_queue.proofs.Heaps.{Adds-permutation, Contains-cases, Contains-first, Contains-rest, nothing}
 
 not_gt_from_lt : (r : Ordering) → is_lt r ≡ true → is_gt r ≡ false
 not_gt_from_lt Less h = refl
 not_gt_from_lt Equal h = absurd (true≢false (sym h))
 not_gt_from_lt Greater h = absurd (true≢false (sym h))
+
+gt_from_less : (m n : ℕ) → n < m → is_gt (nat_cmp m n) ≡ true
+gt_from_less m n h = grind (arith, nat_tests)
 
 not_gt_from_le : (m n : ℕ) → m ≤ n → is_gt (nat_cmp m n) ≡ false
 not_gt_from_le m n h = grind (arith, nat_tests)
@@ -28,6 +31,14 @@ not_gt_from_le m n h = grind (arith, nat_tests)
 -- what holds of each element that two things hold of
 All-both : {X : Type 0} (P Q R : X → Type 0) → ((x : X) → P x → Q x → R x) → (xs : List X) → All P xs → All Q xs → All R xs
 All-both P Q R both xs p q = All-weaker (Contains xs) R (λ x k. both x (All-contains P xs x p k) (All-contains Q xs x q k)) xs (All-contains_itself xs)
+
+-- what is made of each element has what is made of one
+Contains-mapped : {X Y : Type 0} (f : X → Y) (xs : List X) (x : X) → Contains xs x → Contains (map f xs) (f x)
+Contains-mapped f [] x h = absurd (nothing x h)
+Contains-mapped f (y ∷ ys) x h = elim (Contains-cases y x ys h) [
+  | inl q ↦ subst (λ z. Contains (map f (y ∷ ys)) (f z)) (sym q) (Contains-first (f y) (map f ys))
+  | inr k ↦ Contains-rest (f y) (f x) (map f ys) (Contains-mapped f ys x k)
+]
 
 -- the entry that is given up was there
 given_among : {K : Type 0} (cmp : K → K → Ordering) (old new : List (K × ℕ)) (e : K × ℕ) → GivesLeast cmp old new e → Contains old e
@@ -89,6 +100,21 @@ module _ {C : Type 0} {ops : CostOps C} (laws : CostLaws ops) {ranked : C → Op
   -- two ranks tell which of their costs is no dearer
   pub rank_beyond : (limit : C) (last r : ℕ) → ranked limit ≡ Some last → IsRank ranked unranked r → last ≤ r → NoDearer ops limit (unranked r)
   rank_beyond limit last r h k le = subst (λ (o : Ordering). is_gt o ≡ false) (sym (ranks.ordered limit (unranked r) last r h k)) (not_gt_from_le last r le)
+
+  -- or that the limit is dearer
+  pub rank_below : (limit : C) (last r : ℕ) → ranked limit ≡ Some last → IsRank ranked unranked r → r < last → ¬ NoDearer ops limit (unranked r)
+  rank_below limit last r h k lt up = true≢false (sym (gt_from_less last r lt) ∙ ap is_gt (sym (ranks.ordered limit (unranked r) last r h k)) ∙ up)
+
+  -- where the limit is dearer than the least rank's cost, that rank's entry tells so
+  pub ranks_cheaper : (limit : C) (r : ℕ) (xs : List (ℕ × ℕ)) → IsLeastKey nat_cmp xs r → ¬ NoDearer ops limit (unranked r) → HasCheaper ops (map (ranked_entry unranked) xs) limit
+  ranks_cheaper limit r xs h not = (unranked r, h.vertex, Contains-mapped (ranked_entry unranked) xs (r, h.vertex) h.among, not)
+
+  -- what one of the two has the queue has
+  pub cheaper_left : (limit : C) (xs : List (ℕ × ℕ)) (ys : List (C × ℕ)) → HasCheaper ops (map (ranked_entry unranked) xs) limit → HasCheaper ops (map (ranked_entry unranked) xs ++ ys) limit
+  cheaper_left limit xs ys h = (h.0, h.1, Contains-append_left (map (ranked_entry unranked) xs) ys (h.0, h.1) h.2, h.3)
+
+  pub cheaper_right : (limit : C) (xs : List (ℕ × ℕ)) (ys : List (C × ℕ)) → HasCheaper ops ys limit → HasCheaper ops (map (ranked_entry unranked) xs ++ ys) limit
+  cheaper_right limit xs ys h = (h.0, h.1, Contains-append_right (map (ranked_entry unranked) xs) ys (h.0, h.1) h.2, h.3)
 
   -- where nothing of both is dearer than the limit, nothing of the queue is
   pub both_beyond : (limit : C) (xs : List (ℕ × ℕ)) (ys : List (C × ℕ)) → All (λ (e : ℕ × ℕ). NoDearer ops limit (unranked e.0)) xs → All (λ (e : C × ℕ). NoDearer ops limit e.0) ys →

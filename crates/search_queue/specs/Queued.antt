@@ -17,6 +17,10 @@ pub record TakesLeast {C : Type 0} (ops : CostOps C) (old new : List (C × ℕ))
   pub shorter : length new + 1 ≡ length old
   pub least : (x : C × ℕ) → Contains old x → NoDearer ops e.0 x.0
 
+-- an entry has a key that is less than k
+abbrev pub HasCheaper : {C : Type 0} → CostOps C → List (C × ℕ) → C → Type 0
+HasCheaper {C} ops entries k = (d : C) × (v : ℕ) × Contains entries (d, v) × ¬ NoDearer ops k d
+
 -- The heaps of the queue. What follows serves the queue's own functions alone.
 
 -- no key of the entries is less than k

@@ -1,12 +1,12 @@
 //! The queue of a search: keys and vertices, the least key first. A key that has a rank stands by it, so that two of them are
 //! compared as two numbers; the others stand as they are.
 
-ghost use Rattle.std.specs.Prelude.{◌≡◌, ◌≢◌, ℕ, [], IfSome, IfNone, OnOk};
+ghost use Rattle.std.specs.Prelude.{◌≡◌, ◌≢◌, ℕ, [], map, IfSome, IfNone, OnOk};
 ghost use Rattle.std.specs.Bool.{OnTrue, OnFalse};
 ghost use Rattle.std.specs.List.{All, Contains};
 ghost use Rattle.std.specs.Ordering.{nat_cmp};
 ghost use Rattle.search_graph.specs.Costs.{NoDearer};
-ghost use Rattle.search_queue.specs.Queued.{Adds, TakesLeast, NoneBelow, IsRank, AreRanked};
+ghost use Rattle.search_queue.specs.Queued.{Adds, HasCheaper, TakesLeast, NoneBelow, IsRank, AreRanked, ranked_entry};
 
 use crate::key_heap::KeyHeap;
 use crate::rank_heap::RankHeap;
@@ -73,6 +73,7 @@ impl<C: Cost> Queue<C> {
     /// Whether no key is less than `limit`.
     pub fn is_beyond(&self, limit: C) -> bool
         ensures yes { OnTrue result ((k : _) (v : ℕ) → Contains self.now (k, v) → NoDearer C.ops limit k) }
+        ensures no { OnFalse result (HasCheaper C.ops self.now limit) }
     {
         are_ranks_beyond(&self.ranked, limit) && are_keys_beyond(&self.others, limit)
     }
@@ -96,7 +97,8 @@ impl<C: Cost> Queue<C> {
 #[inline(always)]
 fn are_ranks_beyond<C: Cost>(ranked: &RankHeap, limit: C) -> bool
     requires { AreRanked C.ranked C.unranked ranked.now }
-    ensures { OnTrue result (All (λ (e : ℕ × ℕ). NoDearer C.ops limit (C.unranked e.0)) ranked.now) }
+    ensures yes { OnTrue result (All (λ (e : ℕ × ℕ). NoDearer C.ops limit (C.unranked e.0)) ranked.now) }
+    ensures no { OnFalse result (HasCheaper C.ops (map (ranked_entry C.unranked) ranked.now) limit) }
 {
     match ranked.least() {
         Some(least) => is_rank_beyond(least, limit),
@@ -108,7 +110,8 @@ fn are_ranks_beyond<C: Cost>(ranked: &RankHeap, limit: C) -> bool
 #[inline(always)]
 fn is_rank_beyond<C: Cost>(rank: u64, limit: C) -> bool
     requires { IsRank C.ranked C.unranked rank }
-    ensures { OnTrue result (NoDearer C.ops limit (C.unranked rank)) }
+    ensures yes { OnTrue result (NoDearer C.ops limit (C.unranked rank)) }
+    ensures no { OnFalse result (¬ NoDearer C.ops limit (C.unranked rank)) }
 {
     match limit.rank() {
         Some(last) => last <= rank,
@@ -119,7 +122,8 @@ fn is_rank_beyond<C: Cost>(rank: u64, limit: C) -> bool
 // Whether no key is less than `limit`.
 #[inline(always)]
 fn are_keys_beyond<C: Cost>(others: &KeyHeap<C>, limit: C) -> bool
-    ensures { OnTrue result (All (λ e. NoDearer C.ops limit e.0) others.now) }
+    ensures yes { OnTrue result (All (λ e. NoDearer C.ops limit e.0) others.now) }
+    ensures no { OnFalse result (HasCheaper C.ops others.now limit) }
 {
     match others.least() {
         Some(least) => !least.cmp(&limit).is_lt(),
