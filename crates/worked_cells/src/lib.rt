@@ -13,6 +13,8 @@ mod columns;
 #[cfg(test)]
 mod jobs;
 #[cfg(test)]
+mod keys;
+#[cfg(test)]
 mod partitions;
 #[cfg(test)]
 mod queries;
