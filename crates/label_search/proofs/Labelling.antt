@@ -13,7 +13,7 @@ use Rattle.step_search.specs.Spaces.{Space, HasHop, StepBy, Path, IsSpace}
 use Rattle.step_search.specs.Paths.{IsPathTo, IsLeastPathCost}
 use Rattle.label_search.specs.Labelled.{Held, IsEnd, IsExpanded, IsFront, IsReached, LabelWithin, Nothing, Offers}
 use Rattle.label_search.specs.Least.{AreLeast, HasArcsAlone}
-use Rattle.search_queue.specs.Queued.{TakesLeast}
+use Rattle.label_search.specs.Waiting.{TakesCheapest}
 
 pub nothing : {E : Type 0} (x : E) → Contains [] x → ⊥
 nothing x (k, lt, is) = omega arith
@@ -78,9 +78,9 @@ module _ {C : Type 0} (ops : CostOps C) (S : Space C) (start : ℕ) where
     Front-begun new before after size none may o = record {
       size = o.size ∙ size;
       begun = λ m. o.found;
-      reached = λ v d e. elim (o.came v d e) [ inl old ↦ absurd (none v d old) | inr p ↦ (may, [], (p.0, p.1)) ];
+      reached = λ v d e. elim (o.came v d e) [ inl old ↦ absurd (none v d old.0) | inr p ↦ (may, [], (p.0, p.1)) ];
       goes_on = λ v d e. elim (o.came v d e) [
-        | inl old ↦ absurd (none v d old)
+        | inl old ↦ absurd (none v d old.0)
         | inr p ↦ elim p.2 [ inl q ↦ inl q | inr end ↦ inr (inr (end_expanded S ops new v d end)) ]
       ];
     }
@@ -92,12 +92,12 @@ module _ {C : Type 0} (ops : CostOps C) (S : Space C) (start : ℕ) where
       size = o.size ∙ front.size;
       begun = λ m. o.falls start ops.zero (front.begun m);
       reached = λ u d e. elim (o.came u d e) [
-        | inl old ↦ front.reached u d old
+        | inl old ↦ front.reached u d old.0
         | inr p ↦ subst (λ (x : C). IsReached ops S start u x) (sym p.1) (subst (λ (x : ℕ). IsReached ops S start x c) (sym p.0) here)
       ];
       goes_on = λ u d e. elim (o.came u d e) [
-        | inl old ↦ elim (front.goes_on u d old) [
-          | inl q ↦ inl (o.queued (d, u) q)
+        | inl old ↦ elim (front.goes_on u d old.0) [
+          | inl q ↦ inl (old.1 q)
           | inr r ↦ elim r [ inl h ↦ inr (inl h) | inr x ↦ inr (inr (λ w s hop. o.falls w (ops.plus d s) (x w s hop))) ]
         ]
         | inr p ↦ elim p.2 [ inl q ↦ inl q | inr end ↦ inr (inr (end_expanded S ops new u d end)) ]
@@ -105,19 +105,19 @@ module _ {C : Type 0} (ops : CostOps C) (S : Space C) (start : ℕ) where
     }
 
     -- it takes an entry from the queue
-    pub Front-popped : (before after : List (C × ℕ)) (v : ℕ) (c : C) → IsFront ops S start labels before Nothing → TakesLeast ops before after (c, v) → IsFront ops S start labels after (Held v c)
+    pub Front-popped : (before after : List (C × ℕ)) (v : ℕ) (c : C) → IsFront ops S start labels before Nothing → TakesCheapest ops before after (c, v) → IsFront ops S start labels after (Held v c)
     Front-popped before after v c front takes = record {
       size = front.size;
       begun = front.begun;
       reached = front.reached;
       goes_on = λ u d e. elim (front.goes_on u d e) [
-        | inl q ↦ elim ((takes.taken (d, u)).0 q) [ inl same ↦ inr (inl (ap (λ (x : C × ℕ). x.1) same, ap (λ (x : C × ℕ). x.0) same)) | inr stays ↦ inl stays ]
+        | inl q ↦ elim (takes.leaves (d, u) q) [ inl same ↦ inr (inl (ap (λ (x : C × ℕ). x.1) same, ap (λ (x : C × ℕ). x.0) same)) | inr stays ↦ inl stays ]
         | inr r ↦ elim r [ inl h ↦ absurd h | inr x ↦ inr (inr x) ]
       ];
     }
 
-    pub least_popped : (before after : List (C × ℕ)) (v : ℕ) (c : C) → TakesLeast ops before after (c, v) → (k : C) (w : ℕ) → Contains after (k, w) → NoDearer ops c k
-    least_popped before after v c takes k w h = takes.least (k, w) ((takes.taken (k, w)).1 (inr h))
+    pub least_popped : (before after : List (C × ℕ)) (v : ℕ) (c : C) → TakesCheapest ops before after (c, v) → (k : C) (w : ℕ) → Contains after (k, w) → NoDearer ops c k
+    least_popped before after v c takes k w h = takes.least (k, w) (takes.among (k, w) h)
 
     -- the label of the entry has fallen since
     pub Front-passed : (queue : List (C × ℕ)) (v : ℕ) (c : C) → IsFront ops S start labels queue (Held v c) → ¬ (slice_get labels v ≡ Some (Some c)) → IsFront ops S start labels queue Nothing
@@ -151,7 +151,7 @@ module _ {C : Type 0} (ops : CostOps C) (S : Space C) (start : ℕ) where
 
 -- a label that is no dearer than the one before, and in the queue if something leads on
 pub Offers-put : {C : Type 0} {ops : CostOps C} (laws : CostLaws ops) (S : Space C) (old : List (Option C)) (before after : List (C × ℕ)) (v : ℕ) (c : C) → v < length old →
-    ((d : C) → slice_get old v ≡ Some (Some d) → NoDearer ops c d) → Contains after (c, v) ⊎ IsEnd S v → ((x : C × ℕ) → Contains before x → Contains after x) →
+    ((d : C) → slice_get old v ≡ Some (Some d) → NoDearer ops c d) → Contains after (c, v) ⊎ IsEnd S v → ((x : C × ℕ) → x.1 ≢ v → Contains before x → Contains after x) →
     Offers ops S old (set old v (Some c)) before after v c
 Offers-put {C} {ops} laws S old before after v c lt less leads stays =
     let new : List (Option C) = set old v (Some c) in
@@ -183,9 +183,8 @@ Offers-put {C} {ops} laws S old before after v c lt less leads stays =
                 | inr end ↦ inr (subst (IsEnd S) (sym p.0) end)
               ],
             )
-        | inr p ↦ inl p.1
+        | inr p ↦ inl (p.1, stays (d, u) p.0)
       ];
-      queued = stays;
     }
 
 module _ {C : Type 0} {ops : CostOps C} (laws : CostLaws ops) (S : Space C) (space : IsSpace ops S) (start : ℕ) where

@@ -1,3 +1,4 @@
+mod Frontiers
 mod Labelling
 mod Ranking
 mod Wording

@@ -44,5 +44,4 @@ pub record Offers {C : Type 0} (ops : CostOps C) (S : Space C) (old new : List (
   pub size : length new ≡ length old
   pub falls : LabelsFall ops old new
   pub found : LabelWithin ops new v c
-  pub came : (u : ℕ) (d : C) → slice_get new u ≡ Some (Some d) → (slice_get old u ≡ Some (Some d)) ⊎ ((u ≡ v) × (d ≡ c) × (Contains after (d, u) ⊎ IsEnd S u))
-  pub queued : (x : C × ℕ) → Contains before x → Contains after x
+  pub came : (u : ℕ) (d : C) → slice_get new u ≡ Some (Some d) → ((slice_get old u ≡ Some (Some d)) × (Contains before (d, u) → Contains after (d, u))) ⊎ ((u ≡ v) × (d ≡ c) × (Contains after (d, u) ⊎ IsEnd S u))

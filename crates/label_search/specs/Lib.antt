@@ -1,3 +1,4 @@
 pub mod Labelled
 pub mod Least
 pub mod Ranked
+pub mod Waiting

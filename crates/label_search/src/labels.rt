@@ -10,19 +10,23 @@ ghost use Rattle.label_search.specs.Least.{AreLeast, HasArcsAlone};
 ghost use Rattle.label_search.specs.Ranked.{AreArcRanks, IsOverRank};
 
 use crate::arc_ranks::ArcRank;
+use crate::frontier::Frontier;
 use crate::label_list::LabelList;
 use search_graph::Cost;
-use search_queue::Queue;
 use std::alloc::{AllocError, Global};
 use step_search::Steps;
 
-// An entry that was taken from the queue: a vertex, and what was its label when it came there, with that cost's rank.
+// An entry that was taken from the frontier: a vertex, and what was its label when it came there, with that cost's rank.
 #[derive(Clone, Copy, Drop)]
 struct Entry<C> {
     vertex: u32,
     cost: C,
     rank: Option<u64>,
 }
+
+// From so many arcs a vertex on the search keeps what waits in a tree. A vertex is then pushed two to four times, so that half and
+// more of a queue's entries are taken for nothing; with two or three arcs few are, and the queue is faster.
+const DENSE: usize = 4;
 
 // What a search goes over: the steps, and by the numbers of their arcs the ranks of these.
 #[derive(Drop)]
@@ -33,19 +37,20 @@ struct Ground<'a, T> {
 
 /// What the cheapest ways so far cost, by vertex, and from where the search has still to go on.
 ///
-/// A label only falls. An entry of the queue whose vertex's label has fallen since is passed over. It costs eight bytes and
-/// the size of a `C` a vertex, and 16 bytes an entry of the queue whose cost has a rank.
+/// A label only falls. An entry whose vertex's label has fallen since is passed over, where it is still there. It costs eight
+/// bytes and the size of a `C` a vertex, 16 bytes a vertex more where a space is dense, and 16 bytes an entry of the queue whose
+/// cost has a rank.
 pub struct Labels<C: Cost> {
     /// By vertex: its label, if a way to it was found.
     pub list: LabelList<C>,
-    queue: Queue<C>,
+    frontier: Frontier<C>,
 }
 
 impl<C: Cost> Drop for Labels<C> {
     fn drop(self) {
         let Labels {
             list: _list,
-            queue: _queue,
+            frontier: _frontier,
         } = self;
     }
 }
@@ -55,7 +60,7 @@ impl<C: Cost> Labels<C> {
     pub fn new(alloc: Global) -> Labels<C> {
         Labels {
             list: LabelList::new(alloc),
-            queue: Queue::new(alloc),
+            frontier: Frontier::new(alloc),
         }
     }
 
@@ -79,7 +84,11 @@ impl<C: Cost> Labels<C> {
         requires start { start < count }
         ensures { OnOk result (AreLeast C.ops (T.space steps.now) start self.new.list) }
     {
-        self.queue.clear();
+        self.frontier.restart(if is_dense(arcs.len(), count) {
+            count
+        } else {
+            0
+        })?;
         self.list.restart(count)?;
         let ground = Ground { steps, arcs };
         self.begin(&ground, start)?;
@@ -94,7 +103,7 @@ impl<C: Cost> Labels<C> {
         requires size { length self.old.list ≡ (T.space ground.now.steps.now).vertices }
         requires none { (v : ℕ) (d : C) → ¬ (slice_get self.old.list v ≡ Some (Some d)) }
         requires start { start < (T.space ground.now.steps.now).vertices }
-        ensures { OnOk result (IsFront C.ops (T.space ground.now.steps.now) start self.new.list self.new.queue Nothing) }
+        ensures { OnOk result (IsFront C.ops (T.space ground.now.steps.now) start self.new.list self.new.frontier Nothing) }
     {
         if !ground.steps.may_begin(start) {
             return Ok(());
@@ -103,18 +112,18 @@ impl<C: Cost> Labels<C> {
         Ok(())
     }
 
-    // Goes on from one entry of the queue after another, the cheapest first, until none is left. A turn takes an entry that took
+    // Goes on from one entry of the frontier after another, the cheapest first, until none is left. A turn takes an entry that took
     // memory, so there are never as many turns as numbers.
     fn go_on<T: Steps<C>>(&mut self, ground: &Ground<T>, start: u32) -> Result<(), AllocError>
         requires ready { T.ready ground.now.steps.now }
         requires space { IsSpace C.ops (T.space ground.now.steps.now) }
         requires alone { HasArcsAlone (T.space ground.now.steps.now) }
         requires arcs { AreArcRanks C.ops C.ranked (T.space ground.now.steps.now) ground.now.arcs.now }
-        requires front { IsFront C.ops (T.space ground.now.steps.now) start self.old.list self.old.queue Nothing }
+        requires front { IsFront C.ops (T.space ground.now.steps.now) start self.old.list self.old.frontier Nothing }
         ensures { OnOk result (AreLeast C.ops (T.space ground.now.steps.now) start self.new.list) }
     {
         for _ in 0..u64::MAX {
-            match self.queue.pop() {
+            match self.frontier.pop() {
                 None => return Ok(()),
                 Some(least) => {
                     let entry = Entry {
@@ -140,10 +149,10 @@ impl<C: Cost> Labels<C> {
         requires space { IsSpace C.ops (T.space ground.now.steps.now) }
         requires alone { HasArcsAlone (T.space ground.now.steps.now) }
         requires arcs { AreArcRanks C.ops C.ranked (T.space ground.now.steps.now) ground.now.arcs.now }
-        requires front { IsFront C.ops (T.space ground.now.steps.now) start self.old.list self.old.queue (Held entry.vertex entry.cost) }
-        requires least { (k : C) (w : ℕ) → Contains self.old.queue (k, w) → NoDearer C.ops entry.cost k }
+        requires front { IsFront C.ops (T.space ground.now.steps.now) start self.old.list self.old.frontier (Held entry.vertex entry.cost) }
+        requires least { (k : C) (w : ℕ) → Contains self.old.frontier (k, w) → NoDearer C.ops entry.cost k }
         requires rank { entry.rank ≡ C.ranked entry.cost }
-        ensures { OnOk result (IsFront C.ops (T.space ground.now.steps.now) start self.new.list self.new.queue Nothing) }
+        ensures { OnOk result (IsFront C.ops (T.space ground.now.steps.now) start self.new.list self.new.frontier Nothing) }
     {
         if !self.stands(entry) {
             return Ok(());
@@ -174,11 +183,11 @@ impl<C: Cost> Labels<C> {
         requires space { IsSpace C.ops (T.space ground.now.steps.now) }
         requires alone { HasArcsAlone (T.space ground.now.steps.now) }
         requires arcs { AreArcRanks C.ops C.ranked (T.space ground.now.steps.now) ground.now.arcs.now }
-        requires front { IsFront C.ops (T.space ground.now.steps.now) start self.old.list self.old.queue (Held entry.vertex entry.cost) }
+        requires front { IsFront C.ops (T.space ground.now.steps.now) start self.old.list self.old.frontier (Held entry.vertex entry.cost) }
         requires here { slice_get self.old.list entry.vertex ≡ Some (Some entry.cost) }
         requires units { C.ops.units entry.cost (2 ^ 28) }
         requires rank { entry.rank ≡ C.ranked entry.cost }
-        ensures { OnOk result (IsFront C.ops (T.space ground.now.steps.now) start self.new.list self.new.queue Nothing) }
+        ensures { OnOk result (IsFront C.ops (T.space ground.now.steps.now) start self.new.list self.new.frontier Nothing) }
     {
         let _count = self.list.len();
         let arcs = ground.steps.arcs(entry.vertex);
@@ -207,8 +216,8 @@ impl<C: Cost> Labels<C> {
         requires reached { IsReached C.ops (T.space ground.now.steps.now) start entry.vertex entry.cost }
         requires units { C.ops.units entry.cost (2 ^ 28) }
         requires rank { entry.rank ≡ C.ranked entry.cost }
-        requires front { IsFront C.ops (T.space ground.now.steps.now) start self.old.list self.old.queue (Held entry.vertex entry.cost) }
-        ensures front { OnOk result (IsFront C.ops (T.space ground.now.steps.now) start self.new.list self.new.queue (Held entry.vertex entry.cost)) }
+        requires front { IsFront C.ops (T.space ground.now.steps.now) start self.old.list self.old.frontier (Held entry.vertex entry.cost) }
+        ensures front { OnOk result (IsFront C.ops (T.space ground.now.steps.now) start self.new.list self.new.frontier (Held entry.vertex entry.cost)) }
         ensures falls { OnOk result (LabelsFall C.ops self.old.list self.new.list) }
         ensures found { OnOk result ((w : ℕ) (s : C) → (T.space ground.now.steps.now).Arc entry.vertex arc w s → LabelWithin C.ops self.new.list w (C.ops.plus entry.cost s)) }
     {
@@ -246,7 +255,7 @@ impl<C: Cost> Labels<C> {
         requires alone { HasArcsAlone (T.space ground.now.steps.now) }
         requires size { length self.old.list ≡ (T.space ground.now.steps.now).vertices }
         requires vertex { v < (T.space ground.now.steps.now).vertices }
-        ensures { OnOk result (Offers C.ops (T.space ground.now.steps.now) self.old.list self.new.list self.old.queue self.new.queue v cost) }
+        ensures { OnOk result (Offers C.ops (T.space ground.now.steps.now) self.old.list self.new.list self.old.frontier self.new.frontier v cost) }
     {
         if !improves(self.list.get(v), cost) {
             return Ok(());
@@ -263,15 +272,20 @@ impl<C: Cost> Labels<C> {
         requires size { length self.old.list ≡ (T.space ground.now.steps.now).vertices }
         requires vertex { v < (T.space ground.now.steps.now).vertices }
         requires less { (d : C) → slice_get self.old.list v ≡ Some (Some d) → NoDearer C.ops cost d }
-        ensures { OnOk result (Offers C.ops (T.space ground.now.steps.now) self.old.list self.new.list self.old.queue self.new.queue v cost) }
+        ensures { OnOk result (Offers C.ops (T.space ground.now.steps.now) self.old.list self.new.list self.old.frontier self.new.frontier v cost) }
     {
         self.list.put(v, cost);
         if ground.steps.arcs(v).is_empty() {
             return Ok(());
         }
-        self.queue.push(cost, v)?;
+        self.frontier.push(cost, v)?;
         Ok(())
     }
+}
+
+// Whether a space of so many vertices has many arcs a vertex.
+fn is_dense(arcs: usize, count: u32) -> bool {
+    arcs / DENSE >= count as usize
 }
 
 // Whether a label is this cost.

@@ -7,6 +7,7 @@
 #![tactic(auto)]
 
 mod arc_ranks;
+mod frontier;
 mod label_list;
 mod labels;
 

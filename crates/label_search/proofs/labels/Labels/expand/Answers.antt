@@ -35,7 +35,7 @@ loop-place-preserved g c = record {
 
 pub returns : goal.returns
 returns g c =
-    Front-expanded g.C.Cost.ops (g.T.Steps.space c.args.ground.now.steps.now) c.args.start c.loop-place.self.list c.loop-place.self.queue c.args.entry.vertex c.args.entry.cost c.loop-place.invariant.front
+    Front-expanded g.C.Cost.ops (g.T.Steps.space c.args.ground.now.steps.now) c.args.start c.loop-place.self.list c.loop-place.self.frontier c.args.entry.vertex c.args.entry.cost c.loop-place.invariant.front
     (λ w s hop. elim hop [
       | inl a ↦
           let k = get_Contains c.arcs-arcs.result a.0 (c.arcs-arcs.ensures.all a.0 w s a.1) in

@@ -6,6 +6,6 @@ use Rattle.label_search.proofs.labels.Labels.expand.Given as goal
 
 abbrev pub invariant-loop-place : goal.invariant-loop-place
 invariant-loop-place g l = record {
-  front : IsFront g.C.Cost.ops (g.T.Steps.space l.ground.steps.now) l.start l.self.list l.self.queue (Held l.entry.vertex l.entry.cost);
+  front : IsFront g.C.Cost.ops (g.T.Steps.space l.ground.steps.now) l.start l.self.list l.self.frontier (Held l.entry.vertex l.entry.cost);
   found : (k : ℕ) → k < l.place → (i w : ℕ) (s : g.row.C.Denot) → slice_get l.arcs k ≡ Some i → (g.T.Steps.space l.ground.steps.now).Arc l.entry.vertex i w s → LabelWithin g.C.Cost.ops l.self.list w (g.C.Cost.ops.plus l.entry.cost s);
 }

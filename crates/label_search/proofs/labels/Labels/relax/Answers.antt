@@ -25,5 +25,5 @@ returns-then-is_over-clause-found g c = λ w s arc.
 pub returns-in_ok-offer-in-Some-clause-front : goal.returns-in_ok-offer-in-Some-clause-front
 returns-in_ok-offer-in-Some-clause-front g c =
     let S = g.T.Steps.space c.args.ground.now.steps.now in
-    Front-offered g.C.Cost.ops S c.args.start c.args.self.now.list (Held c.args.entry.vertex c.args.entry.cost) c.offer.new.self.list c.args.self.now.queue c.offer.new.self.queue c.in-Some.hop.head c.plus.result c.requires.front c.in_ok-offer-in-Some.ensures
+    Front-offered g.C.Cost.ops S c.args.start c.args.self.now.list (Held c.args.entry.vertex c.args.entry.cost) c.offer.new.self.list c.args.self.now.frontier c.offer.new.self.frontier c.in-Some.hop.head c.plus.result c.requires.front c.in_ok-offer-in-Some.ensures
     (subst (λ x. IsReached g.C.Cost.ops S c.args.start c.in-Some.hop.head x) (sym c.plus.ensures) (reached_on g.C.Cost.ops S c.args.start c.args.entry.vertex c.in-Some.hop.head c.args.entry.cost c.in-Some.hop.cost c.requires.reached (inl (c.args.arc, c.in-Some.ensures.some))))
