@@ -77,7 +77,7 @@ fn row_for(network: &Network, rows: &[SpeedRow], table: &mut SpeedTable, v: u32)
     let (tail, head) = (network.tail(v), network.head(v));
     match table {
         SpeedTable::OfRows(last) => matching_speed(rows, last, tail, head),
-        SpeedTable::OfWays(found) => speed_of_way(rows, found, tail, head),
+        SpeedTable::OfWays(found) => speed_of_way(rows, found, v, tail, head),
     }
 }
 

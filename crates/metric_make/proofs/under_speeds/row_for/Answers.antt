@@ -1,5 +1,5 @@
 -- A vertex that is permitted has matched the rows for its nodes.
-use Rattle.std.proofs.Common.{◌≡◌, true, [], List, length, take, arith, rules, sym, subst, ap, ap₂, ◌∙◌, FitsSigned, w64}
+use Rattle.std.proofs.Common.{◌≡◌, true, [], List, length, take, arith, rules, sym, subst, ap, ◌∙◌, FitsSigned, of_z, to_z, w64}
 use Rattle.std.specs.Prelude.{◌||◌}
 use Rattle.std.proofs.lemmas.Bool.{eqb-true}
 use Rattle.std.proofs.lemmas.Int.{to_z-of_z}
@@ -56,7 +56,6 @@ speed_of_way-requires c =
     let x = get_some vs v (omega (arith, length-vertices c.args.network.now.segments, c.requires.vertex)) in
     let tail_fits : FitsSigned w64 c.tail-tail.result = search rules in
     let head_fits : FitsSigned w64 c.head-head.result = search rules in
-    let way : is_way vs c.tail-tail.result c.head-head.result ≡ true =
-    ap₂ (is_way vs) (sym (field-at (λ y. y.tail) vs v x.0 c.tail-tail.result x.1 c.tail-tail.ensures)) (sym (field-at (λ y. y.head) vs v x.0 c.head-head.result x.1 c.head-head.ensures))
-    ∙ way-permitted vs v x.0 x.1 (field-at (λ y. y.permitted) vs v x.0 true x.1 c.requires.permitted) in
-    (vs, simp (to_z-of_z, tail_fits, head_fits) way, subst (λ (t : SpeedTable). AreRowsTold vs c.args.rows.now v t) c.in-OfWays.is c.requires.told)
+    let from : x.0.tail ≡ to_z w64 (of_z w64 c.tail-tail.result) = simp (to_z-of_z, tail_fits) (field-at (λ y. y.tail) vs v x.0 c.tail-tail.result x.1 c.tail-tail.ensures) in
+    let to : x.0.head ≡ to_z w64 (of_z w64 c.head-head.result) = simp (to_z-of_z, head_fits) (field-at (λ y. y.head) vs v x.0 c.head-head.result x.1 c.head-head.ensures) in
+    (vs, x.0, x.1, field-at (λ y. y.permitted) vs v x.0 true x.1 c.requires.permitted, from, to, subst (λ (t : SpeedTable). AreRowsTold vs c.args.rows.now v t) c.in-OfWays.is c.requires.told)
