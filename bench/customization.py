@@ -13,10 +13,11 @@ without rows as the file itself is: what the file takes beyond that is told as t
 
 The program makes a thread for each processor that it may run on, so it is held to as many as are named. The baseline of
 overlays (overlays/, or the program that OVERLAYS names: segments, turns, costs of two words, cells, cliques, in Rust without
-proofs) is run before each turn, and tells what it takes to customize all cells, in one thread. Told are, for each kind of line,
-whole and in these parts, the processor seconds of all threads and the time by the clock, the least of the turns, and the median
-of the turns' ratios of the clock to the baseline's time, since machines change their speed. Times by the clock mean something
-only where as many processors are free.
+proofs) is run before each turn, and tells what it takes to customize all cells, in one thread, and beside drawn rows what only
+those take that hold a segment of theirs. Told are, for each kind of line, whole and in these parts, the processor seconds of all
+threads and the time by the clock, the least of the turns, and the median of the turns' ratios of the clock to the baseline's time
+for all cells, and for as many as drawn rows touch, since machines change their speed. Times by the clock mean something only where
+as many processors are free.
 """
 import argparse
 import os
@@ -31,11 +32,14 @@ import common
 PROCESSORS = sorted(os.sched_getaffinity(0))
 
 
-def of_overlays(overlays, opl, settings):
-    """The seconds of the baseline's customization, and the megabytes at its peak."""
-    words = [overlays, opl, settings, "--pair", "--queries", "1", "--budget", "0"]
+def of_overlays(overlays, opl, settings, rows=None):
+    """The seconds of the baseline's customization, and of that of the cells that these rows touch, if they are named; and the
+    megabytes at its peak."""
+    words = [overlays, opl, settings, "--pair", "--queries", "1", "--budget", "0", *(["--rows", rows] if rows else [])]
     text = common.run(words, [])[1].decode()
-    return [float(re.search(what, text, re.M)[1]) for what in (r"^customization: ([\d.]+) s", r"([\d.]+) MB at its peak")]
+    whole, peak = (float(re.search(what, text, re.M)[1]) for what in (r"^customization: ([\d.]+) s", r"([\d.]+) MB at its peak"))
+    touched = re.search(r"^customization of the touched cells: ([\d.]+) s", text, re.M)
+    return whole, float(touched[1]) if touched else None, peak
 
 
 def pairs_of(opl):
@@ -92,10 +96,13 @@ def tell(kind, turns, others):
     for which, part in enumerate(["in all", "beyond its reading", "its customization by itself"]):
         times = [it[0][which] for it in turns]
         least = [min(it[clock] for it in times) for clock in (0, 1)]
-        ratio = statistics.median(it[1] / other for it, other in zip(times, others))
-        print(f"      {part}: {least[0]:.4f} s of processors, {least[1]:.4f} s by the clock, ratio of turns {ratio:.2f}")
+        ratios = [statistics.median(it[1] / other[cells] for it, other in zip(times, others)) for cells in (0, 1) if others[0][cells]]
+        told = f"ratio of turns {ratios[0]:.2f}" + "".join(f", to as many cells {ratio:.2f}" for ratio in ratios[1:])
+        print(f"      {part}: {least[0]:.4f} s of processors, {least[1]:.4f} s by the clock, {told}")
     held = ", ".join("%.1f %.1f %.1f" % it[1] for it in turns[:2])
-    print(f"      held before, at the peak, after: {held} MB", flush=True)
+    print(f"      held before, at the peak, after: {held} MB")
+    touched = f", as many cells {min(other[1] for other in others):.4f} s" if others[0][1] else ""
+    print(f"      overlays: {min(other[0] for other in others):.4f} s{touched}, peak {others[0][2]:.1f} MB", flush=True)
 
 
 def measure(program, overlays, opl, given, processors, files):
@@ -105,14 +112,13 @@ def measure(program, overlays, opl, given, processors, files):
     by_clock, (start, peak) = time.monotonic() - began, (session.seconds()[1], session.megabytes()[1])
     print(f"  {processors} processors: start {start:.3f} s of processors, {by_clock:.3f} s by the clock, "
           f"peak {peak:.1f} MB")
-    for kind, line in [("no change", "TRAFFIC - -"), *((kind, f"TRAFFIC {name} -") for kind, name in files)]:
-        unread = f"TRAFFIC {refused_of(line.split()[1])} -" if kind != "no change" else "TRAFFIC"
+    for kind, name in [("no change", None), *files]:
+        line, unread = (f"TRAFFIC {name} -", f"TRAFFIC {refused_of(name)} -") if name else ("TRAFFIC - -", "TRAFFIC")
         others, turns = [], []
         for _ in range(given.repeats):
-            others.append(of_overlays(overlays, opl, given.settings))
+            others.append(of_overlays(overlays, opl, given.settings, name if kind.endswith(" rows") else None))
             turns.append(turn(session, line, unread))
-        tell(kind, turns, [seconds for seconds, _ in others])
-        print(f"      overlays: {min(others)[0]:.4f} s, peak {others[0][1]:.1f} MB")
+        tell(kind, turns, others)
     session.end()
 
 

@@ -2,13 +2,15 @@
 //! ends, and Customizable Route Planning, whose cells, cliques, queries and unpacking are those of the program.
 //!
 //!     overlays OPL SETTINGS [--queries N] [--budget SECONDS] [--limits A,B,..] [--pair] [--reorder] [--check]
-//!              [--export PREFIX]
+//!              [--export PREFIX] [--rows FILE]
 //!
 //! It reads and builds the network, cuts it into cells of at most so many vertices, customizes them, and asks for N
 //! random pairs of segments in rounds until the budget is spent, each pair in all ways; it stops where two ways
 //! differ or a walk does not cost what is said. Told are times, sizes and memory. `--pair` has costs of two words,
 //! as the program; else duration and length share one. `--reorder` numbers the vertices by their cells. `--check`
-//! only tells the counts that `check` of the program tells. `--export` writes the pairs to PREFIX.pairs.
+//! only tells the counts that `check` of the program tells. `--export` writes the pairs to PREFIX.pairs. `--rows` customizes
+//! once more, with the same costs, only the cells that hold a segment which a row of that traffic file names (two ids of nodes,
+//! then anything), and tells what that takes; it stops where the cliques differ.
 
 mod crp;
 mod model;
@@ -16,6 +18,7 @@ mod search;
 
 use model::Network;
 use search::{Cost, Graph, Pair, Search};
+use std::collections::HashSet;
 use std::time::Instant;
 
 struct Options {
@@ -27,6 +30,7 @@ struct Options {
     reorder: bool,
     check: bool,
     export: Option<String>,
+    rows: Option<String>,
 }
 
 fn options() -> Options {
@@ -39,6 +43,7 @@ fn options() -> Options {
         reorder: false,
         check: false,
         export: None,
+        rows: None,
     };
     let mut words = std::env::args().skip(1);
     while let Some(w) = words.next() {
@@ -51,12 +56,13 @@ fn options() -> Options {
             "--reorder" => o.reorder = true,
             "--check" => o.check = true,
             "--export" => o.export = Some(value()),
+            "--rows" => o.rows = Some(value()),
             _ => o.files.push(w),
         }
     }
     if o.files.len() != 2 {
         eprintln!(
-            "usage: baseline OPL SETTINGS [--queries N] [--budget SECONDS] [--limits A,B,..] [--pair] [--reorder] [--check] [--export PREFIX]"
+            "usage: baseline OPL SETTINGS [--queries N] [--budget SECONDS] [--limits A,B,..] [--pair] [--reorder] [--check] [--export PREFIX] [--rows FILE]"
         );
         std::process::exit(2);
     }
@@ -157,7 +163,7 @@ impl Clock {
     }
 }
 
-fn run<C: Cost>(net: &Network, o: &Options) {
+fn run<C: Cost>(net: &Network, o: &Options, named: &[u32]) {
     let t = Instant::now();
     let mut g: Graph<C> = graph(net);
     println!("weights: {:.3} s", t.elapsed().as_secs_f64());
@@ -235,6 +241,19 @@ fn run<C: Cost>(net: &Network, o: &Options) {
         megabytes("VmRSS"),
         megabytes("VmHWM")
     );
+    if o.rows.is_some() {
+        let vertices: Vec<u32> = named.iter().map(|v| new[*v as usize]).collect();
+        let touched = crp::touched(&f, &vertices);
+        let t = Instant::now();
+        let again = crp::recustomize(&f, &g, &cliques, &touched);
+        let custom = t.elapsed().as_secs_f64();
+        let cells: Vec<usize> = touched
+            .iter()
+            .map(|c| c.iter().filter(|c| **c).count())
+            .collect();
+        println!("customization of the touched cells: {custom:.4} s, of each level {cells:?}");
+        assert!(again == cliques, "the cliques of touched cells differ");
+    }
 
     // rounds of a few pairs, so that all ways see the same minutes of the machine
     let back = g.reversed();
@@ -380,13 +399,41 @@ fn export<C: Cost>(net: &Network, prefix: &str, pairs: &[(u32, u32)], answers: &
     std::fs::write(format!("{prefix}.pairs"), text).unwrap();
 }
 
+/// The vertices that a row of this traffic file names by their two nodes.
+fn named(net: &Network, ids: &[i64], rows: &str) -> Vec<u32> {
+    let text = std::fs::read_to_string(rows).expect("rows");
+    let of_row = |row: &str| -> (i64, i64) {
+        let mut fields = row.split(',');
+        let mut id = || {
+            fields
+                .next()
+                .expect("a field")
+                .trim()
+                .parse()
+                .expect("an id")
+        };
+        (id(), id())
+    };
+    let rows: HashSet<(i64, i64)> = text.lines().map(of_row).collect();
+    let is_named = |v: &u32| {
+        let v = *v as usize;
+        net.permitted[v] && rows.contains(&(ids[net.tail[v] as usize], ids[net.head[v] as usize]))
+    };
+    (0..net.tail.len() as u32).filter(is_named).collect()
+}
+
 fn main() {
     let o = options();
     let t = Instant::now();
     let text = std::fs::read_to_string(&o.files[0]).expect("OPL");
     let settings = model::settings(&std::fs::read_to_string(&o.files[1]).expect("settings"));
-    let net = model::network(&text, &settings);
+    let (net, ids) = model::network(&text, &settings);
     drop(text);
+    let named = o
+        .rows
+        .as_ref()
+        .map_or(vec![], |rows| named(&net, &ids, rows));
+    drop(ids);
     println!(
         "nodes {} ways {} relations {} segments {} vertices {} turns {} restrictions {} ignored {}",
         net.nodes,
@@ -407,8 +454,8 @@ fn main() {
         megabytes("VmRSS")
     );
     if o.pair {
-        run::<Pair>(&net, &o);
+        run::<Pair>(&net, &o, &named);
     } else {
-        run::<u64>(&net, &o);
+        run::<u64>(&net, &o, &named);
     }
 }

@@ -258,7 +258,8 @@ fn modifier(before: i32, after: i32) -> usize {
     }
 }
 
-pub fn network(text: &str, s: &Settings) -> Network {
+/// The network, and the ids of its nodes.
+pub fn network(text: &str, s: &Settings) -> (Network, Vec<i64>) {
     let mut n_ids: Vec<i64> = vec![];
     let mut at: Vec<Option<(i32, i32)>> = vec![];
     let mut closed: Vec<bool> = vec![];
@@ -513,7 +514,7 @@ pub fn network(text: &str, s: &Settings) -> Network {
         }
         first.push(to.len() as u32);
     }
-    Network {
+    let network = Network {
         nodes: nodes_kept,
         ways: ways_kept,
         relations: relations_kept,
@@ -529,5 +530,6 @@ pub fn network(text: &str, s: &Settings) -> Network {
         first,
         to,
         penalty,
-    }
+    };
+    (network, n_ids)
 }
