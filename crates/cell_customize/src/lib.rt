@@ -18,9 +18,11 @@ mod renamed;
 mod rows;
 mod scratch;
 mod side_by_side;
+mod turns;
 
 pub use customizing::customize;
 pub use pieces::Piece;
 pub use rows::clique;
 pub use scratch::Scratch;
 pub use side_by_side::{PIECES, customize_in_threads, cut, level_of};
+pub use turns::Turns;

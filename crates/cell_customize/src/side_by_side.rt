@@ -9,6 +9,7 @@ ghost use Rattle.cell_customize.specs.Ready.{IsReady};
 
 use crate::pieces::{Piece, cliques_of};
 use crate::scratch::Scratch;
+use crate::turns::Turns;
 use cell_frame::{Cliques, Frame, LevelCliques};
 use search_graph::{Cost, Weights};
 use self_scheduling::{Job, items_in_threads};
@@ -54,6 +55,7 @@ struct LevelPieces<'a, C: Cost> {
     weights: &'a Weights<C>,
     cliques: &'a Cliques<C>,
     level: u32,
+    turns: &'a Turns,
 }
 
 impl<'a, C: Cost + Send + Sync> Job for LevelPieces<'a, C> {
@@ -69,6 +71,10 @@ impl<'a, C: Cost + Send + Sync> Job for LevelPieces<'a, C> {
 
     fn count(&self) -> usize {
         PIECES as usize
+    }
+
+    fn nth(&self, turn: usize) -> usize {
+        self.turns.place(turn)
     }
 
     fn memory(&self, alloc: Global) -> Scratch<C> {
@@ -106,11 +112,13 @@ fn pieces<C: Cost + Send + Sync>(
     requires ready { IsReady C.ops frame.now weights.now cliques.now level }
     ensures { IfOk result (λ made. ArePieces C.ops frame.now weights.now level made.items) }
 {
+    let turns = Turns::of(alloc, frame, level)?;
     let job = LevelPieces {
         frame,
         weights,
         cliques,
         level,
+        turns: &turns,
     };
     items_in_threads(rt, alloc, &job)
 }

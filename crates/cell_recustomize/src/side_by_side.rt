@@ -11,7 +11,7 @@ use crate::counting::entries_of;
 use crate::marking::{Changes, marks_of};
 use crate::pieces::cliques_of;
 use crate::recustomizing::Recustomized;
-use cell_customize::{PIECES, Piece, Scratch, cut, level_of};
+use cell_customize::{PIECES, Piece, Scratch, Turns, cut, level_of};
 use cell_frame::{Cliques, Frame, LevelCliques};
 use search_graph::{Cost, Weights};
 use self_scheduling::{Job, items_in_threads};
@@ -51,6 +51,7 @@ struct LevelPieces<'a, C: Cost> {
     cliques: &'a Cliques<C>,
     marks: &'a [bool],
     level: u32,
+    turns: &'a Turns,
 }
 
 impl<'a, C: Cost + Send + Sync> Job for LevelPieces<'a, C> {
@@ -66,6 +67,10 @@ impl<'a, C: Cost + Send + Sync> Job for LevelPieces<'a, C> {
 
     fn count(&self) -> usize {
         PIECES as usize
+    }
+
+    fn nth(&self, turn: usize) -> usize {
+        self.turns.place(turn)
     }
 
     fn memory(&self, alloc: Global) -> Scratch<C> {
@@ -107,6 +112,7 @@ fn pieces<C: Cost + Send + Sync>(
     requires { IsPrepared C.ops frame.now weights.now old.now cliques.now marks.now level }
     ensures { IfOk result (λ made. ArePieces C.ops frame.now weights.now level made.items) }
 {
+    let turns = Turns::of(alloc, frame, level)?;
     let job = LevelPieces {
         frame,
         weights,
@@ -114,6 +120,7 @@ fn pieces<C: Cost + Send + Sync>(
         cliques,
         marks,
         level,
+        turns: &turns,
     };
     items_in_threads(rt, alloc, &job)
 }

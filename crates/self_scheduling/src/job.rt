@@ -26,6 +26,12 @@ pub trait Job: Sync {
     fn count(&self) -> usize
         ensures { result ≡ count self.now };
 
+    /// The number of the item that is taken when so many others have been. Where it is known which take long these come first, so
+    /// that no thread is at work on one of them when all others have ended. An item that no turn names is made all the same.
+    fn nth(&self, turn: usize) -> usize
+        requires { turn < count self.now }
+        ensures { result < count self.now };
+
     /// Memory for a thread that begins.
     fn memory(&self, alloc: Global) -> Self::Memory;
 

@@ -28,7 +28,7 @@ fn share<J: Job>(
         if taken >= count as u64 {
             break;
         }
-        let number = taken as usize;
+        let number = job.nth(taken as usize);
         let item = job.item(alloc, &mut memory, number)?;
         made.push(Numbered { number, item })?;
     }

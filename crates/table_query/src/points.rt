@@ -53,6 +53,10 @@ impl<'a, 'b, C: Cost + Send + Sync> Job for Points<'a, 'b, C> {
         self.all.len()
     }
 
+    fn nth(&self, turn: usize) -> usize {
+        turn
+    }
+
     fn memory(&self, alloc: Global) -> Search<C> {
         Search::new(alloc)
     }

@@ -112,6 +112,10 @@ impl<'a, 'b, 'c, C: Cost + Send + Sync> Job for Rows<'a, 'b, 'c, C> {
         self.sources.len()
     }
 
+    fn nth(&self, turn: usize) -> usize {
+        turn
+    }
+
     fn memory(&self, alloc: Global) -> Search<C> {
         Search::new(alloc)
     }

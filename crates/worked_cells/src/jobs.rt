@@ -7,11 +7,13 @@ use std::alloc::{AllocError, Global};
 use std::test::Fail;
 use std::thread::Threads;
 
-// The squares of the numbers below a count, but that memory is said to run out at some number.
+// The squares of the numbers below a count, but that memory is said to run out at some number. They are taken from the last to
+// the first, or by turns that name each even number twice and no odd one.
 #[derive(Drop)]
 struct Squares {
     count: u32,
     fails_at: u32,
+    names_even: bool,
 }
 
 impl Job for Squares {
@@ -27,6 +29,14 @@ impl Job for Squares {
 
     fn count(&self) -> usize {
         self.count as usize
+    }
+
+    fn nth(&self, turn: usize) -> usize {
+        if self.names_even {
+            turn / 2 * 2
+        } else {
+            self.count as usize - 1 - turn
+        }
     }
 
     fn memory(&self, alloc: Global) -> u32 {
@@ -60,9 +70,23 @@ fn all_items_of_a_job_come_in_their_order(rt: HostRuntime) -> Result<(), Fail> {
     let job = Squares {
         count: 12,
         fails_at: 12,
+        names_even: false,
     };
     let told = told(&rt, alloc, &job)?;
     assert_eq!(&rt; told.as_str(), "0 1 4 9 16 25 36 49 64 81 100 121 ");
+    Ok(())
+}
+
+#[test]
+fn items_that_no_turn_names_are_made_too(rt: HostRuntime) -> Result<(), Fail> {
+    let alloc = rt.alloc();
+    let job = Squares {
+        count: 7,
+        fails_at: 7,
+        names_even: true,
+    };
+    let told = told(&rt, alloc, &job)?;
+    assert_eq!(&rt; told.as_str(), "0 1 4 9 16 25 36 ");
     Ok(())
 }
 
@@ -72,6 +96,7 @@ fn a_job_without_items_has_none(rt: HostRuntime) -> Result<(), Fail> {
     let job = Squares {
         count: 0,
         fails_at: 0,
+        names_even: false,
     };
     let items = items_in_threads(&rt, alloc, &job)?;
     assert!(&rt; items.is_empty());
@@ -84,6 +109,7 @@ fn want_of_memory_at_one_item_is_told(rt: HostRuntime) -> Result<(), Fail> {
     let job = Squares {
         count: 100,
         fails_at: 57,
+        names_even: false,
     };
     let items = items_in_threads(&rt, alloc, &job);
     assert!(&rt; items.is_err());
